@@ -55,7 +55,7 @@ new_given d e version none fit =
     let both = and_parts (is_fresh d.next_version version) (is_some (fin.get d.chunks d.next_handle) || is_fresh d.next_handle d.next_handle) rest.1 in
     ap (λ (x : Durable). is_given x.next_handle d.next_handle) (sym may.1) ∙ given_raised_itself d.next_handle d.next_handle (sym (ap (λ o. is_some o || is_fresh d.next_handle d.next_handle) none) ∙ both.1)
 
-next_ungiven : (next : ℕ) → is_given next next ≡ false
+pub next_ungiven : (next : ℕ) → is_given next next ≡ false
 next_ungiven next = grind (arith, nat_tests)
 
 abbrev pub is_extending : Move → Bool
@@ -63,10 +63,10 @@ is_extending (Extends req path chunk view) = true
 is_extending move = false
 
 module _ (config : Config) (heard : Heard) (s : State) where
-  makes_given : (targets : List ℕ) (req : ReqId) (path : _) → IsMade config heard s (Makes targets req path) → is_given (move_turn config s (Makes targets req path)).after.durable.next_handle s.durable.next_handle ≡ true
+  pub makes_given : (targets : List ℕ) (req : ReqId) (path : _) → IsMade config heard s (Makes targets req path) → is_given (move_turn config s (Makes targets req path)).after.durable.next_handle s.durable.next_handle ≡ true
   makes_given targets req path made = new_given s.durable (move_turn config s (Makes targets req path)).after.durable s.durable.next_version made.may.0 (one_fits s.durable _ (Propose s.durable.next_handle s.durable.next_version) made.fits)
 
-  copies_given : (old : ℕ) (view : View) (req : ReqId) (beside : Beside) → IsMade config heard s (Copies old view req beside) → is_given (move_turn config s (Copies old view req beside)).after.durable.next_handle s.durable.next_handle ≡ true
+  pub copies_given : (old : ℕ) (view : View) (req : ReqId) (beside : Beside) → IsMade config heard s (Copies old view req beside) → is_given (move_turn config s (Copies old view req beside)).after.durable.next_handle s.durable.next_handle ≡ true
   copies_given old view req Alone made = new_given s.durable _ s.durable.next_version made.may.0.fresh (one_fits s.durable _ (Propose s.durable.next_handle s.durable.next_version) made.fits)
   copies_given old view req (FromNow by waiting) made = new_given s.durable _ s.durable.next_version made.may.0.fresh (one_fits s.durable _ (Propose s.durable.next_handle s.durable.next_version) made.fits)
   copies_given old view req (Further by waiting) made = new_given s.durable _ s.durable.next_version made.may.0.fresh (one_fits s.durable _ (Propose s.durable.next_handle s.durable.next_version) made.fits)

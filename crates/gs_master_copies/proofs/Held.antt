@@ -81,7 +81,7 @@ carry s u (waits.Snapshot from to) k slots unled = tt
 carry s u (waits.Replicate chunk target) k slots unled = tt
 
 -- whose copy it waits for is the one that is asked after
-is_that : (path : Path) (index old new : ℕ) (w : Waiting) → waits_for_copy path index old new w ≡ true → w ≡ waits.Copy path index old new
+pub is_that : (path : Path) (index old new : ℕ) (w : Waiting) → waits_for_copy path index old new w ≡ true → w ≡ waits.Copy path index old new
 is_that path index old new (waits.Copy p i o n) is =
     let one = and_parts (same_path p path) _ is in
     let two = and_parts (i == index) _ one.1 in

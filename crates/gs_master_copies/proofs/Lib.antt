@@ -7,3 +7,5 @@ pub mod Locked
 pub mod Counted
 pub mod Slots
 pub mod Held
+pub mod Made
+pub mod Given

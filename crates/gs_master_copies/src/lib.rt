@@ -3,6 +3,7 @@
 
 ghost use Rattle.gs_master_copies.specs.Bare.{AddedAreBare, BareStays};
 ghost use Rattle.gs_master_copies.specs.Held.{HeldStarts, HeldStays};
+ghost use Rattle.gs_master_copies.specs.Made.{CopiesAreUnmade, UnmadeStays};
 
 /// A new chunk for which a call waits to put it at the end of a file was told to no server as a copy, and nor was one whose handle isn't given: so it stays through each turn. So what a
 /// turn puts at the end of a file is no copy; it was in no file, and is in one behind the turn.
@@ -16,4 +17,11 @@ pub fn a_chunk_that_is_added_is_no_copy()
 pub fn a_place_that_a_call_copies_is_held()
     ensures stays { HeldStays }
     ensures starts { HeldStarts }
+{}
+
+/// A new chunk for which a call waits to put it in the place of another, as a copy of that, is made without edits on no server, and nor is one whose handle isn't given: so it stays through each turn. So what a
+/// turn puts in the place of another chunk was made nowhere; it was in no file, and is in one behind the turn.
+pub fn a_copy_is_created_nowhere()
+    ensures stays { UnmadeStays }
+    ensures puts { CopiesAreUnmade }
 {}
