@@ -8,3 +8,5 @@ pub mod Held
 pub mod Told
 pub mod Put
 pub mod Waited
+pub mod Made
+pub mod Given
