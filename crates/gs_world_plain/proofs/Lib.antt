@@ -15,3 +15,8 @@ mod Unlisted
 mod Fresh
 mod Bare
 mod Holding
+mod Nowhere
+mod Brought
+mod Unmade
+mod Peopled
+mod Told

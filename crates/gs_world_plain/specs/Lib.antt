@@ -4,3 +4,4 @@ pub mod Written
 pub mod Plainly
 pub mod Stepping
 pub mod Fresh
+pub mod Told

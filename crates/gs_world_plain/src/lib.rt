@@ -6,6 +6,7 @@ ghost use Rattle.gs_world_chunks.specs.Running.{Setup};
 ghost use Rattle.gs_world_plain.specs.Fresh.{AddedAreAsMade, NewAreAsMade, PlacesAreHeld};
 ghost use Rattle.gs_world_plain.specs.Plainly.{BeginsPlain, EditsOnePlace, RunsArePlain, StepsArePlain};
 ghost use Rattle.gs_world_plain.specs.Stepping.{CommitsLead, FinalizesLead, GrowingStepsLead, PreparesLead, StepsOfAccountsLead};
+ghost use Rattle.gs_world_plain.specs.Told.{PutWereTold, SettledWereMade, WaitingWereTold};
 
 use gs_block::promises::configurations_have_sizes;
 use gs_server_laws::a_message_edits_a_replica_by_what_it_says;
@@ -56,6 +57,17 @@ pub fn new_chunks_are_as_they_were_made<D>()
 pub fn places_that_are_copied_are_held<D>()
     ensures { (x : Setup D) → PlacesAreHeld x }
 {}
+
+/// Whatever disks of the master fail in a run, a chunk of which a view is settled was made on a server without edits, or a server was told to make it as a copy: a server that was told neither keeps nothing of it, and
+/// promises nothing. One that a call is to put in the place of another is made nowhere; so once a view of it is settled it was told to be a copy, and so was each that a step puts in the place of another, before that step.
+pub fn copies_were_told_to_be_such<D>()
+    ensures settled { (x : Setup D) → SettledWereMade x }
+    ensures waiting { (x : Setup D) → WaitingWereTold x }
+    ensures put { (x : Setup D) → PutWereTold x }
+{
+    configurations_have_sizes();
+    a_message_edits_a_replica_by_what_it_says();
+}
 
 /// A new store shows the machine that has done nothing. In a run in which no disk fails each step is commands of the plain machine, by its records and by the edits that are settled at it, wherever a copy that is put in
 /// the place of another chunk at that step has the text of that (a chunk that is put at the end of a file has none, which is no premise). So is each run of such steps, and commands lead from what was shown to what is.
