@@ -5,3 +5,6 @@ pub mod Plainly
 pub mod Stepping
 pub mod Fresh
 pub mod Over
+pub mod Told
+pub mod Ends
+pub mod Back
