@@ -101,11 +101,10 @@ module _ (sizes : HaveSizes) (law : AreNumbered) {D : Type 0} (x : Setup D) (qui
   runs_write_none [] old new a b r over runs = tt
   runs_write_none (step ∷ steps) old new a b r over (mid, c, one, rest) =
       let given = r.begins.given in
-      let sound = reached_sound x quiet old a r in
-      (
+      let sound = reached_sound x quiet old a r in (
         writes_none step old mid a c r one over (writes x given step old mid one.steps.goes (named x step old one.steps.within sound.types) sound.lasts (one.steps.sound quiet)),
         runs_write_none steps mid new c b (reach_more x old mid a c (step ∷ []) r (mid, c, one, (refl, refl)))
-        (holds_on x quiet (IsOverAt x req) given (over_does x req given) step old mid sound.lasts sound.types one.steps over) rest,
+            (holds_on x quiet (IsOverAt x req) given (over_does x req given) step old mid sound.lasts sound.types one.steps over) rest,
       )
 
   pub over_makes_no_edits : (old new : History D) (a b : Account) (steps : List Step) (m : _) → IsReached x old a → old.nodes.master ≡ Standing m → IsOver m.state.durable m.state.volatile req → was_told m.state.durable req ≡ true
