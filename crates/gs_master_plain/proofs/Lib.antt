@@ -8,3 +8,4 @@ pub mod Placed
 pub mod Steps
 mod Raised
 pub mod Answering
+mod Doing

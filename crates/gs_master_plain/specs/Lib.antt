@@ -6,3 +6,4 @@ pub mod OnePlace
 pub mod Places
 pub mod Steps
 pub mod Answering
+pub mod Doing

@@ -3,6 +3,7 @@
 #![tactic(auto)]
 
 ghost use Rattle.gs_master_plain.specs.Answering.{NewCallsAnswerPlainly};
+ghost use Rattle.gs_master_plain.specs.Doing.{NewCallsDoAsAnswered};
 ghost use Rattle.gs_master_plain.specs.Edits.{EditsAreCommands};
 ghost use Rattle.gs_master_plain.specs.OnePlace.{EditsOfAPlaceAreCommands, OneEditIsACommand};
 ghost use Rattle.gs_master_plain.specs.Places.{EachPlaceHasItsEdits, EditsOfPlacesAreCommands, NothingElse};
@@ -50,4 +51,10 @@ pub fn settled_edits_and_records_are_commands()
 /// knows nothing. A snapshot does where nothing of its source has to become quiet first.
 pub fn calls_of_the_tree_are_answered_plainly()
     ensures { NewCallsAnswerPlainly }
+{}
+
+/// What a new call of the tree records goes with its answer: where it is accepted its records say the command that the call is, and no other; where it is refused, and where nothing stood that was to be
+/// deleted, they say none. A snapshot does where nothing of its source has to become quiet first.
+pub fn calls_of_the_tree_do_what_they_answer()
+    ensures { NewCallsDoAsAnswered }
 {}
