@@ -20,7 +20,7 @@ use Rattle.gs_master_record.specs.declared.entry.Answered.{Answered}
 use Rattle.gs_master_spec.specs.Applied.{after_edit, after_undoing, applied, are_answers, are_at_rest, held_by, is_next_epoch, may_be_settled, may_edit, may_propose, proposed, rolled_back, with_edit, with_epoch, with_reply, with_view, without_prepared, view_for, chunk_of_edit, with_answer}
 use Rattle.gs_master_spec.specs.Chunks.{holder_records, is_holder, target_of}
 use Rattle.gs_master_spec.specs.Durable.{Durable, is_ordinary, is_rolling, is_upgrade, prepared_view, with_prepared}
-use Rattle.gs_master_spec.specs.Handling.{unlisted}
+use Rattle.gs_master_spec.specs.Handling.{call_turn, unlisted}
 use Rattle.gs_master_spec.specs.Replies.{answer_to, client_cmp, is_later, later}
 use Rattle.gs_master_spec.specs.Settling.{own_request}
 use Rattle.gs_master_spec.specs.State.{State, Turn, answer_changes, end_changes, fits, is_kept, keeps_refusal, kept_in_memory, last_reply, said_changes, said_records}
@@ -33,7 +33,11 @@ use Rattle.gs_master_spec.specs.declared.change.Change.TheVariants as changes
 use Rattle.gs_master_spec.specs.declared.pending.Pending.{Pending}
 use Rattle.gs_master_spec.specs.declared.reply.KeptReply.{KeptReply}
 use Rattle.gs_master_laws.proofs.Beginnings.{fits_gives}
-use Rattle.gs_master_laws.proofs.Standing.{StaysAnswered, changed_more, kept_answers, same_parts, told_answers}
+use Rattle.gs_base.specs.declared.numbers.Moment.{Moment}
+use Rattle.gs_msg.specs.declared.call.Call.{Call}
+use Rattle.gs_master_laws.proofs.Refusing.{refused_leaves_all}
+use Rattle.gs_master_laws.specs.Promises.{with_kept, with_said}
+use Rattle.gs_master_laws.proofs.Standing.{StaysAnswered, changed_more, kept_answers, now_answered, same_parts, told_answers}
 use Rattle.gs_master_laws.proofs.StandingRuns.{events_fit}
 use Rattle.gs_master_laws.specs.Standing.{Comes, Event, IsFirm, IsNamed, IsOver, Renews, Restarts, Ticks, run_of, turn_of, was_answered}
 use Rattle.gs_master_moves.proofs.Called.{move_waits}
@@ -43,7 +47,7 @@ use Rattle.gs_master_moves.proofs.Stands.{plain, plain_records}
 use Rattle.gs_master_moves.specs.Guards.{Heard, IsCalled, IsMade}
 use Rattle.gs_master_moves.specs.Laws.{heard_in, met_in}
 use Rattle.gs_master_moves.specs.Moves.{Alone, Chain, FromNow, Further, Move, Moves, Rests, Then, Begins, Makes, Copies, Hears, Sends, Settles, Edits, Extends, CopiesTree, Replaces, Scans, Refuses, Answers as AnswersCall, Waits, Restores, Says, Flags, Prepares, Finalizes, BeginsRollback, TellsRollback, CommitsRollback, Checkpoints, move_turn}
-use Rattle.gs_master_moves.specs.Over.{IsOverBy, OverMakesNoEdit, OverMakesNoEditLater, is_restart, tells_edit_of, was_told}
+use Rattle.gs_master_moves.specs.Over.{IsOverBy, OverMakesNoEdit, OverMakesNoEditLater, RefusedAreTold, is_restart, tells_edit_of, was_told}
 
 -- ---- what was answered stays so, over what becomes durable
 
@@ -391,3 +395,24 @@ module _ (config : Config) (req : ReqId) where
 
 pub over_makes_no_edit_later : OverMakesNoEditLater
 over_makes_no_edit_later config s events req named firm over may = run_over config req events s named firm over may
+
+-- ---- a refusal that is recorded
+
+pub refused_are_told : RefusedAreTold
+refused_are_told config s req moment call refusal some recorded = by_left (refused_leaves_all config s req moment call refusal some).left
+  where
+    t : Turn
+    t = call_turn config s req moment call
+
+    none : (call_turn config s req moment call).records ≡ [] → ⊥
+    none empty = false≢true (ap is_some_record (sym empty ∙ recorded))
+      where
+        is_some_record : List PlainEntry → Bool
+        is_some_record [] = false
+        is_some_record (entry ∷ entries) = true
+
+    by_left : (((call_turn config s req moment call).after ≡ s) × ((call_turn config s req moment call).records ≡ [])) ⊎ ((((call_turn config s req moment call).after ≡ with_said s req refusal) × ((call_turn config s req moment call).records ≡ Said req refusal ∷ []))
+        ⊎ (((call_turn config s req moment call).after ≡ with_kept s req refusal) × ((call_turn config s req moment call).records ≡ []))) → was_told (call_turn config s req moment call).after.durable req ≡ true
+    by_left (inl same) = absurd (none same.1)
+    by_left (inr (inl said)) = subst (λ (x : State). was_told x.durable req ≡ true) (sym said.0) (sym (told_is (with_said s req refusal).durable [] req) ∙ now_answered s.durable (behind_restart []) req (Err refusal))
+    by_left (inr (inr kept)) = absurd (none kept.1)

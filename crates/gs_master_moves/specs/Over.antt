@@ -1,13 +1,17 @@
 -- A request that is over makes no edit any more.
-use Rattle.std.specs.Prelude.{◌&&◌, ◌≡◌, ◌⊎◌, Bool, List, Some, false, not, refl, true}
+use Rattle.std.specs.Prelude.{[], ◌∷◌, ◌&&◌, ◌≡◌, ◌⊎◌, Bool, List, Some, false, not, refl, true}
 use Rattle.std.specs.FinMap as fin
 use Rattle.std.specs.List.{AllByRecursion, list_any}
 use Rattle.gs_base.specs.declared.config.Config.{Config}
+use Rattle.gs_base.specs.declared.numbers.Moment.{Moment}
 use Rattle.gs_base.specs.declared.numbers.ReqId.{ReqId}
+use Rattle.gs_base.specs.declared.refusal.Refusal.{Refusal}
+use Rattle.gs_msg.specs.declared.call.Call.{Call}
+use Rattle.gs_master_spec.specs.Handling.{call_turn}
 use Rattle.gs_path.specs.Path.{Path}
 use Rattle.gs_master_laws.specs.Standing.{Event, IsFirm, IsNamed, IsOver, Restarts, run_of, turn_of}
 use Rattle.gs_master_moves.specs.Laws.{met_in}
-use Rattle.gs_master_record.specs.Plain.{Cow, Create, Edited, Finalize, PlainEntry}
+use Rattle.gs_master_record.specs.Plain.{Cow, Create, Edited, Finalize, PlainEntry, Said}
 use Rattle.gs_master_spec.specs.Durable.{Durable}
 use Rattle.gs_master_spec.specs.Replies.{is_later}
 use Rattle.gs_master_spec.specs.Settling.{own_request}
@@ -40,6 +44,11 @@ is_restart event = false
 abbrev pub OverMakesNoEditLater : Type 0
 OverMakesNoEditLater = (config : Config) (s : State) (events : List Event) (req : ReqId) → AllByRecursion IsNamed events → IsFirm s → IsOver s.durable s.volatile req → (list_any is_restart events ≡ false) ⊎ (was_told s.durable req ≡ true) →
     IsOverBy req s (run_of config s events)
+
+-- A refusal that leaves its record has been told so, and its call is over then.
+abbrev pub RefusedAreTold : Type 0
+RefusedAreTold = (config : Config) (s : State) (req : ReqId) (moment : Moment) (call : Call) (refusal : Refusal) → (call_turn config s req moment call).said ≡ Some refusal →
+    (call_turn config s req moment call).records ≡ Said req refusal ∷ [] → was_told (call_turn config s req moment call).after.durable req ≡ true
 
 -- ---- examples
 

@@ -9,7 +9,7 @@ ghost use Rattle.gs_master_moves.specs.Guards.{Heard, IsMade};
 ghost use Rattle.gs_master_moves.specs.Laws.{ChainsStand, CutsAreBeginnings, CutsStand, EventsAreChains, EventsStand, TicksAreChains};
 ghost use Rattle.gs_master_moves.specs.Locations.{KeptWereLocated, LocatedAreRight, SentWereLocated};
 ghost use Rattle.gs_master_moves.specs.Moved.{EachMoveAwaits, EachMovedSo, KnownAreSought, PreparesQuiet, StartsAwaited, StaysAwaited};
-ghost use Rattle.gs_master_moves.specs.Over.{OverMakesNoEdit, OverMakesNoEditLater};
+ghost use Rattle.gs_master_moves.specs.Over.{OverMakesNoEdit, OverMakesNoEditLater, RefusedAreTold};
 ghost use Rattle.gs_master_moves.specs.Places.{EditsSpare};
 ghost use Rattle.gs_master_moves.specs.Rows.{CopiesAreListed, CopiesAreNew, EachRowGoes, EpochsLeave, ListedStay, NewAreUnled, RowsGoOver};
 ghost use Rattle.gs_master_moves.specs.Shared.{EachMoveSharesSo, StartsSharedSo, StaysSharedSo};
@@ -129,4 +129,5 @@ pub fn a_location_answers_a_call()
 pub fn a_request_that_is_over_makes_no_edit()
     ensures event { OverMakesNoEdit }
     ensures later { OverMakesNoEditLater }
+    ensures told { RefusedAreTold }
 {}
