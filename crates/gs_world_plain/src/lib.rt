@@ -1,7 +1,9 @@
-//! A run of a store in which no disk fails is a run of the plain machine: what a store shows is a tree of texts, and while an upgrade stands the tree of its prepare; each step is commands that lead from what was
-//! shown to what is. So an upgrade that is rolled back leads back to what was shown right behind its prepare.
+//! A run of a store in which no disk fails, all that is asked is within its types, and different blocks have different digests, is a run of the plain machine: what a store shows is a tree of texts, those that are settled
+//! by the account of the run, and while an upgrade stands the tree of its prepare; each step is commands that lead from what was shown to what is. So an upgrade that is rolled back leads back to what was shown right
+//! behind its prepare, and replicas of members have those texts.
 #![tactic(auto)]
 
+ghost use Rattle.gs_world_chunks.specs.Back.{GivesReplicasBack, NoOtherText};
 ghost use Rattle.gs_world_chunks.specs.Running.{Setup};
 ghost use Rattle.gs_world_plain.specs.Back.{RollbacksGoBackPlainly};
 ghost use Rattle.gs_world_plain.specs.Fresh.{AddedAreAsMade, CopiesAreOfPlaces, NewAreAsMade, PlacesAreHeld};
@@ -34,7 +36,7 @@ pub fn each_end_of_an_upgrade_leads()
     ensures commits { CommitsLead }
 {}
 
-/// At each step of a run edits are settled only of chunks that stand at one place of the tree: so no other text changes with one.
+/// At each step of a run edits are settled of no chunk that stands at more than one place of the tree: so no other text changes with one.
 pub fn edits_come_to_one_place_each<D>()
     ensures { (x : Setup D) → EditsOnePlace x }
 {
@@ -54,13 +56,13 @@ pub fn new_chunks_are_as_they_were_made<D>()
     a_message_edits_a_replica_by_what_it_says();
 }
 
-/// A call that waits to copy a chunk at a place of a file, or for that copy, holds the place in each world of a run: no other call that waits is about that file, and nobody may write the chunk until the
-/// copy has come there.
+/// A call that waits to copy a chunk at a place of a file, or for that copy, holds the place in each world of a run: no other call waits so at that file; and while one waits for its copy, nobody may write the chunk until
+/// the copy has come there.
 pub fn places_that_are_copied_are_held<D>()
     ensures { (x : Setup D) → PlacesAreHeld x }
 {}
 
-/// Whatever disks of the master fail in a run, a chunk of which a view is settled was made on a server without edits, or a server was told to make it as a copy: a server that was told neither keeps nothing of it, and
+/// Whatever disks of the master fail in a run, for a chunk of which a view is settled a message was sent that makes it on a server without edits, or as a copy: a server that was told neither keeps nothing of it, and
 /// promises nothing. One that a call is to put in the place of another is made nowhere; so once a view of it is settled it was told to be a copy, and so was each that a step puts in the place of another, before that step.
 pub fn copies_were_told_to_be_such<D>()
     ensures settled { (x : Setup D) → SettledWereMade x }
@@ -71,7 +73,7 @@ pub fn copies_were_told_to_be_such<D>()
     a_message_edits_a_replica_by_what_it_says();
 }
 
-/// A call that waits for a copy, which was told to a server, waits for one of the chunk whose place the copy is to take; and as long as that stands there, all that is settled of it is what is copied.
+/// Where a call waits for a copy that was told to a server, and the chunk whose place it is to take stands there still, it is a copy of that chunk; and all that is settled of the chunk is what is copied.
 pub fn copies_are_of_what_stands_at_their_places<D>()
     ensures { (x : Setup D) → CopiesAreOfPlaces x }
 {
@@ -93,9 +95,12 @@ pub fn a_run_is_a_run_of_the_plain_machine<D>()
 }
 
 /// A rollback that is done leads back to the last prepare that was accepted. Right behind that the tree that stood was kept; from there on the run is commands that edit names and texts alone, so it is kept still; and
-/// behind the rollback it stands, with the text of each file, and none is kept.
+/// behind the rollback it stands, with the text of each file, and none is kept. These are the texts by the account of the run; and each member of a chunk's view behind the rollback that would have named the chunk on the
+/// way, and of which nothing was lost or damaged since, has just that text, live; and none that is sound has another, then or later, until its server makes a greater promise.
 pub fn a_rollback_shows_what_its_prepare_showed<D>()
-    ensures { (x : Setup D) → RollbacksGoBackPlainly x }
+    ensures shown { (x : Setup D) → RollbacksGoBackPlainly x }
+    ensures replicas { (x : Setup D) → GivesReplicasBack x }
+    ensures text { (x : Setup D) → NoOtherText x }
 {
     configurations_have_sizes();
     a_message_edits_a_replica_by_what_it_says();
