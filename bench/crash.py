@@ -86,52 +86,67 @@ def answers_of(program, words, lines):
     return run.stdout.decode().splitlines()
 
 
-def feed(pipe, lines, chance, is_over):
-    """Writes lines in parts of random lengths, with waits between, until the reader is gone."""
-    text, at = text_of(lines), 0
+class Answered:
+    """How many lines a program has answered so far, and whether it is gone."""
+
+    def __init__(self):
+        self.lines = 0
+        self.is_over = threading.Event()
+
+
+def feed(pipe, lines, chance, answered):
+    """Writes lines in parts of random lengths, with waits between, not too far before their answers, until the reader is gone."""
+    text, at, sent = text_of(lines), 0, 0
+    ahead = chance.choice((1, 4, 20, 100, LINES))
     try:
         while at < len(text):
-            count = chance.choice((1, 5, 20, 100, 400))
-            pipe.write(text[at : at + count])
+            part = text[at : at + chance.choice((1, 5, 20, 100, 400))]
+            pipe.write(part)
             pipe.flush()
-            at += count
+            at += len(part)
+            sent += part.count(b"\n")
             time.sleep(chance.choice((0, 0, 0.0005, 0.003)))
+            while sent - answered.lines > ahead and not answered.is_over.is_set():
+                time.sleep(0.0002)
         # The end of the input would end the run by itself.
-        is_over.wait()
+        answered.is_over.wait()
     except OSError:
         pass
 
 
-def heard(run, said, most):
+def heard(run, said, answered, most):
     """Reads what a program answers, to its end, and kills it once it has answered so many lines."""
-    seen = 0
     while part := os.read(run.stdout.fileno(), PIPE_BYTES):
         said.append(part)
-        seen += part.count(b"\n")
-        if seen >= most:
+        answered.lines += part.count(b"\n")
+        if answered.lines >= most:
             run.kill()
 
 
-def killed(program, path, lines, chance):
-    """Starts the program on lines, and kills it at a moment or behind some answers. Answers what it answered in whole lines."""
-    run = subprocess.Popen([program, path, *SIZES], stdin=subprocess.PIPE, stdout=subprocess.PIPE, stderr=subprocess.DEVNULL)
-    is_over = threading.Event()
-    by_count = chance.random() < 0.75
-    most = chance.randint(1, len(lines)) if by_count and lines else len(lines) + 1
-    feeder = threading.Thread(target=feed, args=(run.stdin, lines, random.Random(chance.random()), is_over))
-    said = []
-    reader = threading.Thread(target=heard, args=(run, said, most))
+def talked(run, lines, chance, most, seconds=None):
+    """Gives a program lines, kills it behind that many answers or seconds, and gives what it answered in whole lines, once it has ended."""
+    said, answered = [], Answered()
+    feeder = threading.Thread(target=feed, args=(run.stdin, lines, random.Random(chance.random()), answered))
+    reader = threading.Thread(target=heard, args=(run, said, answered, most))
     feeder.start()
     reader.start()
-    if most > len(lines):
-        time.sleep(chance.random() * MOST_SECONDS)
+    if seconds is not None:
+        time.sleep(seconds)
         run.kill()
-    run.wait()
-    is_over.set()
     reader.join()
+    run.wait()
+    answered.is_over.set()
     feeder.join()
     text = b"".join(said).decode()
     return text[: text.rfind("\n") + 1].splitlines()
+
+
+def killed(program, path, lines, chance):
+    """Starts the program on lines, and kills it at a moment or behind some answers. Gives what it answered."""
+    run = subprocess.Popen([program, path, *SIZES], stdin=subprocess.PIPE, stdout=subprocess.PIPE, stderr=subprocess.DEVNULL)
+    if lines and chance.random() < 0.75:
+        return talked(run, lines, chance, chance.randint(1, len(lines)))
+    return talked(run, lines, chance, LINES + 1, chance.random() * MOST_SECONDS)
 
 
 def logged(path):
@@ -205,16 +220,11 @@ def limited(program, plain_program, path, chance):
         signal.signal(signal.SIGXFSZ, signal.SIG_IGN)
         resource.setrlimit(resource.RLIMIT_FSIZE, (most, most))
 
-    run = subprocess.Popen(
-        [program, path, *SIZES], stdin=subprocess.PIPE, stdout=subprocess.PIPE, stderr=subprocess.PIPE, preexec_fn=limit
-    )
-    is_over = threading.Event()
-    feeder = threading.Thread(target=feed, args=(run.stdin, lines, random.Random(chance.random()), is_over))
-    feeder.start()
-    told, said = run.stdout.read().decode().splitlines(), run.stderr.read().decode()
-    status = run.wait()
-    is_over.set()
-    feeder.join()
+    with tempfile.TemporaryFile() as errors:
+        run = subprocess.Popen([program, path, *SIZES], stdin=subprocess.PIPE, stdout=subprocess.PIPE, stderr=errors, preexec_fn=limit)
+        told = talked(run, lines, chance, LINES + 1)
+        errors.seek(0)
+        status, said = run.returncode, errors.read().decode()
     stood = len(logged(path)[0])
     if status != 1 or "it can't be written" not in said:
         return f"a write fails, and the status is {status}: {said}", stood
@@ -406,7 +416,36 @@ def speed_lines(count):
     return [f"create /{number // 1_000}/{number}" if number % 1_000 else f"mkdir /{number // 1_000}" for number in range(count)]
 
 
-def speed(program, plain_program, folder, count, again):
+def timed(words, given=os.devnull):
+    """Runs a program, and tells the seconds that it took, by the clock and of the processor."""
+    with open(given, "rb") as stdin:
+        begun = time.monotonic()
+        run = subprocess.Popen(words, stdin=stdin, stdout=subprocess.DEVNULL, stderr=subprocess.DEVNULL)
+        _, status, used = os.wait4(run.pid, 0)
+    if status:
+        raise SystemExit(f"{words[0]} ended with status {status}")
+    return time.monotonic() - begun, used.ru_utime + used.ru_stime
+
+
+def run_again(program, plain_program, folder, count, times):
+    """A log of so many lines is run again, and its lines are answered by the plain program, by turns."""
+    path, script, lines = os.path.join(folder, "again"), os.path.join(folder, "script"), speed_lines(count)
+    timed([program, path])
+    for name, how in ((path, "ab"), (script, "wb")):
+        with open(name, how) as file:
+            file.write(text_of(lines))
+    kept, plain = [], []
+    for _ in range(times):
+        kept.append(timed([program, path]))
+        plain.append(timed([plain_program], script))
+    print(f"\n{count:,} lines are run again, and answered by chunkstore, by turns; seconds by the clock, and of the processor:")
+    for name, taken in (("chunkkeep", kept), ("chunkstore", plain)):
+        clock, used = min(taken)[0], min(cpu for _, cpu in taken)
+        each = ", ".join(f"{clock:.2f} ({cpu:.2f})" for clock, cpu in taken)
+        print(f"{name}: {each}; least {clock:.2f} ({used:.2f}), {count / clock:,.0f} lines a second")
+
+
+def speed(program, plain_program, folder, count):
     print("| lines that come together | chunkkeep | chunkstore | write and fdatasync alone |\n|---|---|---|---|")
     for batch in (1, 64, 4096):
         lines = speed_lines(max(min(count, batch * 2_000), 2_000))
@@ -415,21 +454,6 @@ def speed(program, plain_program, folder, count, again):
         plain = rate_of([plain_program], batches)
         bare = bare_rate(os.path.join(folder, f"bare-{batch}"), batches)
         print(f"| {batch} | {kept:,.0f} | {plain:,.0f} | {bare:,.0f} |", flush=True)
-    path, lines = os.path.join(folder, "again"), speed_lines(again)
-    subprocess.run([program, path], stdin=subprocess.DEVNULL, stderr=subprocess.DEVNULL, check=True)
-    with open(path, "ab") as file:
-        file.write(text_of(lines))
-    script = os.path.join(folder, "script")
-    with open(script, "wb") as file:
-        file.write(text_of(lines))
-    begun = time.monotonic()
-    subprocess.run([program, path], stdin=subprocess.DEVNULL, stderr=subprocess.DEVNULL, check=True)
-    kept = time.monotonic() - begun
-    begun = time.monotonic()
-    with open(script, "rb") as file:
-        subprocess.run([plain_program], stdin=file, stdout=subprocess.DEVNULL, check=True)
-    plain = time.monotonic() - begun
-    print(f"\n{again:,} lines are run again in {kept:.2f} s ({again / kept:,.0f} a second); chunkstore answers them in {plain:.2f} s ({again / plain:,.0f} a second)")
 
 
 def built(name):
@@ -448,12 +472,14 @@ def main():
     words.add_argument("--plain")
     words.add_argument("--folder", help="where the files stand; it should be on a disk")
     words.add_argument("--speed", type=int, nargs="?", const=200_000)
-    words.add_argument("--again", type=int, default=1_000_000)
+    words.add_argument("--again", type=int, default=1_000_000, help="the lines of a log that is run again")
+    words.add_argument("--times", type=int, default=5, help="how often it is, by turns with chunkstore")
     asked = words.parse_args()
     programs = (asked.program or built("chunkkeep"), asked.plain or built("chunkstore"))
     folder = tempfile.mkdtemp(prefix="chunkkeep-", dir=asked.folder)
     if asked.speed:
-        speed(*programs, folder, asked.speed, asked.again)
+        speed(*programs, folder, asked.speed)
+        run_again(*programs, folder, asked.again, asked.times)
         return 0
     passed = tried("run", crash, asked.runs, programs, folder, asked.seed)
     passed += tried("cut", cut, asked.cuts, programs, folder, asked.seed)

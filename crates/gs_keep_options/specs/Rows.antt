@@ -1,11 +1,11 @@
 -- Command lines, and what they ask for.
-use Rattle.std.specs.Prelude.{◌≡◌, ◌∷◌, ℕ, Option, [], codes, Some, None, refl}
+use Rattle.std.specs.Prelude.{◌≡◌, ◌∷◌, [], codes, Some, None, refl}
 use Rattle.std.specs.Char.{encode_utf8}
 use Rattle.std.specs.Str.{chars}
 use Rattle.clap.specs.Faults.{defaults_fault, flags_fault, walk_fault}
 use Rattle.clap.specs.Takes.{flags_pass, walk_passes}
 use Rattle.clap.specs.Walk.{bundle_met, walked}
-use Rattle.gs_keep_options.specs.Words.{Asks, app, words_asked}
+use Rattle.gs_keep_options.specs.Words.{app, words_asked}
 
 none_given : words_asked (codes "chunkkeep" ∷ codes "kept" ∷ [])
     ≡ Some (record { path = codes "kept"; sizes = record { servers = None; racks = None; replicas = None; chunk = None; block = None } })

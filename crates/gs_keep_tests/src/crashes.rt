@@ -17,8 +17,7 @@ struct Told<'a> {
 }
 
 const SHORT: Told<'static> = Told {
-    script:
-        b"mkdir /a\ncreate /a/f\nappend /a/f 6162\nrollingUpgrade prepare\nappend /a/f 63\nread /a/f 0 9\nrollingUpgrade rollback\nread /a/f 0 9\n",
+    script: b"mkdir /a\ncreate /a/f\nappend /a/f 6162\nrollingUpgrade prepare\nappend /a/f 63\nread /a/f 0 9\nrollingUpgrade rollback\nread /a/f 0 9\n",
     answers: b"ok\nok\nok 0\nok 1\nok 2\nok 616263\nok 2\nok 6162\n",
 };
 
@@ -142,7 +141,10 @@ fn each_crash_is_gone_on_from(rt: HostRuntime) -> Result<(), Fail> {
     let lines = lines_in(SHORT.answers);
     for (most, calls) in [(8, 17), (40, 9), (1_000, 3)] {
         assert_eq!(rt; answered_behind(rt.alloc(), most, calls)?, lines, "{most}");
-        assert!(rt; answered_behind(rt.alloc(), most, calls - 1)? < lines, "{most}");
+        assert!(rt;
+            answered_behind(rt.alloc(), most, calls - 1)? < lines,
+            "{most}"
+        );
         for calls in 0..calls {
             for count in [0, 7, usize::MAX] {
                 let fault = Fault { calls, count };
@@ -157,17 +159,19 @@ fn each_crash_is_gone_on_from(rt: HostRuntime) -> Result<(), Fail> {
     Ok(())
 }
 
-/// A line of a long script: files of a directory, some of which get bytes, are read or moved, and upgrades that are rolled back.
+/// A line of a long script: files of a directory, some of which get bytes, are read or moved, upgrades that are rolled back, and
+/// between them moments, which cost least.
 fn long_line(alloc: Global, number: u64) -> Result<String, AllocError> {
-    let file = number / 10 * 10 + 1;
-    match (number % 2_500, number % 10) {
+    let file = number / 100 * 100 + 11;
+    match (number % 2_500, number % 100) {
         (0, _) => format!(in alloc; "mkdir /a\n"),
         (1_000, _) => format!(in alloc; "rollingUpgrade prepare\n"),
         (2_000, _) => format!(in alloc; "rollingUpgrade rollback\n"),
-        (_, 3) => format!(in alloc; "append /a/{file} 6162\n"),
-        (_, 5) => format!(in alloc; "read /a/{file} 0 9\n"),
-        (_, 7) => format!(in alloc; "mv /a/{file} /a/m{file}\n"),
-        _ => format!(in alloc; "create /a/{number}\n"),
+        (_, 11 | 31 | 51) => format!(in alloc; "create /a/{number}\n"),
+        (_, 13) => format!(in alloc; "append /a/{file} 6162\n"),
+        (_, 15) => format!(in alloc; "read /a/{file} 0 9\n"),
+        (_, 17) => format!(in alloc; "mv /a/{file} /a/m{file}\n"),
+        _ => format!(in alloc; "at {number}\n"),
     }
 }
 
