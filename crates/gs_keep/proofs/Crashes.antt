@@ -1,14 +1,14 @@
 -- What a crash leaves of a log, cut at its last line's end.
-use Rattle.std.proofs.Common.{◌≡◌, ◌<◌, ◌≤◌, ◌+◌, ◌-◌, ◌++◌, ◌∷◌, ◌⊎◌, ◌&&◌, ◌||◌, ◌==◌, ⊎_elim, [], ℕ, List, Bool, true, false, true≢false, cond, eqb, nat_le, length, take, drop, get_or, Option, IfSome, refl, sym, ap, subst, ◌∙◌, arith, append_assoc, append-nil, length-append, inl, inr, leb-true, leb-false}
-use Rattle.std.proofs.lemmas.List.{take-append-le}
+use Rattle.std.proofs.Common.{◌≡◌, ◌<◌, ◌≤◌, ◌+◌, ◌-◌, ◌++◌, ◌∷◌, ◌⊎◌, ◌&&◌, ◌||◌, ◌==◌, ⊎_elim, [], ℕ, List, Bool, true, false, true≢false, cond, eqb, nat_le, length, take, drop, get_or, Option, Some, None, IfSome, refl, sym, ap, subst, ◌∙◌, arith, append_assoc, append-nil, length-append, inl, inr, leb-true, leb-false}
+use Rattle.std.proofs.lemmas.List.{take-append-drop, take-append-le}
 use Rattle.std.proofs.Math.Seq.{take-append-add, take-length, take-nil}
 use Rattle.std.specs.List.{AllByRecursion, list_any}
 use Rattle.std.specs.Io.BufRead.{ends_with_byte}
 use Rattle.gs_shell_line.specs.Line.{content, longest_line}
-use Rattle.gs_keep_log.specs.Log.{Held, MayLeave}
+use Rattle.gs_keep_log.specs.Log.{Held, MayLeave, whole}
 use Rattle.gs_shell_script.specs.Run.{Runs, lines_of}
 use Rattle.gs_keep.specs.Gathering.{lines_asked}
-use Rattle.gs_keep.specs.Keeping.{GoesOn, StandsFor}
+use Rattle.gs_keep.specs.Keeping.{GoesOn, LeavesFront, LeavesScript, ReadsLog, StandsFor}
 use Rattle.gs_keep.specs.Lines.{Asked, MayLog, is_logged, kept_text, log_of}
 use Rattle.gs_keep.specs.Replaying.{AllLogged, EndsLine, WholeLines}
 use Rattle.gs_keep.specs.Serving.{AnswersAll, Fails, Kept, Leaves, at_rest}
@@ -18,6 +18,7 @@ use Rattle.gs_keep.proofs.Asking.{all_front}
 use Rattle.gs_keep.proofs.Gathering.{lines_join as asked_join}
 use Rattle.gs_keep.proofs.Logs.{kept_none}
 use Rattle.gs_keep.proofs.Replaying.{all_join, runs_join}
+use Rattle.gs_keep.proofs.Weaken.{if_some}
 use Rattle.gs_keep.proofs.Standing.{AreLines, IsInLine, IsOneLine, all_again, content_in_line, content_kept, ends_join, in_line_join, in_line_take, kept_line, lines_front, lines_join, return_first}
 
 -- ---- whole lines, and what stands behind them
@@ -156,6 +157,26 @@ kept_leaves old new a b kept all is =
       left.1 ∙ ap (λ (l : List ℕ). text ++ l) (take-nil left.0) ∙ append-nil text ∙ ap (λ (l : List ℕ). all ++ (a ++ l)) (sym (take-length b)),
     ) in
     subst (λ (o : Option Held). IfSome o (λ h. (c : List ℕ) → MayLeave h c → (count : ℕ) × (c ≡ all ++ (a ++ take count b)))) (sym (kept all is)) leaves
+
+-- what is cut in part
+pub cut_leaves : (len : ℕ) (script : List ℕ) (old new : Option Held) → ReadsLog len old (Some script) → LeavesFront len old new → LeavesScript len script old new
+cut_leaves len script None new reads leaves = tt
+cut_leaves len script (Some h) new (head, is) leaves = if_some new _ _ (λ k left durable ended none. (head, is, λ c may. let (count, most, e) = left c may in one c count durable ended none most e)) leaves
+  where
+    one : (c : List ℕ) (count : ℕ) → h.pending ≡ [] → EndsLine script → list_any (λ x. x == 10) (drop len (whole h)) ≡ false → length (take len h.durable) ≤ count → c ≡ take count (whole h)
+        → (behind : List ℕ) × (c ≡ head ++ behind) × ((lines : List ℕ) → WholeLines behind lines → lines ≡ script)
+    one c count durable ended none most e =
+        let front = take len (whole h) in
+        let back = drop len (whole h) in
+        let same : whole h ≡ h.durable = ap (λ (l : List ℕ). h.durable ++ l) durable ∙ append-nil h.durable in
+        let n = count - length front in
+        let long : count ≡ length front + n = omega (arith, most, ap (λ (l : List ℕ). length (take len l)) same) in
+        let parts : c ≡ front ++ take n back =
+        e ∙ ap (λ k. take k (whole h)) long ∙ ap (take (length front + n)) (sym (take-append-drop len (whole h))) ∙ take-append-add front back n in (
+          script ++ take n back,
+          parts ∙ ap (λ (l : List ℕ). l ++ take n back) is ∙ append_assoc head script (take n back),
+          λ lines cut. one_cut lines cut.0 script (take n back) cut.2 (in_line_of cut.0 cut.3) ended (in_line_take n back (in_line_of back none)) (sym cut.1),
+        )
 
 module _ {S : Type 0} (A : S → List ℕ → List ℕ → S → Type 0) (is_kept : List ℕ → Bool) where
   -- whatever fails, a crash leaves all that was answered, and then a beginning of what waits

@@ -1,14 +1,14 @@
 -- A log's lines are run again, and then the input is served.
-use Rattle.std.proofs.Common.{◌≡◌, ◌++◌, ◌∷◌, [], ℕ, List, Bool, false, Option, Some, None, IfSome, take, sym, ap, subst, ◌∙◌, append_assoc, append-nil, inl, ⊎_elim}
+use Rattle.std.proofs.Common.{refl, ◌≡◌, ◌++◌, ◌∷◌, [], ℕ, List, Bool, false, Option, Some, None, IfSome, take, sym, ap, subst, ◌∙◌, append_assoc, append-nil, inl, ⊎_elim}
 use Rattle.gs_keep_log.specs.Log.{Does, Held, MayLeave, shortened, whole}
 use Rattle.gs_shell_script.specs.Run.{AnswersLine, Runs, lines_of, memory_text}
 use Rattle.gs_keep.specs.Gathering.{lines_asked}
-use Rattle.gs_keep.specs.Keeping.{HasHead, KeepsOn, ReadsLog, StopsOn}
+use Rattle.gs_keep.specs.Keeping.{HasHead, KeepsOn, LeavesFront, LeavesScript, ReadsLog, StopsOn}
 use Rattle.gs_keep.specs.Lines.{Asked, log_of}
 use Rattle.gs_keep.specs.Replaying.{ReplaysSome, WholeLines}
 use Rattle.gs_keep.specs.Serving.{Answers, AnswersAll, Fails, Kept, Leaves, Serves, at_rest}
 use Rattle.gs_keep.specs.declared.fault.KeepFault.{KeepFault}
-use Rattle.gs_keep.proofs.Crashes.{fails_leave, goes_on, stands_behind}
+use Rattle.gs_keep.proofs.Crashes.{cut_leaves, fails_leave, goes_on, stands_behind}
 use Rattle.gs_keep.proofs.Replaying.{runs_join}
 use Rattle.gs_keep.proofs.Standing.{AreLines, are_lines, lines_back, lines_front}
 use Rattle.gs_keep.proofs.Weaken.{if_some}
@@ -38,6 +38,13 @@ crash len (Some h) log' log'' script asked waiting Goes (head, is) cut leaves go
         goes n,
       )) (leaves (take len (whole h)) cut),
 )
+
+-- the cut fails
+pub cut_on : (logged left : Option (List ℕ)) (len : ℕ) (log log' : Option Held) (out : Option (List ℕ)) → ReadsLog len log logged → LeavesFront len log log'
+    → IfSome logged (λ script. IfSome left (λ input. LeavesFront len log log' × LeavesScript len script log log' × (left ≡ Some input) × (out ≡ out)))
+cut_on None left len log log' out reads leaves = tt
+cut_on (Some script) None len log log' out reads leaves = tt
+cut_on (Some script) (Some input) len log log' out reads leaves = (leaves, cut_leaves len script log log' reads leaves, refl, refl)
 
 module _ {S : Type 0} (A : S → List ℕ → List ℕ → S → Type 0) (is_kept : List ℕ → Bool) where
   -- a line that is logged and answered is answered

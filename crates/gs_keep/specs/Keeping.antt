@@ -1,6 +1,7 @@
 -- What a run over a log does.
-use Rattle.std.specs.Prelude.{◌≡◌, ◌++◌, ◌∷◌, ◌≤◌, ℕ, Bool, true, false, List, [], length, take, codes, Option, Some, IfSome, Result, Ok, Err, refl}
+use Rattle.std.specs.Prelude.{◌≡◌, ◌==◌, ◌++◌, ◌∷◌, ◌≤◌, ℕ, Bool, true, false, List, [], length, take, drop, codes, Option, Some, IfSome, Result, Ok, Err, refl}
 use Rattle.std.proofs.Common.{inr}
+use Rattle.std.specs.List.{list_any}
 use Rattle.gs_keep_log.specs.Log.{Does, Held, MayLeave, shortened, whole}
 use Rattle.gs_shell_script.specs.Run.{Echoes, Runs, lines_of}
 use Rattle.gs_keep.specs.Lines.{Asked, log_of}
@@ -25,6 +26,12 @@ HasHead len h script head = take len (whole h) ≡ head ++ script
 -- The reader of a log's lines gives what stands in it behind a head.
 abbrev pub ReadsLog : ℕ → Option Held → Option (List ℕ) → Type 0
 ReadsLog len log logged = IfSome log (λ h. IfSome logged (λ script. (head : List ℕ) × HasHead len h script head))
+
+-- Where all was there for good and no line ended behind the first `len` bytes, the whole lines that a crash leaves behind the head are the script's.
+abbrev pub LeavesScript : ℕ → List ℕ → Option Held → Option Held → Type 0
+LeavesScript len script old new =
+    IfSome old (λ h. IfSome new (λ k. h.pending ≡ [] → EndsLine script → list_any (λ x. x == 10) (drop len (whole h)) ≡ false → (head : List ℕ) × HasHead len h script head
+    × ((c : List ℕ) → MayLeave k c → (behind : List ℕ) × (c ≡ head ++ behind) × ((lines : List ℕ) → WholeLines behind lines → lines ≡ script))))
 
 -- ---- the fault
 
@@ -91,7 +98,7 @@ module _ {S : Type 0} (A : S → List ℕ → List ℕ → S → Type 0) (is_kep
 
   abbrev pub StoreFails : StoreFault → S → List ℕ → List ℕ → Option (List ℕ) → ℕ → Option Held → Option Held → Option (List ℕ) → Option (List ℕ) → S → Type 0
   StoreFails (fault.Replay f) start script input left len log log' out out' end = ReplayFails is_kept f script × (left ≡ Some input) × (log' ≡ log) × (out' ≡ out)
-  StoreFails fault.Cut start script input left len log log' out out' end = LeavesFront len log log' × (left ≡ Some input) × (out' ≡ out)
+  StoreFails fault.Cut start script input left len log log' out out' end = LeavesFront len log log' × LeavesScript len script log log' × (left ≡ Some input) × (out' ≡ out)
   StoreFails (fault.Serve f) start script input left len log log' out out' end = StopsOn f start script input left len log log' out out' end
 
 -- ---- examples, of what counts the lines and answers each by itself
