@@ -1,18 +1,24 @@
 #!/usr/bin/env python3
 """Kills the program that keeps its store in a file, starts it again, and looks whether all that was answered is there.
 
-    bench/crash.py [--runs N] [--cuts N] [--seed N] [--program PATH] [--plain PATH] [--folder PATH]
-    bench/crash.py --speed [LINES] [--again LINES] ..
+    bench/crash.py [--runs N] [--cuts N] [--limits N] [--refusals N] [--seed N] [--program PATH] [--plain PATH] [--folder PATH]
+    bench/crash.py --speed [LINES] [--again LINES] [--times N] ..
 
 Without programs it builds chunkkeep and chunkstore as they stand, unproved. In a run the program answers a script of writes, upgrades and
-rollbacks, is killed at a random moment, and is started again on what it hasn't logged. Its answers before and behind the kill have to be
-those of chunkstore to the whole script. In a cut a beginning of the next lines stands behind those that were answered, as a crash may leave it of a
-batch that wasn't synced. It ends with status 1 where something differs. With --speed it measures."""
+rollbacks, is killed at a random moment or behind a random count of answers, and is started again on what it hasn't logged. Its answers before
+and behind the kill have to be those of chunkstore to the whole script. In a cut a beginning of the next lines stands behind those that were
+answered, as a crash may leave it of a batch that wasn't synced. With a limit the file can't grow behind a random length, so that a write
+fails: the status has to be 1, and all that was answered in the file. A refusal is a file that isn't the program's, or isn't any more, another
+store's sizes, or a second process: the status has to be the one that is promised, and no byte changed. It ends with status 1 where something
+differs. With --speed it measures."""
 
 import argparse
 import fcntl
 import os
 import random
+import re
+import resource
+import signal
 import subprocess
 import sys
 import tempfile
@@ -80,39 +86,67 @@ def answers_of(program, words, lines):
     return run.stdout.decode().splitlines()
 
 
-def feed(pipe, lines, chance, is_over):
-    """Writes lines in parts of random lengths, with waits between, until the reader is gone."""
-    text, at = text_of(lines), 0
+class Answered:
+    """How many lines a program has answered so far, and whether it is gone."""
+
+    def __init__(self):
+        self.lines = 0
+        self.is_over = threading.Event()
+
+
+def feed(pipe, lines, chance, answered):
+    """Writes lines in parts of random lengths, with waits between, not too far before their answers, until the reader is gone."""
+    text, at, sent = text_of(lines), 0, 0
+    ahead = chance.choice((1, 4, 20, 100, LINES))
     try:
         while at < len(text):
-            count = chance.choice((1, 5, 20, 100, 400))
-            pipe.write(text[at : at + count])
+            part = text[at : at + chance.choice((1, 5, 20, 100, 400))]
+            pipe.write(part)
             pipe.flush()
-            at += count
+            at += len(part)
+            sent += part.count(b"\n")
             time.sleep(chance.choice((0, 0, 0.0005, 0.003)))
+            while sent - answered.lines > ahead and not answered.is_over.is_set():
+                time.sleep(0.0002)
         # The end of the input would end the run by itself.
-        is_over.wait()
+        answered.is_over.wait()
     except OSError:
         pass
 
 
-def killed(program, path, lines, chance):
-    """Starts the program on lines and kills it. Answers what it answered in whole lines."""
-    run = subprocess.Popen([program, path, *SIZES], stdin=subprocess.PIPE, stdout=subprocess.PIPE, stderr=subprocess.DEVNULL)
-    is_over = threading.Event()
-    feeder = threading.Thread(target=feed, args=(run.stdin, lines, random.Random(chance.random()), is_over))
-    said = []
-    reader = threading.Thread(target=lambda: said.append(run.stdout.read()))
+def heard(run, said, answered, most):
+    """Reads what a program answers, to its end, and kills it once it has answered so many lines."""
+    while part := os.read(run.stdout.fileno(), PIPE_BYTES):
+        said.append(part)
+        answered.lines += part.count(b"\n")
+        if answered.lines >= most:
+            run.kill()
+
+
+def talked(run, lines, chance, most, seconds=None):
+    """Gives a program lines, kills it behind that many answers or seconds, and gives what it answered in whole lines, once it has ended."""
+    said, answered = [], Answered()
+    feeder = threading.Thread(target=feed, args=(run.stdin, lines, random.Random(chance.random()), answered))
+    reader = threading.Thread(target=heard, args=(run, said, answered, most))
     feeder.start()
     reader.start()
-    time.sleep(chance.random() * MOST_SECONDS)
-    run.kill()
-    run.wait()
-    is_over.set()
+    if seconds is not None:
+        time.sleep(seconds)
+        run.kill()
     reader.join()
+    run.wait()
+    answered.is_over.set()
     feeder.join()
-    text = said[0].decode()
+    text = b"".join(said).decode()
     return text[: text.rfind("\n") + 1].splitlines()
+
+
+def killed(program, path, lines, chance):
+    """Starts the program on lines, and kills it at a moment or behind some answers. Gives what it answered."""
+    run = subprocess.Popen([program, path, *SIZES], stdin=subprocess.PIPE, stdout=subprocess.PIPE, stderr=subprocess.DEVNULL)
+    if lines and chance.random() < 0.75:
+        return talked(run, lines, chance, chance.randint(1, len(lines)))
+    return talked(run, lines, chance, LINES + 1, chance.random() * MOST_SECONDS)
 
 
 def logged(path):
@@ -173,6 +207,140 @@ def cut(program, plain_program, path, chance):
     return first_difference(program, path, plain, lines, answered, asked), count
 
 
+def limited(program, plain_program, path, chance):
+    """Answers a script into a file that can't grow behind some length, and goes on without that."""
+    lines = [one_line(chance) for _ in range(LINES)]
+    asked = lines + probes()
+    plain = answers_of(plain_program, SIZES, asked)
+    answers_of(program, [path, *SIZES], [])
+    most = os.path.getsize(path) + chance.randint(0, len(text_of(lines)) - 1)
+
+    def limit():
+        # Without this the system ends the program where it writes behind the limit.
+        signal.signal(signal.SIGXFSZ, signal.SIG_IGN)
+        resource.setrlimit(resource.RLIMIT_FSIZE, (most, most))
+
+    with tempfile.TemporaryFile() as errors:
+        run = subprocess.Popen([program, path, *SIZES], stdin=subprocess.PIPE, stdout=subprocess.PIPE, stderr=errors, preexec_fn=limit)
+        told = talked(run, lines, chance, LINES + 1)
+        errors.seek(0)
+        status, said = run.returncode, errors.read().decode()
+    stood = len(logged(path)[0])
+    if status != 1 or "it can't be written" not in said:
+        return f"a write fails, and the status is {status}: {said}", stood
+    if os.path.getsize(path) > most:
+        return "the file is longer than it may be", stood
+    return first_difference(program, path, plain, lines, told, asked), stood
+
+
+# ---- refusals
+
+
+def ended(program, words, text=b""):
+    run = subprocess.run([program, *words], input=text, stdout=subprocess.PIPE, stderr=subprocess.PIPE)
+    return run.returncode, run.stdout, run.stderr.decode(errors="replace")
+
+
+def wrong_end(program, words, path, status, pattern):
+    """What is wrong with a run that has to be refused with a status and a text, and to change nothing."""
+    before = open(path, "rb").read() if os.path.exists(path) else None
+    got, answered, said = ended(program, words, b"mkdir /z\n")
+    after = open(path, "rb").read() if os.path.exists(path) else None
+    if before != after:
+        return f"the file was changed by a run with {words}"
+    if got != status or answered:
+        return f"the status is {got} where {status} is meant, and {len(answered)} bytes were answered: {said}"
+    if not re.search(pattern, said):
+        return f"standard error isn't as it should be: {said}"
+    return None
+
+
+def foreign(program, path, chance):
+    """A file that isn't the program's."""
+    count = chance.choice((1, 10, 1_000, 300_000))
+    kind = chance.randint(0, 3)
+    if kind == 0:
+        text = b"#" + chance.randbytes(count)
+    elif kind == 1:
+        text = b"mkdir /a\ncreate /a/f\n" * count
+    elif kind == 2:
+        text = b"chunkkeep 1 --servers 3 --racks 1 --replicas 3 --chunk 67108864 --block  65536\n" + b"mkdir /a\n"
+    else:
+        text = b"chunkkeep 1 --servers 3 --racks 1 --replicas 3 --chunk 67108864 --block 0\n"
+    with open(path, "wb") as file:
+        file.write(text)
+    return wrong_end(program, [path], path, 1, "line 1 isn't that of a store")
+
+
+def other_version(program, path, chance):
+    with open(path, "wb") as file:
+        file.write(f"chunkkeep {chance.randint(2, 99)} --servers 3 --whatever\nmkdir /a\n".encode())
+    return wrong_end(program, [path], path, 1, "another version")
+
+
+def broken_line(program, path, chance):
+    """A line in the midst of a file is none."""
+    lines = [one_line(chance) for _ in range(LINES)]
+    answers_of(program, [path, *SIZES], lines)
+    number = chance.randint(0, LINES - 1)
+    lines[number] = chance.choice(("", " ", "mkdir", "ls  /", "\x00" * 40, "create /a/f ", "write /a/f 0 6"))
+    with open(path, "rb") as file:
+        head = file.readline()
+    with open(path, "wb") as file:
+        file.write(head + text_of(lines))
+    return wrong_end(program, [path], path, 1, f"line {number + 2} is none of a script")
+
+
+def other_sizes(program, path, chance):
+    answers_of(program, [path, *SIZES], [one_line(chance) for _ in range(20)])
+    name, given, size = chance.choice(
+        (("servers", 4, 3), ("racks", 2, 1), ("replicas", 2, 3), ("chunk", 32, 16), ("block", 8, 4), ("block", 0, 4))
+    )
+    return wrong_end(program, [path, f"--{name}", str(given)], path, 2, f"has --{name} {size}\n")
+
+
+def no_store(program, path, chance):
+    """There are no such sizes, and no file is made."""
+    words = chance.choice((["--servers", "2"], ["--chunk", "10", "--block", "4"], ["--block", "0"]))
+    return wrong_end(program, [path, *words], path, 2, "no store of these sizes")
+
+
+def second_process(program, path, chance):
+    """A second process is refused while the first one has the file, which goes on."""
+    first = subprocess.Popen([program, path, *SIZES], stdin=subprocess.PIPE, stdout=subprocess.PIPE, stderr=subprocess.DEVNULL)
+    for number in range(3):
+        first.stdin.write(f"mkdir /{number}\n".encode())
+        first.stdin.flush()
+        if first.stdout.readline() != b"ok\n":
+            return "the first process doesn't answer"
+        wrong = wrong_end(program, [path, *chance.choice(([], SIZES))], path, 1, "another process has it")
+        if wrong:
+            return wrong
+    first.stdin.close()
+    if first.wait():
+        return f"the first process ended with status {first.returncode}"
+    status, answered, said = ended(program, [path], b"ls /\n")
+    return None if (status, answered) == (0, b"ok 0/ 1/ 2/\n") else f"behind two processes: {status} {answered} {said}"
+
+
+def half_made(program, path, chance):
+    """A beginning of the first line stands there, as a crash leaves it while the file is made: with its sizes it is made, with others refused."""
+    with open(path, "wb") as file:
+        file.write(b"chunkkeep 1 --servers 3 --racks 1 --replicas 3 --chunk 16 --block 4\n"[: chance.randint(58, 67)])
+    wrong = wrong_end(program, [path], path, 1, "line 1 isn't that of a store")
+    if wrong:
+        return wrong
+    status, answered, said = ended(program, [path, *SIZES], b"mkdir /a\n")
+    return None if (status, answered) == (0, b"ok\n") else f"a file that is half made isn't made: {status} {answered} {said}"
+
+
+REFUSALS = (foreign, other_version, broken_line, other_sizes, no_store, second_process, half_made)
+
+
+def refusal(program, _plain_program, path, chance):
+    return chance.choice(REFUSALS)(program, path, chance), 0
+
+
 def tried(name, how, count, programs, folder, seed):
     """Runs that many, and answers how many were as they should be."""
     passed, stood = 0, []
@@ -184,7 +352,11 @@ def tried(name, how, count, programs, folder, seed):
             print(f"{name} {number} of seed {seed}: {wrong}; see {path}", flush=True)
         else:
             passed += 1
-            os.remove(path)
+            if os.path.exists(path):
+                os.remove(path)
+    if how is refusal:
+        print(f"{name}: {passed} of {count} passed", flush=True)
+        return passed
     between = sum(0 < lines < LINES for lines in stood)
     print(f"{name}: {passed} of {count} passed; in {between} the store had some of the {LINES} lines and not all", flush=True)
     return passed
@@ -244,7 +416,36 @@ def speed_lines(count):
     return [f"create /{number // 1_000}/{number}" if number % 1_000 else f"mkdir /{number // 1_000}" for number in range(count)]
 
 
-def speed(program, plain_program, folder, count, again):
+def timed(words, given=os.devnull):
+    """Runs a program, and tells the seconds that it took, by the clock and of the processor."""
+    with open(given, "rb") as stdin:
+        begun = time.monotonic()
+        run = subprocess.Popen(words, stdin=stdin, stdout=subprocess.DEVNULL, stderr=subprocess.DEVNULL)
+        _, status, used = os.wait4(run.pid, 0)
+    if status:
+        raise SystemExit(f"{words[0]} ended with status {status}")
+    return time.monotonic() - begun, used.ru_utime + used.ru_stime
+
+
+def run_again(program, plain_program, folder, count, times):
+    """A log of so many lines is run again, and its lines are answered by the plain program, by turns."""
+    path, script, lines = os.path.join(folder, "again"), os.path.join(folder, "script"), speed_lines(count)
+    timed([program, path])
+    for name, how in ((path, "ab"), (script, "wb")):
+        with open(name, how) as file:
+            file.write(text_of(lines))
+    kept, plain = [], []
+    for _ in range(times):
+        kept.append(timed([program, path]))
+        plain.append(timed([plain_program], script))
+    print(f"\n{count:,} lines are run again, and answered by chunkstore, by turns; seconds by the clock, and of the processor:")
+    for name, taken in (("chunkkeep", kept), ("chunkstore", plain)):
+        clock, used = min(taken)[0], min(cpu for _, cpu in taken)
+        each = ", ".join(f"{clock:.2f} ({cpu:.2f})" for clock, cpu in taken)
+        print(f"{name}: {each}; least {clock:.2f} ({used:.2f}), {count / clock:,.0f} lines a second")
+
+
+def speed(program, plain_program, folder, count):
     print("| lines that come together | chunkkeep | chunkstore | write and fdatasync alone |\n|---|---|---|---|")
     for batch in (1, 64, 4096):
         lines = speed_lines(max(min(count, batch * 2_000), 2_000))
@@ -253,21 +454,6 @@ def speed(program, plain_program, folder, count, again):
         plain = rate_of([plain_program], batches)
         bare = bare_rate(os.path.join(folder, f"bare-{batch}"), batches)
         print(f"| {batch} | {kept:,.0f} | {plain:,.0f} | {bare:,.0f} |", flush=True)
-    path, lines = os.path.join(folder, "again"), speed_lines(again)
-    subprocess.run([program, path], stdin=subprocess.DEVNULL, stderr=subprocess.DEVNULL, check=True)
-    with open(path, "ab") as file:
-        file.write(text_of(lines))
-    script = os.path.join(folder, "script")
-    with open(script, "wb") as file:
-        file.write(text_of(lines))
-    begun = time.monotonic()
-    subprocess.run([program, path], stdin=subprocess.DEVNULL, stderr=subprocess.DEVNULL, check=True)
-    kept = time.monotonic() - begun
-    begun = time.monotonic()
-    with open(script, "rb") as file:
-        subprocess.run([plain_program], stdin=file, stdout=subprocess.DEVNULL, check=True)
-    plain = time.monotonic() - begun
-    print(f"\n{again:,} lines are run again in {kept:.2f} s ({again / kept:,.0f} a second); chunkstore answers them in {plain:.2f} s ({again / plain:,.0f} a second)")
 
 
 def built(name):
@@ -279,21 +465,27 @@ def main():
     words = argparse.ArgumentParser()
     words.add_argument("--runs", type=int, default=200)
     words.add_argument("--cuts", type=int, default=20)
+    words.add_argument("--limits", type=int, default=20)
+    words.add_argument("--refusals", type=int, default=40)
     words.add_argument("--seed", type=int, default=1)
     words.add_argument("--program")
     words.add_argument("--plain")
     words.add_argument("--folder", help="where the files stand; it should be on a disk")
     words.add_argument("--speed", type=int, nargs="?", const=200_000)
-    words.add_argument("--again", type=int, default=1_000_000)
+    words.add_argument("--again", type=int, default=1_000_000, help="the lines of a log that is run again")
+    words.add_argument("--times", type=int, default=5, help="how often it is, by turns with chunkstore")
     asked = words.parse_args()
     programs = (asked.program or built("chunkkeep"), asked.plain or built("chunkstore"))
     folder = tempfile.mkdtemp(prefix="chunkkeep-", dir=asked.folder)
     if asked.speed:
-        speed(*programs, folder, asked.speed, asked.again)
+        speed(*programs, folder, asked.speed)
+        run_again(*programs, folder, asked.again, asked.times)
         return 0
     passed = tried("run", crash, asked.runs, programs, folder, asked.seed)
     passed += tried("cut", cut, asked.cuts, programs, folder, asked.seed)
-    failed = asked.runs + asked.cuts - passed
+    passed += tried("limit", limited, asked.limits, programs, folder, asked.seed)
+    passed += tried("refusal", refusal, asked.refusals, programs, folder, asked.seed)
+    failed = asked.runs + asked.cuts + asked.limits + asked.refusals - passed
     print(f"{passed} passed, {failed} failed")
     return 1 if failed else 0
 

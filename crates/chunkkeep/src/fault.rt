@@ -1,5 +1,6 @@
 use gs_keep::{KeepFault, ReplayFault, StoreFault};
 use gs_keep_file::FileLog;
+use std::fs::File;
 use std::io;
 use thiserror::Error;
 
@@ -40,7 +41,7 @@ impl Fault {
     }
 
     /// Why a call of a log failed.
-    pub(crate) fn of_log(log: FileLog) -> Fault {
+    pub(crate) fn of_log(log: FileLog<File>) -> Fault {
         match log.into_fault() {
             Some(error) => Fault::Write(error),
             None => Fault::Memory,
@@ -48,7 +49,7 @@ impl Fault {
     }
 
     /// Why a run over a log ended.
-    pub(crate) fn of_run(fault: StoreFault, log: FileLog) -> Fault {
+    pub(crate) fn of_run(fault: StoreFault, log: FileLog<File>) -> Fault {
         match fault {
             StoreFault::Cut | StoreFault::Serve(KeepFault::Log) => Fault::of_log(log),
             // The first line stands before those that are counted.

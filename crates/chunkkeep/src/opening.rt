@@ -20,7 +20,7 @@ const FILE_BYTES: usize = 1_048_576;
 /// A file that a store is kept in.
 #[derive(Drop)]
 pub(crate) struct Kept {
-    pub(crate) log: FileLog,
+    pub(crate) log: FileLog<File>,
     pub(crate) config: Config,
     pub(crate) measure: Measure,
     /// The whole lines of the file behind the first one.
@@ -76,7 +76,7 @@ fn config_of(alloc: Global, line: &Line) -> Result<Config, Fault> {
 }
 
 /// Appends the first line of a log in place of what stands there, and waits until it is on the disk.
-fn put_head(log: &mut FileLog, text: &str) -> bool
+fn put_head(log: &mut FileLog<File>, text: &str) -> bool
     requires { is_some log.old.fault ≡ false }
     ensures { result ≡ true → is_some log.new.fault ≡ false }
 {
@@ -93,7 +93,7 @@ fn head_line(alloc: Global, config: &Config) -> Result<String, AllocError> {
 /// Makes a store in a file in which nothing stands, or a beginning of the first line that is to stand there, as a crash leaves it.
 fn made(
     alloc: Global,
-    mut log: FileLog,
+    mut log: FileLog<File>,
     mut lines: BufReader<Take<File>>,
     sizes: &Sizes,
 ) -> Result<Kept, Fault>
@@ -126,7 +126,7 @@ fn made(
 /// Takes up the store of a file.
 fn taken_up(
     alloc: Global,
-    log: FileLog,
+    log: FileLog<File>,
     mut lines: BufReader<Take<File>>,
     sizes: &Sizes,
     measure: Measure,
@@ -145,24 +145,17 @@ fn taken_up(
     })
 }
 
-/// Whether there is no such file.
-fn is_missing<R: Files<File = File>>(rt: &R, path: &str) -> bool {
-    match File::open(rt, path) {
-        Ok(_) => false,
-        Err(error) => error.kind() == ErrorKind::NotFound,
-    }
-}
-
 /// Opens the file that is asked for, and locks it, or makes it. Sizes of which there is no store make none.
 fn opened_file<R: Files<File = File>>(rt: &R, asked: &Asked) -> Result<Opened, Fault>
     ensures { IfOk result (λ opened. is_some opened.log.fault ≡ false) }
 {
-    if is_missing(rt, &asked.path) && asked.sizes.config().is_err() {
-        return Err(Fault::NoStore);
-    }
-    match open(rt, &asked.path) {
+    let may_make = asked.sizes.config().is_ok();
+    match open(rt, &asked.path, may_make) {
         Ok(opened) => Ok(opened),
         Err(OpenFault::InUse) => Err(Fault::InUse),
+        Err(OpenFault::Io(error)) if !may_make && error.kind() == ErrorKind::NotFound => {
+            Err(Fault::NoStore)
+        }
         Err(OpenFault::Io(error)) => Err(Fault::Open(error)),
     }
 }

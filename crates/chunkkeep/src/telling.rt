@@ -60,7 +60,6 @@ impl<R: Eprint + Clock> Progress for Teller<'_, R> {
         let path = self.path;
         let lines = replayed.lines;
         let lacking = replayed.lacking;
-        let rest = self.measure.rest;
         let millis = self.passed_millis();
         let _ = eprintln!(self.rt; "chunkkeep: {path}: {lines} lines run again in {millis} ms");
         if lacking > 0 {
@@ -68,6 +67,11 @@ impl<R: Eprint + Clock> Progress for Teller<'_, R> {
                 "chunkkeep: {path}: memory was lacking for {lacking} of them, which may not have come out as they did first"
             );
         }
+    }
+
+    fn cut(&mut self) {
+        let path = self.path;
+        let rest = self.measure.rest;
         if rest > 0 {
             let _ = eprintln!(self.rt;
                 "chunkkeep: {path}: {rest} bytes behind the last whole line are cut off"

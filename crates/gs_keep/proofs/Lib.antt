@@ -6,4 +6,5 @@ pub mod Gathering
 pub mod Rounds
 pub mod Replaying
 pub mod Standing
+pub mod Crashes
 pub mod Going

@@ -1,10 +1,10 @@
 -- The lines of a log are run again, one after another.
-use Rattle.std.proofs.Common.{◌≡◌, ◌≢◌, ◌<◌, ◌≤◌, ◌+◌, ◌++◌, ◌∷◌, [], ℕ, zero, suc, List, Bool, true, false, cond, length, Option, Some, None, IfSome, refl, sym, ap, subst, ◌∙◌, arith, append_assoc, append-nil, length-append}
+use Rattle.std.proofs.Common.{◌≡◌, ◌≤◌, ◌+◌, ◌++◌, ◌∷◌, [], ℕ, List, Bool, true, false, cond, Option, Some, None, IfSome, refl, sym, ap, subst, ◌∙◌, arith, append_assoc, append-nil, length-append}
 use Rattle.std.specs.List.{AllByRecursion}
 use Rattle.std.specs.Io.BufRead.{take_through, drop_through}
-use Rattle.gs_shell_script.specs.Run.{AnswersLine, Runs, lines_of, memory_text}
+use Rattle.gs_shell_script.specs.Run.{Runs, lines_of}
 use Rattle.gs_shell_script.proofs.Lines.{lines_of-step}
-use Rattle.gs_keep.specs.Replaying.{AllLogged, HasBadLine, NoneLacks, RefusesOne, ReplayFails, ReplaysOne, ReplaysSoFar, ReplaysSome}
+use Rattle.gs_keep.specs.Replaying.{RefusesOne, ReplayFails, ReplaysOne, ReplaysSoFar, ReplaysSome}
 use Rattle.gs_keep.specs.declared.again.Replaying.TheVariants as replaying
 use Rattle.gs_keep.specs.declared.again.ReplayFault.{ReplayFault}
 use Rattle.gs_keep.specs.declared.again.ReplayFault.TheVariants as fault

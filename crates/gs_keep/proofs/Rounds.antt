@@ -8,7 +8,8 @@ use Rattle.gs_shell_line.specs.Line.{StaysInLine}
 use Rattle.gs_shell_line.specs.declared.Line.{Line}
 use Rattle.gs_shell_script.specs.Run.{lines_of, unlines}
 use Rattle.gs_shell_script.proofs.Lines.{stays-here}
-use Rattle.gs_keep.specs.Lines.{Asked, log_of}
+use Rattle.std.specs.List.{AllByRecursion}
+use Rattle.gs_keep.specs.Lines.{Asked, MayLog, log_of}
 use Rattle.gs_keep.specs.Gathering.{AllWait, Gathers, LeftBy, lines_asked}
 use Rattle.gs_keep.specs.Serving.{AnswersSome, AnswersWaiting, BreaksOff, Fails, Kept, Leaves, Rounds, Serves, Stops}
 use Rattle.gs_keep.specs.declared.batch.Gathered.{Gathered}
@@ -16,6 +17,7 @@ use Rattle.gs_keep.specs.declared.batch.Gathered.TheVariants as gathered
 use Rattle.gs_keep.specs.declared.fault.KeepFault.{KeepFault}
 use Rattle.gs_keep.specs.declared.fault.KeepFault.TheVariants as fault
 use Rattle.gs_keep.proofs.Answering.{all_join}
+use Rattle.gs_keep.proofs.Asking.{all_behind, all_log}
 use Rattle.gs_keep.proofs.Gathering.{lines_join, log_join}
 use Rattle.gs_keep.proofs.Logs.{kept_join, kept_none, leaves_join}
 
@@ -41,9 +43,17 @@ module _ {S : Type 0} (A : S → List ℕ → List ℕ → S → Type 0) (is_kep
     -- the log fails before any line is answered
     pub round_unlogged : Leaves log [] bytes log' → Fails A is_kept fault.Log start xs left log log' out out start
     round_unlogged leaves = (
-      record { asked = []; texts = []; waiting = g.asked; rest = g.rest; parts = g.parts; stays = stays_by r g.rest left g.left_by; answers = refl },
-      Appends-nil out,
-      subst (λ (l : List ℕ). Leaves log [] l log') g.logged leaves,
+      record {
+        asked = [];
+        texts = [];
+        waiting = g.asked;
+        rest = g.rest;
+        parts = g.parts;
+        stays = stays_by r g.rest left g.left_by;
+        answers = refl;
+        logged = all_log is_kept g.asked lines g.wait;
+      },
+      (Appends-nil out, subst (λ (l : List ℕ). Leaves log [] l log') g.logged leaves),
     )
 
     -- a write fails behind some answers
@@ -54,9 +64,17 @@ module _ {S : Type 0} (A : S → List ℕ → List ℕ → S → Type 0) (is_kep
         let split : lines_of xs ≡ lines_asked first ++ (lines_asked waiting ++ lines_of g.rest) =
         g.parts ∙ ap (λ (l : List Asked). lines_asked l ++ lines_of g.rest) parts ∙ ap (λ (l : List (List ℕ)). l ++ lines_of g.rest) (lines_join first waiting)
         ∙ append_assoc (lines_asked first) (lines_asked waiting) (lines_of g.rest) in (
-          record { asked = first; texts = texts; waiting = waiting; rest = g.rest; parts = split; stays = stays_by r g.rest left g.left_by; answers = all },
-          broken,
-          subst (λ (l : List ℕ). Kept log l log') (g.logged ∙ ap log_of parts ∙ log_join first waiting) kept,
+          record {
+            asked = first;
+            texts = texts;
+            waiting = waiting;
+            rest = g.rest;
+            parts = split;
+            stays = stays_by r g.rest left g.left_by;
+            answers = all;
+            logged = all_behind (MayLog is_kept) first waiting (subst (AllByRecursion (MayLog is_kept)) parts (all_log is_kept g.asked lines g.wait));
+          },
+          (broken, subst (λ (l : List ℕ). Kept log l log') (g.logged ∙ ap log_of parts ∙ log_join first waiting) kept),
         )
 
     -- a read fails behind the lines that were gathered
@@ -64,10 +82,8 @@ module _ {S : Type 0} (A : S → List ℕ → List ℕ → S → Type 0) (is_kep
         → Fails A is_kept fault.Read start xs left log log' out out' end
     round_unread kept answered =
         let (texts, all, whole) = answered g.asked g.wait in (
-          record { asked = g.asked; texts = texts; waiting = []; rest = g.rest; parts = g.parts; stays = stays_by r g.rest left g.left_by; answers = all },
-          refl,
-          whole,
-          subst (λ (l : List ℕ). Kept log l log') g.logged kept,
+          record { asked = g.asked; texts = texts; waiting = []; rest = g.rest; parts = g.parts; stays = stays_by r g.rest left g.left_by; answers = all; logged = tt },
+          (refl, whole, subst (λ (l : List ℕ). Kept log l log') g.logged kept),
         )
 
   pub round_more : (xs : List ℕ) (left : Option (List ℕ)) (lines : List Line) (bytes : List ℕ) (log log' : Option Held) (out out' : Option (List ℕ)) (start end : S)
@@ -129,6 +145,7 @@ module _ {S : Type 0} (A : S → List ℕ → List ℕ → S → Type 0) (is_kep
     parts = lines_meet xs mid s.rest one.asked s.asked (lines_asked s.waiting ++ lines_of s.rest) one.parts s.parts;
     stays = s.stays;
     answers = all_join A is_kept start now end one.asked s.asked one.texts s.texts one.answers s.answers;
+    logged = s.logged;
   }
 
   breaks_after : (texts more : List (List ℕ)) (out mid out' : Option (List ℕ)) → Appends out mid (unlines texts) → BreaksOff more mid out' → BreaksOff (texts ++ more) out out'
@@ -148,22 +165,28 @@ module _ {S : Type 0} (A : S → List ℕ → List ℕ → S → Type 0) (is_kep
       → Serves A is_kept start xs mid log log' out out' now → Fails A is_kept f now mid left log' log'' out' out'' end → Fails A is_kept f start xs left log log'' out out'' end
   unfolding stops_behind
   fails_behind fault.Memory xs mid left log log' log'' out out' out'' start now end other one fails = absurd (other refl)
-  fails_behind fault.Read xs mid left log log' log'' out out' out'' start now end other one (s, none, whole, kept) = (
+  fails_behind fault.Read xs mid left log log' log'' out out' out'' start now end other one (s, (none, whole, kept)) = (
     stops_behind xs mid left log log' out out' start now end one s,
-    none,
-    subst (Appends out out'') (sym (unlines_join one.texts s.texts)) (Appends-trans out out' out'' _ _ one.written whole),
-    subst (λ (l : List ℕ). Kept log l log'') (sym (log_join one.asked s.asked)) (kept_join log log' log'' _ _ one.kept kept),
+    (
+      none,
+      subst (Appends out out'') (sym (unlines_join one.texts s.texts)) (Appends-trans out out' out'' _ _ one.written whole),
+      subst (λ (l : List ℕ). Kept log l log'') (sym (log_join one.asked s.asked)) (kept_join log log' log'' _ _ one.kept kept),
+    ),
   )
-  fails_behind fault.Write xs mid left log log' log'' out out' out'' start now end other one (s, broken, kept) = (
+  fails_behind fault.Write xs mid left log log' log'' out out' out'' start now end other one (s, (broken, kept)) = (
     stops_behind xs mid left log log' out out' start now end one s,
-    breaks_after one.texts s.texts out out' out'' one.written broken,
-    subst (λ (l : List ℕ). Kept log l log'') (sym (append_assoc (log_of one.asked) (log_of s.asked) (log_of s.waiting)) ∙ ap (λ (l : List ℕ). l ++ log_of s.waiting) (sym (log_join one.asked s.asked)))
-        (kept_join log log' log'' _ _ one.kept kept),
+    (
+      breaks_after one.texts s.texts out out' out'' one.written broken,
+      subst (λ (l : List ℕ). Kept log l log'') (sym (append_assoc (log_of one.asked) (log_of s.asked) (log_of s.waiting)) ∙ ap (λ (l : List ℕ). l ++ log_of s.waiting) (sym (log_join one.asked s.asked)))
+          (kept_join log log' log'' _ _ one.kept kept),
+    ),
   )
-  fails_behind fault.Log xs mid left log log' log'' out out' out'' start now end other one (s, whole, leaves) = (
+  fails_behind fault.Log xs mid left log log' log'' out out' out'' start now end other one (s, (whole, leaves)) = (
     stops_behind xs mid left log log' out out' start now end one s,
-    subst (Appends out out'') (sym (unlines_join one.texts s.texts)) (Appends-trans out out' out'' _ _ one.written whole),
-    subst (λ (l : List ℕ). Leaves log l (log_of s.waiting) log'') (sym (log_join one.asked s.asked)) (leaves_join log log' log'' (log_of one.asked) (log_of s.asked) (log_of s.waiting) one.kept leaves),
+    (
+      subst (Appends out out'') (sym (unlines_join one.texts s.texts)) (Appends-trans out out' out'' _ _ one.written whole),
+      subst (λ (l : List ℕ). Leaves log l (log_of s.waiting) log'') (sym (log_join one.asked s.asked)) (leaves_join log log' log'' (log_of one.asked) (log_of s.asked) (log_of s.waiting) one.kept leaves),
+    ),
   )
 
   pub rounds_fail : (f : KeepFault) (xs : List ℕ) (left left' : Option (List ℕ)) (log log' log'' : Option Held) (out out' out'' : Option (List ℕ)) (start now end : S) → f ≢ fault.Memory
@@ -171,12 +194,18 @@ module _ {S : Type 0} (A : S → List ℕ → List ℕ → S → Type 0) (is_kep
   rounds_fail f xs left left' log log' log'' out out' out'' start now end other (mid, is, one) fails =
       fails_behind f xs mid left' log log' log'' out out' out'' start now end other one (subst (λ (o : Option (List ℕ)). IfSome o (λ ys. Fails A is_kept f now ys left' log' log'' out' out'' end)) is fails)
 
+  -- nothing is read
+  pub nothing_begun : (o : Option (List ℕ)) (log : Option Held) (out : Option (List ℕ)) (start : S) → IfSome o (λ xs. Fails A is_kept fault.Memory start xs o log log out out start)
+  nothing_begun None log out start = tt
+  nothing_begun (Some xs) log out start = (
+    record { asked = []; texts = []; waiting = []; rest = xs; parts = refl; stays = stays-here (Some xs); answers = refl; logged = tt },
+    (refl, refl, refl, refl, refl, refl),
+  )
+
   -- too many rounds
   pub rounds_stop : (xs : List ℕ) (left : Option (List ℕ)) (log log' : Option Held) (out out' : Option (List ℕ)) (start now : S)
       → Rounds A is_kept start true xs left log log' out out' now → Fails A is_kept fault.Read start xs left log log' out out' now
   rounds_stop xs left log log' out out' start now (mid, is, one) = (
-    record { asked = one.asked; texts = one.texts; waiting = []; rest = mid; parts = one.parts; stays = subst (StaysInLine (Some mid)) (sym is) (stays-here (Some mid)); answers = one.answers },
-    refl,
-    one.written,
-    one.kept,
+    record { asked = one.asked; texts = one.texts; waiting = []; rest = mid; parts = one.parts; stays = subst (StaysInLine (Some mid)) (sym is) (stays-here (Some mid)); answers = one.answers; logged = tt },
+    (refl, one.written, one.kept),
   )

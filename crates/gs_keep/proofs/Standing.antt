@@ -1,5 +1,5 @@
 -- The lines of a log stand for what their answers left.
-use Rattle.std.proofs.Common.{◌≡◌, ◌<◌, ◌+◌, ◌-◌, ⊎_elim, ◌++◌, ◌∷◌, ◌⊎◌, ◌&&◌, [], ℕ, zero, suc, List, Bool, true, false, cond, eqb, nat_lt, nat_le, length, take, refl, sym, ap, subst, ◌∙◌, arith, append_assoc, append-nil, length-append, true≢false, eqb-true, inl, inr, get_or, take_at}
+use Rattle.std.proofs.Common.{◌≡◌, ◌+◌, ◌-◌, ⊎_elim, ◌++◌, ◌∷◌, ◌⊎◌, ◌&&◌, [], ℕ, zero, suc, List, Bool, true, false, cond, eqb, nat_lt, nat_le, length, take, refl, sym, ap, subst, ◌∙◌, arith, append_assoc, length-append, eqb-true, inl, inr, get_or, take_at}
 use Rattle.std.proofs.lemmas.Bool.Decides.{nat_tests}
 use Rattle.std.proofs.lemmas.List.{get_or-append-add}
 use Rattle.std.specs.Io.BufRead.{ends_with_byte, strip_last}
@@ -140,7 +140,11 @@ pub lines_front : (asked : List (List ℕ)) (more : List (List ℕ)) → AreLine
 lines_front [] more all = tt
 lines_front (l ∷ asked) more all = (all.0, lines_front asked more all.1)
 
-content_in_line : (line : List ℕ) → IsOneLine line → IsInLine (content line)
+pub lines_back : (asked : List (List ℕ)) (more : List (List ℕ)) → AreLines (asked ++ more) → AreLines more
+lines_back [] more all = all
+lines_back (l ∷ asked) more all = lines_back asked more all.1
+
+pub content_in_line : (line : List ℕ) → IsOneLine line → IsInLine (content line)
 content_in_line line (body, one, is) = ⊎_elim ended whole is
   where
     ended : line ≡ body ++ 10 ∷ [] → IsInLine (content line)
@@ -151,7 +155,7 @@ content_in_line line (body, one, is) = ⊎_elim ended whole is
 
 -- ---- what is logged of a line
 
-return_first : (line : List ℕ) → line ++ 13 ∷ 10 ∷ [] ≡ (line ++ 13 ∷ []) ++ 10 ∷ []
+pub return_first : (line : List ℕ) → line ++ 13 ∷ 10 ∷ [] ≡ (line ++ 13 ∷ []) ++ 10 ∷ []
 return_first line = sym (append_assoc line (13 ∷ []) (10 ∷ []))
 
 pub content_kept : (line : List ℕ) → content (kept_text line) ≡ line
@@ -161,7 +165,7 @@ content_kept line = at (ends_with_byte 13 line) refl
     at true e = ap content (return_first line) ∙ content_push (line ++ 13 ∷ []) ∙ strip_push line 13
     at false e = content_push line ∙ strip_other line 13 e
 
-kept_line : (line : List ℕ) → IsInLine line → (lines_of (kept_text line) ≡ kept_text line ∷ []) × EndsLine (kept_text line)
+pub kept_line : (line : List ℕ) → IsInLine line → (lines_of (kept_text line) ≡ kept_text line ∷ []) × EndsLine (kept_text line)
 kept_line line one = at (ends_with_byte 13 line)
   where
     at : (b : Bool) → let text = cond b (line ++ 13 ∷ 10 ∷ []) (line ++ 10 ∷ []) in (lines_of text ≡ text ∷ []) × EndsLine text

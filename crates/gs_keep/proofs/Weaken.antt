@@ -44,3 +44,17 @@ pub if_some₃ : {A B : Type 0} (o : Option A) (p : Option B) (P : A → Type 0)
 if_some₃ None p P Q R f h k = tt
 if_some₃ (Some x) None P Q R f h k = tt
 if_some₃ (Some x) (Some y) P Q R f h k = f x y h k
+
+-- what holds of two options, each by itself, and a third thing that is known of the first
+pub if_some₄ : {A B : Type 0} (o : Option A) (p : Option B) (K P : A → Type 0) (Q : B → Type 0) (R : A → B → Type 0) → ((x : A) (y : B) → K x → P x → Q y → R x y)
+    → IfSome o K → IfSome o P → IfSome p Q → IfSome o (λ x. IfSome p (R x))
+if_some₄ None p K P Q R f k h j = tt
+if_some₄ (Some x) None K P Q R f k h j = tt
+if_some₄ (Some x) (Some y) K P Q R f k h j = f x y k h j
+
+-- options that are known, the other way round
+pub turned : {A B : Type 0} (o : Option A) (p : Option B) (P : A → B → Type 0) → IfSome o (λ x. IfSome p (P x)) → IfSome p (λ y. IfSome o (λ x. P x y))
+turned None None P h = tt
+turned None (Some y) P h = tt
+turned (Some x) None P h = tt
+turned (Some x) (Some y) P h = h

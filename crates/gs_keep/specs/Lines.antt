@@ -1,5 +1,5 @@
 -- What of a line is logged.
-use Rattle.std.specs.Prelude.{◌≡◌, ◌++◌, ◌∷◌, ◌&&◌, ℕ, Bool, List, [], length, nat_le, flat_map, codes, if◌then◌else◌, refl}
+use Rattle.std.specs.Prelude.{◌≡◌, ◌++◌, ◌∷◌, ◌&&◌, ◌⊎◌, ℕ, Bool, List, [], length, nat_le, flat_map, codes, if◌then◌else◌, refl}
 use Rattle.std.specs.Io.BufRead.{ends_with_byte}
 use Rattle.gs_shell_line.specs.Line.{content, longest_line}
 
@@ -32,3 +32,7 @@ module _ (is_kept : List ℕ → Bool) where
   -- what of a line with its end has to be logged
   abbrev pub logs : List ℕ → List ℕ
   logs line = if is_logged line then kept_text (content line) else []
+
+  -- what of a line has to be logged is, or nothing of it where memory is lacking
+  abbrev pub MayLog : Asked → Type 0
+  MayLog asked = (asked.logged ≡ []) ⊎ (asked.logged ≡ logs asked.line)

@@ -1,6 +1,6 @@
 -- What it is to run the lines of a log again.
-use Rattle.std.specs.Prelude.{◌≡◌, ◌≢◌, ◌++◌, ◌∷◌, ◌<◌, ℕ, Bool, true, false, List, [], length, Option, Some, None, IfSome}
-use Rattle.std.specs.List.{AllByRecursion}
+use Rattle.std.specs.Prelude.{◌≡◌, ◌≢◌, ◌++◌, ◌∷◌, ◌<◌, ◌==◌, codes, refl, ℕ, Bool, true, false, List, [], length, Option, Some}
+use Rattle.std.specs.List.{AllByRecursion, list_any}
 use Rattle.std.specs.Io.BufRead.{take_through, drop_through}
 use Rattle.gs_shell_script.specs.Run.{AnswersLine, Runs, lines_of, memory_text}
 use Rattle.gs_keep.specs.Lines.{is_logged}
@@ -19,6 +19,13 @@ abbrev pub EndsLine : List ℕ → Type 0
 EndsLine [] = Unit {0}
 EndsLine (x ∷ []) = x ≡ 10
 EndsLine (x ∷ y ∷ more) = EndsLine (y ∷ more)
+
+-- the whole lines that some bytes begin with: behind them no line ends
+abbrev pub WholeLines : List ℕ → List ℕ → Type 0
+WholeLines bytes lines = (rest : List ℕ) × (bytes ≡ lines ++ rest) × EndsLine lines × (list_any (λ x. x == 10) rest ≡ false)
+
+a_broken_line_is_none : WholeLines (codes "ls /" ++ 10 ∷ codes "mk") (codes "ls /" ++ 10 ∷ [])
+a_broken_line_is_none = (codes "mk", refl, refl, refl)
 
 -- For a test that says which lines a machine acts on.
 module _ (is_kept : List ℕ → Bool) where

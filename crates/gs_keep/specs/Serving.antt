@@ -1,11 +1,12 @@
 -- What a run of a store that is kept does with its log, its input and its output.
-use Rattle.std.specs.Prelude.{◌≡◌, ◌++◌, ◌∷◌, ◌⊎◌, ℕ, Bool, true, false, List, [], take, Option, Some, IfSome}
+use Rattle.std.specs.Prelude.{◌≡◌, ◌++◌, ◌∷◌, ◌⊎◌, ℕ, Bool, true, false, List, [], take, Option, Some, IfSome, Result, Ok, Err}
+use Rattle.std.specs.List.{AllByRecursion}
 use Rattle.std.specs.Io.KnownBytes.{Appends}
 use Rattle.gs_keep_log.specs.Log.{Held, MayLeave}
 use Rattle.gs_shell_line.specs.Line.{StaysInLine}
 use Rattle.gs_shell_script.specs.Run.{AnswersLine, lines_of, memory_text, unlines}
 use Rattle.gs_keep.specs.Gathering.{lines_asked}
-use Rattle.gs_keep.specs.Lines.{Asked, log_of, logs}
+use Rattle.gs_keep.specs.Lines.{Asked, MayLog, log_of, logs}
 use Rattle.gs_keep.specs.declared.fault.KeepFault.{KeepFault}
 use Rattle.gs_keep.specs.declared.fault.KeepFault.TheVariants as fault
 
@@ -33,6 +34,16 @@ pub record BreaksOff (texts : List (List ℕ)) (old new : Option (List ℕ)) : T
   pub parts : texts ≡ done ++ last ∷ []
   pub count : ℕ
   pub written : Appends old new (unlines done ++ take count (last ++ 10 ∷ []))
+
+-- ---- the fault
+
+-- a run has ended for a call of the log
+abbrev pub blames_log : {T : Type 0} → Result T KeepFault → Bool
+blames_log (Ok value) = false
+blames_log (Err fault.Memory) = false
+blames_log (Err fault.Read) = false
+blames_log (Err fault.Write) = false
+blames_log (Err fault.Log) = true
 
 -- For a relation that says what may be answered to a line, and a test that says which lines a machine acts on.
 module _ {S : Type 0} (A : S → List ℕ → List ℕ → S → Type 0) (is_kept : List ℕ → Bool) where
@@ -77,7 +88,7 @@ module _ {S : Type 0} (A : S → List ℕ → List ℕ → S → Type 0) (is_kep
   Rounds start false input left log log' out out' end = Serves start input [] log log' out out' end
 
   -- A run that fails: some lines were run, some more were read and not run, and then comes the rest, of whose first line the reader
-  -- may have lost bytes.
+  -- may have lost bytes. Of a line that waits no more may be logged than has to be of one that is answered.
   pub record Stops (start : S) (input : List ℕ) (left : Option (List ℕ)) (end : S) : Type 0 where
     pub asked : List Asked
     pub texts : List (List ℕ)
@@ -86,14 +97,17 @@ module _ {S : Type 0} (A : S → List ℕ → List ℕ → S → Type 0) (is_kep
     pub parts : lines_of input ≡ lines_asked asked ++ (lines_asked waiting ++ lines_of rest)
     pub stays : StaysInLine (Some rest) left
     pub answers : AnswersAll start asked texts end
+    pub logged : AllByRecursion (MayLog is_kept) waiting
 
   -- Memory is lacking to begin: nothing is read. A read fails: each line that was read is logged and answered. A write fails: each
   -- that was read is logged. The log fails: each that was answered is logged, and of those that wait a crash may leave a beginning.
+  abbrev pub FailsAs : KeepFault → (start : S) (input : List ℕ) (left : Option (List ℕ)) (end : S) → Stops start input left end
+      → Option Held → Option Held → Option (List ℕ) → Option (List ℕ) → Type 0
+  FailsAs fault.Memory start input left end s log log' out out' =
+      (s.asked ≡ []) × (s.waiting ≡ []) × (left ≡ Some input) × (log' ≡ log) × (out' ≡ out) × (end ≡ start)
+  FailsAs fault.Read start input left end s log log' out out' = (s.waiting ≡ []) × Appends out out' (unlines s.texts) × Kept log (log_of s.asked) log'
+  FailsAs fault.Write start input left end s log log' out out' = BreaksOff s.texts out out' × Kept log (log_of s.asked ++ log_of s.waiting) log'
+  FailsAs fault.Log start input left end s log log' out out' = Appends out out' (unlines s.texts) × Leaves log (log_of s.asked) (log_of s.waiting) log'
+
   abbrev pub Fails : KeepFault → S → List ℕ → Option (List ℕ) → Option Held → Option Held → Option (List ℕ) → Option (List ℕ) → S → Type 0
-  Fails fault.Memory start input left log log' out out' end = (left ≡ Some input) × (log' ≡ log) × (out' ≡ out) × (end ≡ start)
-  Fails fault.Read start input left log log' out out' end =
-      (s : Stops start input left end) × (s.waiting ≡ []) × Appends out out' (unlines s.texts) × Kept log (log_of s.asked) log'
-  Fails fault.Write start input left log log' out out' end =
-      (s : Stops start input left end) × BreaksOff s.texts out out' × Kept log (log_of s.asked ++ log_of s.waiting) log'
-  Fails fault.Log start input left log log' out out' end =
-      (s : Stops start input left end) × Appends out out' (unlines s.texts) × Leaves log (log_of s.asked) (log_of s.waiting) log'
+  Fails fault start input left log log' out out' end = (s : Stops start input left end) × FailsAs fault start input left end s log log' out out'

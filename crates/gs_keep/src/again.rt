@@ -1,6 +1,6 @@
 // The lines of a log are run again.
-ghost use Rattle.std.specs.Prelude.{◌≡◌, ◌≢◌, true, false, List, ℕ, IfOk, IfErr, IfSome, OnErr, string_bytes, if◌then◌else◌};
-ghost use Rattle.gs_shell_script.specs.Run.{memory_text};
+ghost use Rattle.std.specs.Prelude.{◌≡◌, ◌≢◌, true, false, List, ℕ, IfOk, IfErr, IfSome, OnOk, OnErr, string_bytes, if◌then◌else◌};
+ghost use Rattle.gs_shell_script.specs.Run.{bad_line_text, memory_text};
 ghost use Rattle.gs_keep.specs.Replaying.{RefusesLine, RefusesOne, ReplayFails, Replays, ReplaysOne};
 
 use crate::keeping::Keeping;
@@ -39,6 +39,9 @@ pub trait Progress {
 
     /// All have been.
     fn ended(&mut self, replayed: Replayed);
+
+    /// What stood behind them is cut off.
+    fn cut(&mut self);
 }
 
 /// What comes of the next line.
@@ -48,6 +51,9 @@ pub(crate) enum Replaying {
     /// It was run, and its answer was `refused 33 Memory` or not.
     Line(bool),
 }
+
+/// The answer to a line that is none of the grammar.
+const BAD_LINE: &str = "refused 34 BadLine";
 
 /// Whether an answer says that memory was lacking.
 fn says_memory(answer: &Result<String, AllocError>) -> bool
@@ -66,7 +72,35 @@ fn counted(lacks: bool) -> u64
     if lacks { 1 } else { 0 }
 }
 
-/// Runs one line that was logged. Nothing where it is none of the grammar.
+/// Whether an answer refuses a line as none of the grammar.
+fn says_bad_line(answer: &Result<String, AllocError>) -> bool
+    ensures { IfOk answer.now (λ text. result ≡ false → string_bytes text ≢ bad_line_text) }
+{
+    match answer {
+        Ok(text) => text.as_str() == BAD_LINE,
+        Err(_) => false,
+    }
+}
+
+/// Refuses a line that is none of the grammar.
+fn check_line<M: Keeping>(
+    alloc: Global,
+    machine: &M,
+    line: &[u8],
+    number: u64,
+) -> Result<(), ReplayFault>
+    ensures ok { OnOk result (M.is_kept line.now ≡ true) }
+    ensures err { IfErr result (λ e. RefusesLine M.is_kept number e line.now) }
+{
+    match machine.keeps(alloc, line) {
+        Ok(true) => Ok(()),
+        Ok(false) => Err(ReplayFault::BadLine(number)),
+        Err(_) => Err(ReplayFault::Memory),
+    }
+}
+
+/// Runs one line that was logged. Most answers are given to lines of the grammar alone, so the line is only read once more where its own
+/// may be given to another.
 fn run_logged<M: Keeping>(
     alloc: Global,
     machine: &mut M,
@@ -76,11 +110,12 @@ fn run_logged<M: Keeping>(
     ensures ok { IfOk result (λ lacks. (M.is_kept line.now ≡ true) × (text : List ℕ) × M.Answers machine.old line.now text machine.new × (lacks ≡ false → text ≢ memory_text)) }
     ensures err { IfErr result (λ e. RefusesLine M.is_kept number e line.now) }
 {
-    match machine.keeps(alloc, line) {
-        Ok(true) => Ok(says_memory(&machine.answer(alloc, line))),
-        Ok(false) => Err(ReplayFault::BadLine(number)),
-        Err(_) => Err(ReplayFault::Memory),
+    let answer = machine.answer(alloc, line);
+    let lacks = says_memory(&answer);
+    if lacks || says_bad_line(&answer) {
+        check_line(alloc, machine, line, number)?;
     }
+    Ok(lacks)
 }
 
 /// Runs the next line again.

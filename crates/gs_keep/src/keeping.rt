@@ -3,7 +3,8 @@ use std::alloc::{AllocError, Global};
 
 /// What answers lines, and says which of them may change it.
 pub trait Keeping: Answering {
-    ghost use Rattle.std.specs.Prelude.{◌≡◌, ℕ, Bool, false, List, IfOk};
+    ghost use Rattle.std.specs.Prelude.{◌≡◌, ◌⊎◌, ℕ, Bool, false, List, IfOk};
+    ghost use Rattle.gs_shell_script.specs.Run.{bad_line_text, memory_text};
 
     /// Whether a line given without its end may change anything.
     ghost is_kept: { List ℕ → Bool };
@@ -14,4 +15,7 @@ pub trait Keeping: Answering {
 
     /// Any other line changes nothing.
     ghost changes_nothing: { (old new : Self) (line text : List ℕ) → is_kept line ≡ false → Self.Answers old line text new → new ≡ old };
+
+    /// And it is refused as a bad line, unless memory is lacking for it.
+    ghost is_refused: { (old new : Self) (line text : List ℕ) → is_kept line ≡ false → Self.Answers old line text new → (text ≡ bad_line_text) ⊎ (text ≡ memory_text) };
 }

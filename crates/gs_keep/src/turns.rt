@@ -5,7 +5,7 @@ ghost use Rattle.std.specs.VecDeque.{deque_capacity};
 ghost use Rattle.gs_shell_script.specs.Run.{AppendsBeginning, unlines};
 ghost use Rattle.gs_keep.specs.Lines.{Asked};
 ghost use Rattle.gs_keep.specs.Gathering.{AllWait, Waits};
-ghost use Rattle.gs_keep.specs.Serving.{Answers, AnswersSome, AnswersWaiting, Fails, Kept, Leaves, Rounds, Serves};
+ghost use Rattle.gs_keep.specs.Serving.{Answers, AnswersSome, AnswersWaiting, Fails, Kept, Leaves, Rounds, Serves, blames_log};
 
 use crate::batch::{Batch, Gathered};
 use crate::fault::KeepFault;
@@ -108,7 +108,7 @@ fn round<M: Keeping, L: Log, R: BufRead, W: Write>(
         Rounds M.Answers M.is_kept machine.old more xs (R.remaining reader.new) (L.holds log.old) (L.holds log.new) (W.contents writer.old) (W.contents writer.new) machine.new)) }
     ensures err { IfErr result (λ e. IfSome (R.remaining reader.old) (λ xs.
         Fails M.Answers M.is_kept e machine.old xs (R.remaining reader.new) (L.holds log.old) (L.holds log.new) (W.contents writer.old) (W.contents writer.new) machine.new)) }
-    ensures goes_on { OnOk result (L.has_failed log.new ≡ false) }
+    ensures failed { L.has_failed log.new ≡ blames_log result }
     ensures fault { IfErr result (λ e. e ≢ KeepFault.Memory) }
     ensures room { 0 < deque_capacity batch.new.lines }
     ensures lines { OnOk result (batch.new.lines.items ≡ []) }
@@ -146,6 +146,7 @@ fn rounds<M: Keeping, L: Log, R: BufRead, W: Write>(
         Serves M.Answers M.is_kept machine.old input [] (L.holds log.old) (L.holds log.new) (W.contents writer.old) (W.contents writer.new) machine.new)) }
     ensures err { IfErr result (λ e. IfSome (R.remaining reader.old) (λ input.
         Fails M.Answers M.is_kept e machine.old input (R.remaining reader.new) (L.holds log.old) (L.holds log.new) (W.contents writer.old) (W.contents writer.new) machine.new)) }
+    ensures failed { L.has_failed log.new ≡ blames_log result }
     ensures fault { IfErr result (λ e. e ≢ KeepFault.Memory) }
 {
     for _ in 0..u64::MAX {
@@ -179,6 +180,7 @@ pub fn serve<M: Keeping, L: Log, R: BufRead, W: Write>(
         Serves M.Answers M.is_kept machine.old input [] (L.holds log.old) (L.holds log.new) (W.contents writer.old) (W.contents writer.new) machine.new)) }
     ensures err { IfErr result (λ e. IfSome (R.remaining reader.old) (λ input.
         Fails M.Answers M.is_kept e machine.old input (R.remaining reader.new) (L.holds log.old) (L.holds log.new) (W.contents writer.old) (W.contents writer.new) machine.new)) }
+    ensures failed { L.has_failed log.new ≡ blames_log result }
 {
     let Ok(mut batch) = Batch::new(alloc) else {
         return Err(KeepFault::Memory);

@@ -1,13 +1,14 @@
 //! A log in a file.
 //!
-//! What is proved of it: it is safe, it hands each byte that is appended to the file once and in order, as far as a file tells how much it
-//! took, and says that it has failed exactly where a call of the file has. That the file then holds these bytes behind all others,
-//! that a crash leaves what was synced and any beginning of the rest, and that the lock keeps others out, is trusted: no contract
-//! can say what a file gives or takes, so nothing is claimed of what it holds.
+//! Over a file as `LogFile` says what its calls do, the log does what `gs_keep_log` says of one. What a file of the system does is
+//! trusted: no contract can say what it gives or takes, so of `LogFile for File`, three calls that hand on theirs, nothing is claimed
+//! but that they are safe and end. That the lock keeps others out is trusted too.
 #![tactic(auto)]
 
+mod file;
 mod log;
 mod opening;
 
+pub use file::LogFile;
 pub use log::FileLog;
 pub use opening::{OpenFault, Opened, open};

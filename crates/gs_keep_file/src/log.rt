@@ -1,29 +1,29 @@
-ghost use Rattle.std.specs.Prelude.{◌≡◌, ℕ, None, take, OnOk, OnErr, is_err, is_some};
-ghost use Rattle.std.specs.Io.KnownBytes.{Appends};
+ghost use Rattle.std.specs.Prelude.{◌≡◌, None, OnOk, OnErr, is_err, is_some};
+ghost use Rattle.gs_keep_log.specs.Log.{Does, DoesPart, appended, partly_appended};
 
+use crate::file::LogFile;
 use gs_keep_log::{Failed, Log};
-use std::fs::File;
-use std::io::{self, ErrorKind, Write};
+use std::io::{self, ErrorKind};
 
-/// A file that is open to append to.
+/// A log in a file.
 #[derive(Drop)]
-pub struct FileLog {
-    file: File,
+pub struct FileLog<F> {
+    file: F,
     /// Why a call failed, if one has.
     fault: Option<io::Error>,
 }
 
-/// Writes bytes until all are written. An interrupted write is made again. A writer that takes nothing fails as `WriteZero`.
-fn write_all<W: Write>(writer: &mut W, bytes: &[u8]) -> io::Result<()>
-    ensures ok { OnOk result (Appends (W.contents writer.old) (W.contents writer.new) bytes.now) }
-    ensures err { OnErr result ((count : ℕ) × Appends (W.contents writer.old) (W.contents writer.new) (take count bytes.now)) }
+/// Writes bytes until all are written. An interrupted write is made again. A file that takes nothing fails as `WriteZero`.
+fn write_all<F: LogFile>(file: &mut F, bytes: &[u8]) -> io::Result<()>
+    ensures ok { OnOk result (Does (appended bytes.now) (F.holds file.old) (F.holds file.new)) }
+    ensures err { OnErr result (DoesPart (partly_appended bytes.now) (F.holds file.old) (F.holds file.new)) }
 {
     let mut written = 0;
     for _ in 0..u64::MAX {
         if written == bytes.len() {
             return Ok(());
         }
-        match writer.write(&bytes[written..]) {
+        match file.write_end(&bytes[written..]) {
             Ok(0) => return Err(io::Error::from(ErrorKind::WriteZero)),
             Ok(count) => written += count,
             Err(error) if error.kind() == ErrorKind::Interrupted => {}
@@ -33,27 +33,19 @@ fn write_all<W: Write>(writer: &mut W, bytes: &[u8]) -> io::Result<()>
     Err(io::Error::from(ErrorKind::TimedOut))
 }
 
-/// Cuts a file, and waits until that is on the disk.
-fn cut_and_sync(file: &File, len: u64) -> io::Result<()> {
-    file.set_len(len)?;
-    file.sync_all()
-}
-
-impl FileLog {
-    /// A log in a file that is open to append to, and locked.
-    pub(crate) fn new(file: File) -> FileLog
-        ensures { result.fault ≡ None }
+impl<F> FileLog<F> {
+    /// A log in a file.
+    pub fn new(file: F) -> FileLog<F>
+        ensures file { result.file ≡ file }
+        ensures fault { result.fault ≡ None }
     {
         FileLog { file, fault: None }
     }
 
-    /// Why a call failed, if one has.
-    pub fn fault(&self) -> Option<&io::Error> {
-        self.fault.as_ref()
-    }
-
     /// Why a call failed, if one has. The file is closed.
     pub fn into_fault(self) -> Option<io::Error>
+    where
+        F: Drop,
         ensures { result ≡ self.fault }
     {
         self.fault
@@ -61,6 +53,7 @@ impl FileLog {
 
     /// Notes how a call of the file went.
     fn note(&mut self, outcome: io::Result<()>) -> Result<(), Failed>
+        ensures file { self.new.file ≡ self.old.file }
         ensures failed { is_some self.new.fault ≡ is_err outcome }
         ensures same { is_err result ≡ is_err outcome }
     {
@@ -77,10 +70,10 @@ impl FileLog {
     }
 }
 
-impl Log for FileLog {
-    ghost use Rattle.std.specs.Prelude.{None, is_some};
+impl<F: LogFile> Log for FileLog<F> {
+    ghost use Rattle.std.specs.Prelude.{is_some};
 
-    ghost holds = { λ log. None };
+    ghost holds = { λ log. F.holds log.file };
 
     ghost has_failed = { λ log. is_some log.fault };
 
@@ -90,12 +83,12 @@ impl Log for FileLog {
     }
 
     fn sync(&mut self) -> Result<(), Failed> {
-        let outcome = self.file.sync_data();
+        let outcome = self.file.sync();
         self.note(outcome)
     }
 
     fn cut(&mut self, len: u64) -> Result<(), Failed> {
-        let outcome = cut_and_sync(&self.file, len);
+        let outcome = self.file.cut(len);
         self.note(outcome)
     }
 }

@@ -19,11 +19,11 @@ impl From<io::Error> for OpenFault {
     }
 }
 
-/// A log in a file, with the file once more to read it from.
+/// A log in a file, with a second handle of the same open file to read it from.
 #[derive(Drop)]
 pub struct Opened {
-    pub log: FileLog,
-    /// At the beginning of the file.
+    pub log: FileLog<File>,
+    /// At the beginning of the file. It shares its position with the log, which leaves it behind what it appends.
     pub reader: File,
 }
 
@@ -36,18 +36,18 @@ fn lock(file: &File) -> Result<(), OpenFault> {
     }
 }
 
-/// Opens the file of a log, or makes it, and locks it. As long as what is given lives, no other process that opens it so gets it. No byte of
-/// it is changed.
-pub fn open<R: Files<File = File>>(rt: &R, path: &str) -> Result<Opened, OpenFault>
+/// Opens the file of a log and locks it; one that isn't there is made, if it may be. As long as a part of what is given lives, no
+/// other process that opens the file so gets it. No byte of it is changed.
+pub fn open<R: Files<File = File>>(rt: &R, path: &str, may_make: bool) -> Result<Opened, OpenFault>
     ensures { IfOk result (λ opened. opened.log.fault ≡ None) }
 {
     let file = OpenOptions::new()
         .read(true)
         .append(true)
-        .create(true)
+        .create(may_make)
         .open(rt, path)?;
     lock(&file)?;
-    let reader = File::open(rt, path)?;
+    let reader = file.try_clone()?;
     Ok(Opened {
         log: FileLog::new(file),
         reader,

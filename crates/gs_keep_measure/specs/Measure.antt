@@ -1,14 +1,11 @@
 -- How much of a text is whole lines.
-use Rattle.std.specs.Prelude.{◌≡◌, ◌≢◌, ◌++◌, ℕ, List, length, All}
-use Rattle.gs_keep.specs.Replaying.{EndsLine}
+use Rattle.std.specs.Prelude.{◌≡◌, ◌+◌, ℕ, List, length}
+use Rattle.gs_keep.specs.Replaying.{WholeLines}
 use Rattle.gs_keep_measure.specs.declared.Measure.{Measure}
 
--- The text is whole lines, and behind them bytes without an end of a line.
+-- so many bytes of a text are its whole lines, and so many stand behind them
 pub record Measures (text : List ℕ) (m : Measure) : Type 0 where
-  pub whole : List ℕ
-  pub rest : List ℕ
-  pub parts : text ≡ whole ++ rest
-  pub ends : EndsLine whole
-  pub none : All (λ x. x ≢ 10) rest
-  pub whole_long : length whole ≡ m.whole
-  pub rest_long : length rest ≡ m.rest
+  pub lines : List ℕ
+  pub whole_lines : WholeLines text lines
+  pub whole_long : length lines ≡ m.whole
+  pub all_long : length text ≡ m.whole + m.rest

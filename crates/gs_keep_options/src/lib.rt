@@ -1,13 +1,18 @@
 //! The command line of a store that is kept: its file, and the sizes that are asked for.
 #![tactic(auto)]
 
-ghost use Rattle.std.specs.Prelude.{◌≡◌, is_some, not};
+ghost use Rattle.std.specs.Prelude.{◌≡◌, [], map, false, is_some, not, MatchResult, IfOk, string_bytes};
+ghost use Rattle.clap.specs.Words.{rule_of, rows_of, found_of, matches_of as clap_matches, app_of, with_rule};
+ghost use Rattle.clap.specs.Faults.{fault_of};
 ghost use Rattle.gs_base.specs.Configured.{Configured};
-ghost use Rattle.gs_keep_options.specs.Sizes.{fits, given_or, is_given_as};
+ghost use Rattle.gs_shell_options.specs.Options.{Refuses};
+ghost use Rattle.gs_keep_options.specs.Sizes.{Tells, difference, fits, given_or, is_given_as};
+ghost use Rattle.gs_keep_options.specs.Words.{AskedAs, app, file_rule, number_rule, sizes_in, words_asked};
 
 use clap::error::ErrorKind;
 use clap::{Arg, ArgAction, ArgMatches, Command};
 use gs_base::{Config, Refusal};
+use gs_shell_options::number_in;
 use std::alloc::{AllocError, Global};
 
 /// The sizes that are asked for. What isn't given may be anything.
@@ -65,7 +70,8 @@ impl Sizes {
 
     /// The first size of a store that differs from what is asked for.
     pub fn difference(&self, config: &Config) -> Option<Difference>
-        ensures { is_some result ≡ not (fits self.now config.now) }
+        ensures first { Tells result (difference self.now config.now) }
+        ensures some { is_some result ≡ not (fits self.now config.now) }
     {
         if !is_given_as(self.servers, config.servers) {
             return Some(Difference {
@@ -110,7 +116,10 @@ struct NumberOption<'a> {
     help: &'a str,
 }
 
-fn number_argument<'a>(alloc: Global, option: NumberOption<'a>) -> Arg<'a> {
+fn number_argument<'a>(alloc: Global, option: NumberOption<'a>) -> Arg<'a>
+    ensures rule { rule_of result ≡ number_rule option.entry.name.now }
+    ensures local { result.global ≡ false }
+{
     Arg::new(alloc, option.name)
         .long(option.name)
         .help(option.help)
@@ -123,7 +132,9 @@ fn with_number<'a>(
     alloc: Global,
     command: Command<'a>,
     option: NumberOption<'a>,
-) -> Result<Command<'a>, AllocError> {
+) -> Result<Command<'a>, AllocError>
+    ensures { IfOk result (λ c. app_of c ≡ with_rule (app_of command.entry) (number_rule option.entry.name.now)) }
+{
     command.arg(number_argument(alloc, option))
 }
 
@@ -160,13 +171,23 @@ const BLOCK: NumberOption<'static> = NumberOption {
 const FILE_HELP: &str =
     "The file that the store is kept in, which is made if it isn't there. Sizes that are given must be its own";
 
-/// The command of which clap reads the words.
-fn command<'a>(alloc: Global) -> Result<Command<'a>, AllocError> {
-    let file = Arg::new(alloc, "FILE")
+/// The word that isn't an option's.
+fn file_argument<'a>(alloc: Global) -> Arg<'a>
+    ensures rule { rule_of result ≡ file_rule }
+    ensures local { result.global ≡ false }
+{
+    Arg::new(alloc, "FILE")
         .required(true)
         .help(FILE_HELP)
-        .action(ArgAction::Set);
-    let command = Command::new(alloc, "chunkkeep").arg(file)?;
+        .action(ArgAction::Set)
+}
+
+/// The command of which clap reads the words.
+#[tactic(auto, unfolding(crate::specs::Words::app))]
+fn command<'a>(alloc: Global) -> Result<Command<'a>, AllocError>
+    ensures { IfOk result (λ c. app_of c ≡ app) }
+{
+    let command = Command::new(alloc, "chunkkeep").arg(file_argument(alloc))?;
     let command = with_number(alloc, command, SERVERS)?;
     let command = with_number(alloc, command, RACKS)?;
     let command = with_number(alloc, command, REPLICAS)?;
@@ -174,19 +195,12 @@ fn command<'a>(alloc: Global) -> Result<Command<'a>, AllocError> {
     with_number(alloc, command, BLOCK)
 }
 
-/// The sizes that clap has read.
-fn sizes_in(matches: &ArgMatches<'_>) -> Sizes {
-    Sizes {
-        servers: matches.get_one::<u64>("servers"),
-        racks: matches.get_one::<u64>("racks"),
-        replicas: matches.get_one::<u64>("replicas"),
-        chunk: matches.get_one::<u64>("chunk"),
-        block: matches.get_one::<u64>("block"),
-    }
-}
-
 /// What clap makes of the words.
-fn matches_of<'a>(alloc: Global, words: &'a [String]) -> Result<ArgMatches<'a>, Refusal> {
+fn matches_of<'a>(alloc: Global, words: &'a [String]) -> Result<ArgMatches<'a>, Refusal>
+    ensures { let texts = map string_bytes words.entry.now in MatchResult result
+        (λ m. (fault_of app texts ≡ []) × (rows_of (found_of m) ≡ clap_matches app texts))
+        (λ e. Refuses e (fault_of app texts)) }
+{
     match command(alloc)?.try_get_matches_from(words) {
         Ok(matches) => Ok(matches),
         Err(error) => match error.kind() {
@@ -196,9 +210,24 @@ fn matches_of<'a>(alloc: Global, words: &'a [String]) -> Result<ArgMatches<'a>, 
     }
 }
 
+/// The sizes that clap has read.
+fn sizes_in(matches: &ArgMatches<'_>) -> Sizes
+    ensures { result ≡ sizes_in (rows_of (found_of matches.now)) }
+{
+    Sizes {
+        servers: number_in(matches, "servers"),
+        racks: number_in(matches, "racks"),
+        replicas: number_in(matches, "replicas"),
+        chunk: number_in(matches, "chunk"),
+        block: number_in(matches, "block"),
+    }
+}
+
 /// What the words of the command line ask for, of which the first is the program's own. `Config` refuses words without a file or with two,
 /// an option that isn't there, one that is given twice, a value that is no whole number or lacks, and `--help`.
-pub fn read_words(alloc: Global, words: &[String]) -> Result<Asked, Refusal> {
+pub fn read_words(alloc: Global, words: &[String]) -> Result<Asked, Refusal>
+    ensures { AskedAs result (words_asked (map string_bytes words.now)) }
+{
     let matches = matches_of(alloc, words)?;
     let Some(path) = matches.get_str("FILE") else {
         return Err(Refusal::Config);

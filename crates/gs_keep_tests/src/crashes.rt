@@ -5,14 +5,27 @@ use gs_keep_log::{Fault, MemoryLog};
 use gs_keep_measure::measure_all;
 use gs_nodes::empty_disks;
 use gs_shell_desk::Desk;
-use std::alloc::Global;
+use std::alloc::{AllocError, Global};
 use std::io::{self, BufReader};
 use std::test::Fail;
 
-const SCRIPT: &[u8] =
-    b"mkdir /a\ncreate /a/f\nappend /a/f 6162\nrollingUpgrade prepare\nappend /a/f 63\nread /a/f 0 9\nrollingUpgrade rollback\nread /a/f 0 9\n";
+/// A script, and what a store answers to it.
+#[derive(Clone, Copy)]
+struct Told<'a> {
+    script: &'a [u8],
+    answers: &'a [u8],
+}
 
-const ANSWERS: &[u8] = b"ok\nok\nok 0\nok 1\nok 2\nok 616263\nok 2\nok 6162\n";
+const SHORT: Told<'static> = Told {
+    script: b"mkdir /a\ncreate /a/f\nappend /a/f 6162\nrollingUpgrade prepare\nappend /a/f 63\nread /a/f 0 9\nrollingUpgrade rollback\nread /a/f 0 9\n",
+    answers: b"ok\nok\nok 0\nok 1\nok 2\nok 616263\nok 2\nok 6162\n",
+};
+
+/// The lines of a long script.
+const LINES: u64 = 10_000;
+
+/// The places where its log is cut.
+const PLACES: usize = 200;
 
 /// What a call of the log does that doesn't fail.
 const NO_FAULT: Fault = Fault {
@@ -28,6 +41,8 @@ impl Progress for Nobody {
     fn passed(&mut self, _lines: u64) {}
 
     fn ended(&mut self, _replayed: Replayed) {}
+
+    fn cut(&mut self) {}
 }
 
 /// What a run answered, and its log.
@@ -51,7 +66,7 @@ fn kept_on(
         Err(unopened) => return Err(Fail::from(unopened.refusal)),
     };
     let mut log = MemoryLog::new(alloc, Vec::from_slice(alloc, logged)?, fault);
-    let mut lines = BufReader::new(alloc, logged)?;
+    let mut lines = logged;
     let mut reader = BufReader::with_capacity(alloc, most, input)?;
     let mut answers = Vec::new(alloc);
     let len = logged.len() as u64;
@@ -74,21 +89,26 @@ fn lines_in(text: &[u8]) -> usize {
 }
 
 /// What is wrong where a crash leaves this of a log, once so much was answered.
-fn fault_behind(alloc: Global, left: &[u8], answers: &[u8]) -> Result<&'static str, Fail> {
-    if !SCRIPT.starts_with(left) || !ANSWERS.starts_with(answers) {
+fn fault_behind(
+    alloc: Global,
+    told: Told<'_>,
+    left: &[u8],
+    answered: &[u8],
+) -> Result<&'static str, Fail> {
+    if !told.script.starts_with(left) || !told.answers.starts_with(answered) {
         return Ok("the log or the answers differ");
     }
-    if lines_in(left) < lines_in(answers) {
+    if lines_in(left) < lines_in(answered) {
         return Ok("a line was answered that isn't in the log");
     }
     let measure = measure_all(&mut BufReader::new(alloc, left)?)?;
     let whole = measure.whole as usize;
-    let (Some(logged), Some(rest)) = (left.get(..whole), SCRIPT.get(whole..)) else {
+    let (Some(logged), Some(rest)) = (left.get(..whole), told.script.get(whole..)) else {
         return Ok("the log is measured wrongly");
     };
     let again = kept_on(alloc, logged, rest, 64, NO_FAULT)?;
-    if !ANSWERS.ends_with(&again.answers)
-        || lines_in(logged).saturating_add(lines_in(&again.answers)) != lines_in(ANSWERS)
+    if !told.answers.ends_with(&again.answers)
+        || lines_in(logged).saturating_add(lines_in(&again.answers)) != lines_in(told.answers)
     {
         return Ok("it doesn't go on as if nothing had been");
     }
@@ -97,10 +117,10 @@ fn fault_behind(alloc: Global, left: &[u8], answers: &[u8]) -> Result<&'static s
 
 /// What is wrong where a call of the log fails, whatever a crash leaves then.
 fn fault_at(alloc: Global, most: usize, fault: Fault) -> Result<&'static str, Fail> {
-    let ran = kept_on(alloc, b"", SCRIPT, most, fault)?;
+    let ran = kept_on(alloc, b"", SHORT.script, most, fault)?;
     for count in 0..=ran.log.unsynced() {
         let left = ran.log.left(count)?;
-        let wrong = fault_behind(alloc, &left, &ran.answers)?;
+        let wrong = fault_behind(alloc, SHORT, &left, &ran.answers)?;
         if !wrong.is_empty() {
             return Ok(wrong);
         }
@@ -108,11 +128,23 @@ fn fault_at(alloc: Global, most: usize, fault: Fault) -> Result<&'static str, Fa
     Ok("")
 }
 
+/// How many of the lines are answered where that many calls of the log pass.
+fn answered_behind(alloc: Global, most: usize, calls: u64) -> Result<usize, Fail> {
+    let ran = kept_on(alloc, b"", SHORT.script, most, Fault { calls, count: 0 })?;
+    Ok(lines_in(&ran.answers))
+}
+
 // The lines come one by one, some at a time, and all at once. Each append and each sync fails, with nothing of it done, some or all, and a
-// crash leaves each length of what isn't synced.
+// crash leaves each length of what isn't synced. There are just so many calls: one less, and lines aren't answered.
 #[test]
 fn each_crash_is_gone_on_from(rt: HostRuntime) -> Result<(), Fail> {
+    let lines = lines_in(SHORT.answers);
     for (most, calls) in [(8, 17), (40, 9), (1_000, 3)] {
+        assert_eq!(rt; answered_behind(rt.alloc(), most, calls)?, lines, "{most}");
+        assert!(rt;
+            answered_behind(rt.alloc(), most, calls - 1)? < lines,
+            "{most}"
+        );
         for calls in 0..calls {
             for count in [0, 7, usize::MAX] {
                 let fault = Fault { calls, count };
@@ -123,6 +155,56 @@ fn each_crash_is_gone_on_from(rt: HostRuntime) -> Result<(), Fail> {
                 );
             }
         }
+    }
+    Ok(())
+}
+
+/// A line of a long script: files of a directory, some of which get bytes, are read or moved, upgrades that are rolled back, and
+/// between them moments, which cost least.
+fn long_line(alloc: Global, number: u64) -> Result<String, AllocError> {
+    let file = number / 100 * 100 + 11;
+    match (number % 2_500, number % 100) {
+        (0, _) => format!(in alloc; "mkdir /a\n"),
+        (1_000, _) => format!(in alloc; "rollingUpgrade prepare\n"),
+        (2_000, _) => format!(in alloc; "rollingUpgrade rollback\n"),
+        (_, 11 | 31 | 51) => format!(in alloc; "create /a/{number}\n"),
+        (_, 13) => format!(in alloc; "append /a/{file} 6162\n"),
+        (_, 15) => format!(in alloc; "read /a/{file} 0 9\n"),
+        (_, 17) => format!(in alloc; "mv /a/{file} /a/m{file}\n"),
+        _ => format!(in alloc; "at {number}\n"),
+    }
+}
+
+fn long_script(alloc: Global) -> Result<Vec<u8>, AllocError> {
+    let mut script = Vec::new(alloc);
+    for number in 0..LINES {
+        script.extend_from_slice(long_line(alloc, number)?.as_bytes())?;
+    }
+    Ok(script)
+}
+
+/// How many of the bytes are left where they are cut at a place, within a line or not.
+fn cut_at(bytes: &[u8], place: usize) -> usize {
+    (bytes.len() / PLACES)
+        .saturating_mul(place)
+        .saturating_add(place)
+}
+
+// A log of 10,000 lines is cut at each of 200 places, opened again and gone on with.
+#[test]
+fn a_long_log_is_gone_on_from_wherever_it_is_cut(rt: HostRuntime) -> Result<(), Fail> {
+    let script = long_script(rt.alloc())?;
+    let ran = kept_on(rt.alloc(), b"", &script, 4_096, NO_FAULT)?;
+    let log = ran.log.left(0)?;
+    let told = Told {
+        script: &script,
+        answers: &ran.answers,
+    };
+    assert_eq!(rt; lines_in(told.answers) as u64, LINES);
+    assert_eq!(rt; log.len(), script.len());
+    for place in 0..PLACES {
+        let left = log.get(..cut_at(&log, place)).unwrap_or(&log);
+        assert_eq!(rt; fault_behind(rt.alloc(), told, left, b"")?, "", "{place}");
     }
     Ok(())
 }

@@ -130,8 +130,8 @@ fn matches_of<'a>(alloc: Global, words: &'a [String]) -> Result<ArgMatches<'a>, 
     }
 }
 
-/// The number of an option.
-fn number_in(matches: &ArgMatches<'_>, id: &str) -> Option<u64>
+/// The number of an option among those that clap has read. Nothing where it isn't given, or is given as no number of 64 bits.
+pub fn number_in(matches: &ArgMatches<'_>, id: &str) -> Option<u64>
     ensures { result ≡ number_in id.now (rows_of (found_of matches.now)) }
 {
     matches.get_one::<u64>(id)

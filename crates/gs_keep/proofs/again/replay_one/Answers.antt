@@ -1,7 +1,6 @@
-use Rattle.std.proofs.Common.{◌≡◌, [], List, ℕ, ap, length, refl, ◌∙◌, Some}
+use Rattle.std.proofs.Common.{ap, length, refl}
 use Rattle.std.proofs.BufReadLemmas.{take_through-nil}
-use Rattle.std.specs.Io.BufRead.{take_through, drop_through}
-use Rattle.gs_keep.proofs.Weaken.{if_some, if_some₂}
+use Rattle.gs_keep.proofs.Weaken.{if_some}
 use Rattle.gs_keep.proofs.again.replay_one.Goals as goal
 
 pub returns-in-End-clause-ok : goal.returns-in-End-clause-ok

@@ -1,6 +1,5 @@
-use Rattle.std.proofs.Common.{◌≡◌, ◌∙◌, true, false, true≢false, List, ℕ, ap, sym, codes, nat_eq}
+use Rattle.std.proofs.Common.{◌∙◌, true≢false, List, ℕ, ap, sym, codes, nat_eq}
 use Rattle.std.specs.Cmp.Lexicographic.{pointwise}
-use Rattle.gs_shell_script.specs.Run.{memory_text}
 use Rattle.gs_keep.proofs.Asking.{memory_is}
 use Rattle.gs_keep.proofs.again.says_memory.Goals as goal
 

@@ -17,7 +17,7 @@ loop-preserved g c =
     let more : c.in_ok-round.field-0 ≡ true = search rules in
     let turn = rw more at c.in_ok-round.ensures.ok in
     record {
-      goes_on = c.in_ok-round.ensures.goes_on;
+      goes_on = c.in_ok-round.ensures.failed;
       room = c.round.ensures.room;
       lines = c.in_ok-round.ensures.lines;
       bytes = c.in_ok-round.ensures.bytes;

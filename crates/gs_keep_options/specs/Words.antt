@@ -1,0 +1,58 @@
+-- What the words of a command line ask for.
+use Rattle.std.specs.Prelude.{◌≡◌, true, List, codes, string_bytes, if◌then◌else◌, Option, Some, None, Result, Ok, Err}
+use Rattle.std.specs.Option.{option_map}
+use Rattle.clap.specs.Faults.{fault_of}
+use Rattle.clap.specs.Walk.{is_empty}
+use Rattle.clap.specs.Words.{App, Rule, Row, Text, new_app, new_rule, with_rule, matches_of, first_of}
+use Rattle.clap.specs.declared.builder.ArgAction.TheVariants.{Set}
+use Rattle.clap.specs.declared.builder.value_parser.ValueParser.TheVariants as vp
+use Rattle.gs_base.specs.declared.refusal.Refusal.{Refusal}
+use Rattle.gs_base.specs.declared.refusal.Refusal.TheVariants as refusal
+use Rattle.gs_shell_options.specs.Options.{named_rule, number_in}
+use Rattle.gs_keep_options.specs.declared.Asked.{Asked}
+use Rattle.gs_keep_options.specs.declared.Sizes.{Sizes}
+
+-- an option that takes a whole number below 2 ^ 64
+abbrev pub number_rule : Text → Rule
+number_rule name = record (named_rule name Set) { value_names = 1; parser = Some (vp.Unsigned 0 18446744073709551615) }
+
+-- the word that is no option's
+abbrev pub file_rule : Rule
+file_rule = record (new_rule (codes "FILE")) { required = true; action = Some Set }
+
+unfoldable pub app : App
+app = with_rule (with_rule (with_rule (with_rule (with_rule (with_rule (new_app (codes "chunkkeep"))
+    file_rule)
+    (number_rule (codes "servers")))
+    (number_rule (codes "racks")))
+    (number_rule (codes "replicas")))
+    (number_rule (codes "chunk")))
+    (number_rule (codes "block"))
+
+abbrev pub sizes_in : List Row → Sizes
+sizes_in rows = record {
+  servers = number_in (codes "servers") rows;
+  racks = number_in (codes "racks") rows;
+  replicas = number_in (codes "replicas") rows;
+  chunk = number_in (codes "chunk") rows;
+  block = number_in (codes "block") rows;
+}
+
+-- a file, and the sizes that are given
+pub record Asks : Type 0 where
+  pub path : Text
+  pub sizes : Sizes
+
+abbrev pub rows_asked : List Row → Option Asks
+rows_asked rows = option_map (λ path. record { path = path; sizes = sizes_in rows }) (first_of (codes "FILE") rows)
+
+-- what the words of a command line ask for, of which the first is the program's own
+abbrev pub words_asked : List Text → Option Asks
+words_asked words = if is_empty (fault_of app words) then rows_asked (matches_of app words) else None
+
+-- what is asked for, and Config exactly where nothing is, unless memory ran out
+abbrev pub AskedAs : Result Asked Refusal → Option Asks → Type 0
+AskedAs (Ok asked) asks = asks ≡ Some (record { path = string_bytes asked.path; sizes = asked.sizes })
+AskedAs (Err refusal.Config) asks = asks ≡ None
+AskedAs (Err refusal.Memory) asks = Unit {0}
+AskedAs (Err _) asks = ⊥
