@@ -6,16 +6,17 @@ use Rattle.std.proofs.lemmas.Bool.{and_from, and_parts}
 use Rattle.gs_base.specs.declared.config.Config.{Config}
 use Rattle.gs_master_laws.proofs.Counters.{keeps_given}
 use Rattle.gs_master_moves.proofs.Fitting.{chain_leaves, cuts_are_beginnings, once_chain, split}
-use Rattle.gs_master_moves.proofs.Listed.{over_records, stays_given}
+use Rattle.gs_master_moves.proofs.Listed.{over_records}
 use Rattle.gs_master_moves.proofs.Stands.{no_whole, plain, plain_records}
 use Rattle.gs_master_moves.specs.Epochs.{EndsOnce}
 use Rattle.gs_master_moves.specs.Guards.{Heard, IsMade}
 use Rattle.gs_master_moves.specs.Laws.{IsCutAt, IsMadeWell}
-use Rattle.gs_master_moves.specs.Moves.{Chain, Checkpoints, Move, Moves, Rests, Then, move_turn}
+use Rattle.gs_master_moves.specs.Moves.{Chain, Checkpoints, Move, move_turn}
 use Rattle.gs_master_record.specs.Plain.{PlainEntry}
 use Rattle.gs_master_spec.specs.Applied.{is_whole_entry, replayed}
 use Rattle.gs_master_spec.specs.Durable.{Durable, is_given}
 use Rattle.gs_master_spec.specs.State.{State, Turn}
+use Rattle.gs_master_copies.proofs.Told.{chain_given}
 
 abbrev GivenOn : ℕ → Durable → Durable → Type 0
 GivenOn chunk d e = is_given d.next_handle chunk ≡ true → is_given e.next_handle chunk ≡ true
@@ -36,11 +37,6 @@ part_or_all (suc many) (x ∷ xs) = one_more (part_or_all many xs)
     one_more (inr same) = inr (ap (λ ys. x ∷ ys) same)
 
 module _ (config : Config) (heard : Heard) (chunk : ℕ) where
-  chain_given : (s : State) (t : Turn) → Chain config (IsMadeWell config heard) s t → GivenOn chunk s.durable t.after.durable
-  chain_given s t (Rests u said) given = given
-  chain_given s t (Moves u move said made) given = stays_given config heard u move chunk made.made given
-  chain_given s t (Then u first next a b) given = chain_given first.after next b (chain_given u first a given)
-
   -- over some records of a move, but not all
   part_given : (s : State) (move : Move) (many : ℕ) (d : Durable) → IsMade config heard s move → many < length (move_turn config s move).records → replayed s.durable (take many (move_turn config s move).records) ≡ Some d → GivenOn chunk s.durable d
   part_given s Checkpoints many d made within fit = by_none many within fit
@@ -56,7 +52,7 @@ module _ (config : Config) (heard : Heard) (chunk : ℕ) where
   cut_given s t place d c fit given =
       let parts = split c.before.records (take c.many (move_turn config c.before.after c.move).records) s.durable d (ap (replayed s.durable) (sym c.stand) ∙ fit) in
       let left = chain_leaves config heard (IsMadeWell config heard) (λ u move made. made.made.may) s c.before parts.mid c.chain parts.first in
-      part_given c.before.after c.move c.many d c.holds.made c.within (subst (λ m. replayed m (take c.many (move_turn config c.before.after c.move).records) ≡ Some d) (sym left) parts.then) (chain_given s c.before c.chain given)
+      part_given c.before.after c.move c.many d c.holds.made c.within (subst (λ m. replayed m (take c.many (move_turn config c.before.after c.move).records) ≡ Some d) (sym left) parts.then) (chain_given config heard chunk s c.before c.chain given)
 
   -- So it is where the first records of a turn stand, or all.
   pub stays_given_cut : (s : State) (t : Turn) (many : ℕ) (d : Durable) → EndsOnce config (IsMadeWell config heard) s t → replayed s.durable (take many t.records) ≡ Some d → GivenOn chunk s.durable d
@@ -69,4 +65,4 @@ module _ (config : Config) (heard : Heard) (chunk : ℕ) where
       by_part (inl within) = cut_given s t many d (cuts_are_beginnings (IsMadeWell config heard) config s t many chain within) fit
       by_part (inr all) =
           let left = chain_leaves config heard (IsMadeWell config heard) (λ u move made. made.made.may) s t d chain (ap (replayed s.durable) (sym all) ∙ fit) in
-          λ given. subst (λ (e : Durable). is_given e.next_handle chunk ≡ true) left (chain_given s t chain given)
+          λ given. subst (λ (e : Durable). is_given e.next_handle chunk ≡ true) left (chain_given config heard chunk s t chain given)

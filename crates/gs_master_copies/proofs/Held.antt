@@ -49,12 +49,12 @@ use Rattle.gs_master_copies.proofs.Slots.{add_slot, edit_slot, leaves_names, nam
 use Rattle.gs_master_copies.proofs.Unleased.{asks_lease, move_unled}
 use Rattle.gs_master_copies.proofs.Waiting.{AllIn, BegunIn, move_waits}
 
-all_at : (P : Pending → Type 0) (ps : List Pending) (p : Pending) → AllIn P ps → IsIn p ps → P p
+pub all_at : (P : Pending → Type 0) (ps : List Pending) (p : Pending) → AllIn P ps → IsIn p ps → P p
 all_at P [] p all here = absurd here
 all_at P (q ∷ ps) p all (inl same) = subst P same all.0
 all_at P (q ∷ ps) p all (inr here) = all_at P ps p all.1 here
 
-each_in : (P Q : Pending → Type 0) (ps : List Pending) → ((p : Pending) → IsIn p ps → P p → Q p) → AllIn P ps → AllIn Q ps
+pub each_in : (P Q : Pending → Type 0) (ps : List Pending) → ((p : Pending) → IsIn p ps → P p → Q p) → AllIn P ps → AllIn Q ps
 each_in P Q [] f all = tt
 each_in P Q (p ∷ ps) f all = (f p (inl refl) all.0, each_in P Q ps (λ q here. f q (inr here)) all.1)
 
@@ -183,7 +183,7 @@ module _ (config : Config) (heard : Heard) (s : State) where
     changed_slots (Replaces at i old new) well within other left p here path place visible index c is = absurd (true≢false other)
     changed_slots move well within other left p here path place visible index c is = absurd (true≢false left)
 
-    slots : (move : Move) → IsMadeWell config heard s move → is_commit move ≡ false → is_replacing move ≡ false → (p : Pending) → IsIn p s.volatile.pending → (path : Path) (index c : ℕ) → place_path p.waits ≡ Some path → is_visible path ≡ true → slot s.durable.names path index ≡ Some c
+    pub slots : (move : Move) → IsMadeWell config heard s move → is_commit move ≡ false → is_replacing move ≡ false → (p : Pending) → IsIn p s.volatile.pending → (path : Path) (index c : ℕ) → place_path p.waits ≡ Some path → is_visible path ≡ true → slot s.durable.names path index ≡ Some c
         → slot (move_turn config s move).after.durable.names path index ≡ Some c
     slots move well within other p here path index c place visible is = by_leaves (leaves move) refl
       where
@@ -251,18 +251,18 @@ module _ (config : Config) (heard : Heard) (s : State) where
       abbrev u : State
       u = (move_turn config s (Replaces at i before made_new)).after
 
-      names_are : edited_names (Cow at i before made_new) s.durable.names ≡ Ok u.durable.names
+      pub names_are : edited_names (Cow at i before made_new) s.durable.names ≡ Ok u.durable.names
       names_are = names_given s.durable u.durable own_request (Cow at i before made_new) (one_fits s.durable u.durable (Edited own_request (Cow at i before made_new)) well.made.fits)
 
       -- who holds the file is the call that waits for this copy
-      its_call : (path : Path) → place_path p.waits ≡ Some path → at ≡ path → p.waits ≡ waits.Copy at i before made_new
+      pub its_call : (path : Path) → place_path p.waits ≡ Some path → at ≡ path → p.waits ≡ waits.Copy at i before made_new
       its_call path held same =
           let e = one_so well.made.may.3.0 (waits_for_copy at i before made_new) s.volatile.pending well.made.may.3.1 in
           let that = is_that at i before made_new e.0.waits e.3 in
           let one = apart_once s.volatile.pending e.0 p k.locks.apart e.1 here (k.locks.alone e.0 p e.1 here path (ap place_path that ∙ ap Some same) held) in
           ap (λ (z : Pending). z.waits) (sym one) ∙ that
 
-      elsewhere : (path : Path) (index c : ℕ) → same_path at path ≡ false → slot s.durable.names path index ≡ Some c → slot u.durable.names path index ≡ Some c
+      pub elsewhere : (path : Path) (index c : ℕ) → same_path at path ≡ false → slot s.durable.names path index ≡ Some c → slot u.durable.names path index ≡ Some c
       elsewhere path index c other is = edit_slot (Cow at i before made_new) s.durable.names u.durable.names path index c well.before.names names_are (ap not other) is
 
       by_waits : (w : Waiting) → p.waits ≡ w → HoldsPlace s w → HoldsPlace u w
@@ -412,26 +412,26 @@ module _ (config : Config) (heard : Heard) where
   chain_held s t (Moves u move said made) k = move_held config heard u k move made.0 made.1
   chain_held s t (Then u first next a b) k = chain_held first.after next b (chain_held u first a k)
 
-  within_commit : (move : Move) → is_alone move ≡ false → is_commit move ≡ false
+  pub within_commit : (move : Move) → is_alone move ≡ false → is_commit move ≡ false
   within_commit (CommitsRollback req names) h = absurd (true≢false h)
   within_commit move h = refl
 
-  closing_commit : (move : Move) → closes move ≡ true → is_commit move ≡ false
+  pub closing_commit : (move : Move) → closes move ≡ true → is_commit move ≡ false
   closing_commit (CommitsRollback req names) h = absurd (false≢true h)
   closing_commit move h = refl
 
-  followed_commit : (move : Move) → is_followed move ≡ true → is_commit move ≡ false
+  pub followed_commit : (move : Move) → is_followed move ≡ true → is_commit move ≡ false
   followed_commit (CommitsRollback req names) h = absurd (false≢true h)
   followed_commit move h = refl
 
   -- behind the commit of a rollback no call waits
-  committed : (s : State) (move : Move) → IsMadeWell config heard s move → is_commit move ≡ true → (is_rolling s.durable.phase ≡ true → s.volatile.pending ≡ []) → AreHeld (move_turn config s move).after
-  committed s (CommitsRollback req names) well is calm = none_held _ (nothing_in _ (move_waits (λ p. ⊥) config s (CommitsRollback req names) (subst (AllIn (λ p. ⊥)) (sym (calm well.made.may.rolling)) tt) tt))
+  pub none_waits : (s : State) (move : Move) → IsMadeWell config heard s move → is_commit move ≡ true → (is_rolling s.durable.phase ≡ true → s.volatile.pending ≡ []) → (move_turn config s move).after.volatile.pending ≡ []
+  none_waits s (CommitsRollback req names) well is calm = nothing_in _ (move_waits (λ p. ⊥) config s (CommitsRollback req names) (subst (AllIn (λ p. ⊥)) (sym (calm well.made.may.rolling)) tt) tt)
     where
       nothing_in : (ps : List Pending) → AllIn (λ p. ⊥) ps → ps ≡ []
       nothing_in [] all = refl
       nothing_in (p ∷ ps) all = absurd all.0
-  committed s move well is calm = absurd (false≢true is)
+  none_waits s move well is calm = absurd (false≢true is)
 
   -- So it is of each turn of a master where none waits while a rollback goes on.
   pub turn_held : (s : State) (t : Turn) → EndsOnce config (IsMadeWell config heard) s t → (is_rolling s.durable.phase ≡ true → s.volatile.pending ≡ []) → AreHeld s → AreHeld t.after
@@ -439,7 +439,7 @@ module _ (config : Config) (heard : Heard) where
   turn_held s t (ByItself u move said made alone) calm k = by_test (is_commit move) refl
     where
       by_test : (b : Bool) → is_commit move ≡ b → AreHeld (move_turn config u move).after
-      by_test true is = committed u move made is calm
+      by_test true is = none_held _ (none_waits u move made is calm)
       by_test false is = move_held config heard u k move made is
   turn_held s t (Closes u move said next made followed chain) calm k =
       chain_held (move_turn config u move).after next (mapped config _ _ (λ z m one. (one.0, closing_commit m one.1)) (move_turn config u move).after next chain) (move_held config heard u k move made (followed_commit move followed))

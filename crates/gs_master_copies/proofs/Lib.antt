@@ -1,11 +1,12 @@
 pub mod Waiting
-pub mod Bare
-pub mod Added
 pub mod Unleased
 pub mod Locks
 pub mod Locked
 pub mod Counted
 pub mod Slots
 pub mod Held
+pub mod Told
+pub mod Put
+pub mod Waited
 pub mod Made
 pub mod Given

@@ -45,7 +45,7 @@ use Rattle.gs_master_moves.proofs.Right.{one_fits}
 use Rattle.gs_master_moves.specs.Epochs.{ByItself, Closes, EndsOnce, Within, closes, is_alone, is_followed}
 use Rattle.gs_master_moves.specs.Guards.{Heard, IsBegunBy, IsCopyFromNow, IsCopyFurther, IsMade, ask_nobody, asks_nobody, asks_nobody_about, is_lease_wait, is_of_tree, is_tree_wait, waits_for_copy}
 use Rattle.gs_master_moves.specs.Moves.{Alone, Beside, Chain, FromNow, Further, Move, Moves, Rests, Then, Begins, Makes, Copies, Hears, Sends, Settles, Edits, Extends, CopiesTree, Replaces, Scans, Refuses, Answers as AnswersCall, Waits, Restores, Says, Flags, Prepares, Finalizes, BeginsRollback, TellsRollback, CommitsRollback, Checkpoints, move_turn}
-use Rattle.gs_master_copies.proofs.Bare.{copies_given, makes_given, next_ungiven}
+use Rattle.gs_master_copies.proofs.Told.{copies_given, makes_given, next_ungiven}
 use Rattle.gs_master_copies.proofs.Held.{is_replacing, is_that}
 use Rattle.gs_master_copies.proofs.Waiting.{BegunIn, all_in_weaker, move_waits, one_waiting}
 use Rattle.gs_master_copies.specs.Made.{AreOfCopies, IsOfCopy, MakeNone, MakesNone, PutsCopy}

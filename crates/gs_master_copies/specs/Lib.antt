@@ -1,3 +1,3 @@
-pub mod Bare
+pub mod Told
 pub mod Held
 pub mod Made

@@ -1,15 +1,15 @@
 //! What stands of new chunks that calls wait for: which of them are copies, and of what.
 #![tactic(auto)]
 
-ghost use Rattle.gs_master_copies.specs.Bare.{AddedAreBare, BareStays};
+ghost use Rattle.gs_master_copies.specs.Told.{NewStay, PutAreNew};
 ghost use Rattle.gs_master_copies.specs.Held.{HeldStarts, HeldStays};
 ghost use Rattle.gs_master_copies.specs.Made.{CopiesAreUnmade, UnmadeStays};
 
-/// A new chunk for which a call waits to put it at the end of a file was told to no server as a copy, and nor was one whose handle isn't given: so it stays through each turn. So what a
-/// turn puts at the end of a file is no copy; it was in no file, and is in one behind the turn.
-pub fn a_chunk_that_is_added_is_no_copy()
-    ensures stays { BareStays }
-    ensures added { AddedAreBare }
+/// A new chunk for which a call waits to put it at the end of a file was told to no server as a copy; one for which a call waits to put it in the place of another was told as a copy of that alone; and one whose handle
+/// isn't given was told as a copy of none: so it stays through each turn. So it is of what a turn puts into a file; that was in no file, and is in one behind the turn.
+pub fn new_chunks_are_told_as_calls_wait_for_them()
+    ensures stays { NewStay }
+    ensures put { PutAreNew }
 {}
 
 /// A call that waits to copy a chunk at a place of a file, or for that copy, has the locks of its path, and no other call holds a place of that file. The chunk stands at the place, till the copy that

@@ -114,7 +114,7 @@ only_posts moment messages old new (inl (after, appends, is)) = inl (after, appe
 only_posts moment messages old new (inr is) = inr (ap only_master is)
 
 -- what the master has said then it had said before, or it says it now
-said_before : (P : Message → Type 0) (moment : Moment) (messages : List Message) (old new : Sent) → Posts moment nodes.Master messages old new → AllByRecursion P messages → (message : Message) → HasSaid new message → HasSaid old message ⊎ P message
+pub said_before : (P : Message → Type 0) (moment : Moment) (messages : List Message) (old new : Sent) → Posts moment nodes.Master messages old new → AllByRecursion P messages → (message : Message) → HasSaid new message → HasSaid old message ⊎ P message
 said_before P moment messages old new posts all message said =
     posted_all (λ (m : Message). HasSaid old m ⊎ P m) moment nodes.Master messages (only_master old) (only_master new) (only_posts moment messages old new posts) first (each messages all)
     (record { sender = nodes.Master; place = said.0 }) message said.1
@@ -321,7 +321,7 @@ module _ {D : Type 0} (x : Setup D) (chunk : ℕ) where
 -- ---- lists
 
 -- a list in which nobody may number is what it was
-lists_same : HaveSizes → AreNumbered → {D : Type 0} (x : Setup D) (old now : History D) (before a : Account) (steps : List Step) (source : ℕ) (at : Stamp) (view : View) → IsReached x old before → Runs x steps old before now a → view_at before source ≡ Some view → view.stamp ≡ at → view.term ≡ None → a.list source at ≡ before.list source at
+pub lists_same : HaveSizes → AreNumbered → {D : Type 0} (x : Setup D) (old now : History D) (before a : Account) (steps : List Step) (source : ℕ) (at : Stamp) (view : View) → IsReached x old before → Runs x steps old before now a → view_at before source ≡ Some view → view.stamp ≡ at → view.term ≡ None → a.list source at ≡ before.list source at
 lists_same sizes law x old now before a steps source at view r runs told under unled =
     let sees = each_sees_on_through sizes law x old now before a steps r runs in
     let living = living_told x sees.asked (left_in old) before sees.first source (is_told (fin.get before.durable.chunks source) told) in

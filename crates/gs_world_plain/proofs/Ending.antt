@@ -78,12 +78,17 @@ finalized_is : (d next : Durable) (epoch : ℕ) → applied d (Finalize epoch) �
 unfolding applied
 finalized_is d next epoch is = sym (ap (λ (x : Durable). x.phase) (fits_gives (is_upgrade d.phase && is_next_epoch d.epoch epoch) (without_prepared (with_epoch d ends.Finalize Ordinary)) next is).1)
 
-committed_is : (d next : Durable) (epoch : ℕ) (answers : List Answered) (names : NamesView) → all_undone d.inverses d.names ≡ Some names → applied d (RollbackCommit epoch answers) ≡ Some next → next.phase ≡ Ordinary
+pub committed_is : (d next : Durable) (epoch : ℕ) (answers : List Answered) (names : NamesView) → all_undone d.inverses d.names ≡ Some names → applied d (RollbackCommit epoch answers) ≡ Some next → next.phase ≡ Ordinary
 unfolding applied
 committed_is d next epoch answers names back is =
     sym (ap (λ (x : Durable). x.phase) (fits_gives (is_rolling d.phase && ((epoch == d.epoch) && are_answers (prepared_view d) (fin.entries names.refs) answers)) (rolled_back d answers names) next (ap (after_undoing d epoch answers) (sym back) ∙ is)).1)
 
-prepared_is : (before : ℕ → List ℕ) (d next : Durable) (epoch moment chunks : ℕ) → applied d (Prepare epoch moment chunks) ≡ Some next → kept_in before next.phase (all_undone next.inverses next.names) ≡ kept_in before Upgrade (Some d.names)
+pub committed_names : (d next : Durable) (epoch : ℕ) (answers : List Answered) (names : NamesView) → all_undone d.inverses d.names ≡ Some names → applied d (RollbackCommit epoch answers) ≡ Some next → next.names ≡ names
+unfolding applied
+committed_names d next epoch answers names back is =
+    sym (ap (λ (x : Durable). x.names) (fits_gives (is_rolling d.phase && ((epoch == d.epoch) && are_answers (prepared_view d) (fin.entries names.refs) answers)) (rolled_back d answers names) next (ap (after_undoing d epoch answers) (sym back) ∙ is)).1)
+
+pub prepared_is : (before : ℕ → List ℕ) (d next : Durable) (epoch moment chunks : ℕ) → applied d (Prepare epoch moment chunks) ≡ Some next → kept_in before next.phase (all_undone next.inverses next.names) ≡ kept_in before Upgrade (Some d.names)
 unfolding applied
 prepared_is before d next epoch moment chunks is =
     sym (ap (λ (x : Durable). kept_in before x.phase (all_undone x.inverses x.names)) (fits_gives (is_ordinary d.phase && (is_next_epoch d.epoch epoch && are_at_rest d)) (without_prepared (with_epoch d ends.Prepare Upgrade)) next is).1)

@@ -85,7 +85,7 @@ module _ {D : Type 0} (x : Setup D) (chunk : ℕ) where
   stands_after : (place : MasterPlace D) (m : _) (d e : Durable) → place ≡ Standing m → HasDurable x.seen place d → m.state.durable ≡ d
   stands_after place m d e is has = subst (λ p. HasDurable x.seen p d) is has
 
-  armed_had : (place other : MasterPlace D) → IsArmed x.seen place other → (d : Durable) → HasDurable x.seen other d → HasDurable x.seen place d
+  pub armed_had : (place other : MasterPlace D) → IsArmed x.seen place other → (d : Durable) → HasDurable x.seen other d → HasDurable x.seen place d
   armed_had (Standing m) other (j, to, alike) d has = subst (λ p. HasDurable x.seen p d) to has
   armed_had (Closed first second) other (one, two, to, same, alike) d has =
       subst (λ t. IsToldIn t d) (ap (λ s. standing s (x.seen two)) same ∙ ap (standing (x.seen first)) alike) (subst (λ p. HasDurable x.seen p d) to has)
@@ -148,7 +148,7 @@ first_begun a sent d found chunk view none goes_on =
     ∙ ap (λ o. if not (is_under view.stamp o) then begun a sent d chunk view else others) none
     ∙ ap (λ q. if q then a.before chunk else take view.count (continued a sent chunk (view_at a chunk))) goes_on ∙ ap (λ o. take view.count (continued a sent chunk o)) none
 
-never_back : (phase : Phase) → (is_rolling phase && is_ordinary phase) ≡ false
+pub never_back : (phase : Phase) → (is_rolling phase && is_ordinary phase) ≡ false
 never_back Ordinary = refl
 never_back Upgrade = refl
 never_back Rolling = refl

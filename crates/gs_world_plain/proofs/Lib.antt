@@ -13,10 +13,13 @@ mod Committed
 mod Stepped
 mod Unlisted
 mod Fresh
-mod Bare
+mod Copies
 mod Holding
 mod Nowhere
 mod Brought
 mod Unmade
 mod Peopled
 mod Told
+mod Copying
+mod Ends
+mod Back

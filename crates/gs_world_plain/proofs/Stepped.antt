@@ -1,26 +1,34 @@
 -- Each step of a run is commands of the plain machine, where chunks that are put into files have their texts.
-use Rattle.std.proofs.Common.{◌≡◌, ◌∙◌, ◌++◌, ℕ, Bool, true, false, List, [], ◌∷◌, take, refl, sym, ap, subst}
+use Rattle.std.proofs.Common.{◌≡◌, ◌∙◌, ◌++◌, inl, inr, ℕ, zero, suc, Bool, true, false, List, [], ◌∷◌, append-nil, take, refl, sym, ap, subst}
 use Rattle.std.specs.Prelude.{None, is_some, Option, Some, if◌then◌else◌}
 use Rattle.std.specs.FinMap as fin
 use Rattle.std.specs.List.{AllByRecursion}
-use Rattle.std.proofs.lemmas.Bool.{false≢true}
+use Rattle.std.proofs.lemmas.Bool.{and_parts, false≢true}
 use Rattle.gs_journal.specs.declared.version.Version.TheVariants.{Two}
 use Rattle.gs_master_laws.specs.Promises.{IsKept}
 use Rattle.gs_master_laws.specs.Reached.{GoWithin}
 use Rattle.gs_master_moves.specs.Epochs.{prepares, rolls_back}
 use Rattle.gs_master_moves.specs.Guards.{Heard}
 use Rattle.gs_master_moves.specs.Moves.{CommitsRollback, Finalizes, Move, Prepares, move_turn}
-use Rattle.gs_master_plain.proofs.Placed.{stand_in}
+use Rattle.gs_edit.specs.Machine.{restored}
+use Rattle.gs_edit.specs.Mapped.{mapped_rows}
+use Rattle.gs_edit.specs.View.{NamesView}
+use Rattle.gs_master_moves.proofs.Epochs.{rolling_is}
+use Rattle.gs_master_plain.proofs.Placed.{same_rows, stand_in}
+use Rattle.gs_master_plain.specs.Commands.{Texts}
 use Rattle.gs_master_plain.proofs.Places.{all_weaker}
 use Rattle.gs_master_plain.specs.OnePlace.{standing_at}
-use Rattle.gs_master_plain.specs.Records.{KeepsTexts, Telling}
+use Rattle.gs_master_plain.specs.Records.{KeepsTexts, kept_in}
 use Rattle.gs_master_plain.specs.Places.{AreAlone, Place, places_in}
 use Rattle.gs_master_record.specs.Plain.{AddChunk, Cow, Edited, PlainEdit, Finalize, PlainEntry, Prepare, RollbackCommit}
 use Rattle.gs_master_record.specs.Writable.{IsEntry}
+use Rattle.gs_master_record.specs.declared.checkpoint.Phase.{Phase}
+use Rattle.gs_master_record.specs.declared.checkpoint.Phase.TheVariants.{Rolling}
 use Rattle.gs_master_record.specs.declared.entry.Answered.{Answered}
 use Rattle.gs_master_spec.specs.Applied.{applied, replayed}
-use Rattle.gs_master_spec.specs.Durable.{Durable, is_listed}
+use Rattle.gs_master_spec.specs.Durable.{Durable, is_listed, is_ordinary, is_rolling}
 use Rattle.gs_master_spec.specs.State.{State, Turn}
+use Rattle.gs_master_spec.specs.Undoing.{all_undone}
 use Rattle.gs_master_upgrade.proofs.Records.{Goes, Paced, Turns as Bounds, chain_within, is_bound, paced, turn_fits}
 use Rattle.gs_world.proofs.Reaching.{HaveSizes}
 use Rattle.gs_world.specs.Histories.{History}
@@ -34,25 +42,35 @@ use Rattle.gs_world_chunks.specs.Upgrading.{IsUpgrading}
 use Rattle.gs_world_lift.specs.Doing.{HasDurable}
 use Rattle.gs_world_plain.proofs.Committed.{alone_back, before_is_settled, settled_is_before}
 use Rattle.gs_master_copies.proofs.Counted.{is_listed_there}
-use Rattle.gs_world_plain.proofs.Ending.{commits_lead, finalizes_lead, growing_lead, prepares_lead}
-use Rattle.gs_world_plain.proofs.Onward.{grows, had, has, kept_before, kept_behind}
+use Rattle.gs_world_plain.proofs.Ends.{commit_ends, finalize_ends_as, prepare_ends, within_ends}
+use Rattle.gs_world_plain.proofs.Ending.{commits_lead, committed_is, committed_names, finalizes_lead, growing_lead, prepared_is, prepares_lead}
+use Rattle.gs_world_plain.proofs.Onward.{grows, had, has, kept_before, kept_behind, none_new}
 use Rattle.gs_world_plain.proofs.Shapes.{all_keep_texts, all_within, commit_is_back, finalize_ends, none_begins, none_is_back, prepare_begins, same_phase_over, then_replays}
 use Rattle.gs_world_plain.proofs.Shared.{alone_within}
 use Rattle.gs_world_plain.proofs.Writing.{Keeps, Turns, Writes, has_one, writes}
 use Rattle.gs_base.specs.declared.numbers.ReqId.{ReqId}
+use Rattle.gs_master.specs.Masters.{MasterOf}
+use Rattle.gs_nodes.specs.declared.place.MasterPlace.TheVariants.{Standing}
 use Rattle.gs_replica.specs.Stands.{replica_of}
-use Rattle.gs_master_copies.proofs.Added.{once_over}
-use Rattle.gs_master_copies.proofs.Bare.{adds_weaker}
-use Rattle.gs_master_copies.specs.Bare.{AddsBare}
+use Rattle.gs_master_copies.proofs.Put.{once_over}
+use Rattle.gs_master_copies.proofs.Waited.{AndWaited, Waited, WaitsIn, all_waited, for_copy}
+use Rattle.gs_master_copies.specs.Held.{AreHeld, slot}
+use Rattle.gs_master_copies.specs.Made.{PutsCopy}
+use Rattle.gs_master_copies.specs.Told.{OfPut}
 use Rattle.gs_master_moves.proofs.Stands.{once_stands}
 use Rattle.gs_world_chunks.specs.Moving.{edits_of}
-use Rattle.gs_world_lift.specs.Copying.{copied_from}
-use Rattle.gs_world_plain.proofs.Bare.{BareAt, NoCopy, bare_there}
+use Rattle.gs_world_lift.specs.Copying.{copied_from, is_copied}
+use Rattle.gs_world_plain.proofs.Copying.{WaitsStill, copied_given, holds, some_copied, told_of_place, unled_in}
+use Rattle.gs_world_plain.proofs.Holding.{places_held}
+use Rattle.gs_world_plain.proofs.Copies.{MadeAt, ToldSo, made_there, no_copy}
 use Rattle.gs_world_plain.proofs.Committed.{view_of}
 use Rattle.gs_world_plain.proofs.Fresh.{added_as_made, same_made}
-use Rattle.gs_world_plain.specs.Plainly.{KeepsCopy, CopiesHaveTexts, EditsOnePlace, IsPlainStep, StepsArePlain}
+use Rattle.gs_world_plain.specs.Ends.{EndsAs}
+use Rattle.gs_world_plain.specs.Plainly.{EditsOnePlace, IsPlainStep, StepsArePlain}
 use Rattle.gs_world_plain.specs.Settling.{newly_settled}
+use Rattle.gs_world_plain.specs.Told.{PutWereTold}
 use Rattle.gs_world_plain.specs.Stepping.{AreCommandsOf, EndsBy, OfEachPlace, texts_between}
+use Rattle.gs_world_plain.specs.Views.{plain_view, texts_of}
 use Rattle.gs_world_plain.specs.Written.{records_at}
 
 -- of each chunk that stands in a file
@@ -67,7 +85,7 @@ durable_is h = cc
 one_applies : (d next : Durable) (entry : PlainEntry) → replayed d (entry ∷ []) ≡ Some next → applied d entry ≡ Some next
 one_applies d next entry is = let first = then_replays d next entry [] is in first.1 ∙ first.2
 
-module _ (sizes : HaveSizes) (law : AreNumbered) {D : Type 0} (x : Setup D) (quiet : x.fails ≡ false) (of_prepare : EachIsOfAPrepare x) (settled_back : GivesSettledBack x) (no_other : GivesNoOtherBack x) (step : Step) (old new : History D) (a b : Account) (r : IsReached x old a) (moves : Moves x step old a new b) (copies : CopiesHaveTexts x.config.chunk step old a b) where
+module _ (sizes : HaveSizes) (law : AreNumbered) {D : Type 0} (x : Setup D) (quiet : x.fails ≡ false) (of_prepare : EachIsOfAPrepare x) (settled_back : GivesSettledBack x) (no_other : GivesNoOtherBack x) (step : Step) (old new : History D) (a b : Account) (r : IsReached x old a) (moves : Moves x step old a new b) (were_told : PutWereTold x) where
   abbrev size : ℕ
   size = x.config.chunk
 
@@ -80,8 +98,17 @@ module _ (sizes : HaveSizes) (law : AreNumbered) {D : Type 0} (x : Setup D) (qui
   before_same : prepares a.durable b.durable ≡ false → b.before ≡ a.before
   before_same none = ap (λ (c : Account). c.before) moves.account ∙ ap (λ q. (λ (chunk : ℕ). if q then edits_in a chunk (view_at a chunk) else a.before chunk)) none
 
-  plain_by : (many : ℕ) → replayed a.durable (take many (records_at step old)) ≡ Some b.durable → AreCommandsOf size a b (take many (records_at step old)) → IsPlainStep size step old a b
-  plain_by many replays c = record { commands = c.commands; leads = c.leads; written = many; records = replays; others = c.others; edits = c.edits; grows = λ chunk goes_on listed. grows sizes law x quiet step old new a b r moves chunk listed goes_on }
+  plain_by : (many : ℕ) → replayed a.durable (take many (records_at step old)) ≡ Some b.durable → (c : AreCommandsOf size a b (take many (records_at step old))) → EndsAs size a b c.commands → IsPlainStep size step old a b
+  plain_by many replays c ends = record {
+    commands = c.commands;
+    leads = c.leads;
+    written = many;
+    records = replays;
+    others = c.others;
+    edits = c.edits;
+    ends = ends;
+    grows = λ chunk goes_on listed. grows sizes law x quiet step old new a b r moves chunk listed goes_on;
+  }
 
   -- ---- within an epoch
 
@@ -98,37 +125,44 @@ module _ (sizes : HaveSizes) (law : AreNumbered) {D : Type 0} (x : Setup D) (qui
       let there = view_of (fin.get b.durable.chunks chunk) (last_kept.settled chunk listed) in
       ap (text_of size) (added_as_made sizes law x quiet old new a b step chunk r moves goes_on out listed ∙ same_made sizes law x quiet step old new a b r moves chunk there.0 there.1 goes_on ∙ ap (edits_of a) none) ∙ no_edits_no_text
 
-  both_keep : (t : Telling) (records : List PlainEntry) → AllByRecursion (AddsBare (λ chunk. t.now chunk ≡ [])) records → AllByRecursion (KeepsCopy t) records → AllByRecursion (KeepsTexts t) records
-  both_keep t [] adds copy = tt
-  both_keep t (entry ∷ records) adds copy = (by_entry entry adds.0 copy.0, both_keep t records adds.1 copy.1)
+  -- one that takes the place of another has the text of that
+  abbrev HasTextOf : Option Place → ℕ → Type 0
+  HasTextOf None chunk = HasNoText chunk
+  HasTextOf (Some place) chunk = text_of size (settled_edits a chunk ++ newly_settled a b chunk) ≡ text_of size (settled_edits a place.chunk ++ newly_settled a b place.chunk)
+
+  keep_texts : (records : List PlainEntry) → AllByRecursion (OfPut HasTextOf) records → AllByRecursion (KeepsTexts (texts_between size a b)) records
+  keep_texts [] all = tt
+  keep_texts (entry ∷ records) all = (by_entry entry all.0, keep_texts records all.1)
     where
-      by_edit : (by : ReqId) (edit : PlainEdit) → AddsBare (λ chunk. t.now chunk ≡ []) (Edited by edit) → KeepsCopy t (Edited by edit) → KeepsTexts t (Edited by edit)
-      by_edit by (AddChunk path chunk) adds copy = adds
-      by_edit by (Cow path index before after) adds copy = copy
-      by_edit by edit adds copy = tt
+      by_edit : (by : ReqId) (edit : PlainEdit) → OfPut HasTextOf (Edited by edit) → KeepsTexts (texts_between size a b) (Edited by edit)
+      by_edit by (AddChunk path chunk) k = k
+      by_edit by (Cow path index before after) k = k
+      by_edit by edit k = tt
 
-      by_entry : (entry : PlainEntry) → AddsBare (λ chunk. t.now chunk ≡ []) entry → KeepsCopy t entry → KeepsTexts t entry
-      by_entry (Edited by edit) adds copy = by_edit by edit adds copy
-      by_entry entry adds copy = tt
+      by_entry : (entry : PlainEntry) → OfPut HasTextOf entry → KeepsTexts (texts_between size a b) entry
+      by_entry (Edited by edit) k = by_edit by edit k
+      by_entry entry k = tt
 
-  abbrev AddNone : List PlainEntry → Type 0
-  AddNone records = rolls_back a.durable b.durable ≡ false → AllByRecursion (AddsBare HasNoText) records
+  abbrev PutTexts : List PlainEntry → Type 0
+  PutTexts records = rolls_back a.durable b.durable ≡ false → AllByRecursion (OfPut HasTextOf) records
 
-  within : (many : ℕ) → AddNone (take many (records_at step old)) → AllByRecursion (IsEntry Two) (take many (records_at step old)) → GoWithin a.durable (take many (records_at step old)) → replayed a.durable (take many (records_at step old)) ≡ Some b.durable → IsPlainStep size step old a b
-  within many adds written go replays =
+  within : (many : ℕ) → PutTexts (take many (records_at step old)) → AllByRecursion (IsEntry Two) (take many (records_at step old)) → GoWithin a.durable (take many (records_at step old)) → replayed a.durable (take many (records_at step old)) ≡ Some b.durable → IsPlainStep size step old a b
+  within many puts written go replays =
       let records = take many (records_at step old) in
       let phase = same_phase_over a.durable b.durable records first_kept written go replays in
       let goes_on = none_is_back a.durable b.durable phase in
-      plain_by many replays (growing_lead size a b records (record {
+      let all = all_within a.durable b.durable records go replays in
+      let leads : AreCommandsOf size a b records = growing_lead size a b records (record {
         stands = first_kept;
-        within = all_within a.durable b.durable records go replays;
+        within = all;
         alone = alone_within sizes law x quiet step old new a b r moves goes_on;
         written = written;
-        keep = all_keep_texts (texts_between size a b) a.durable records go (both_keep (texts_between size a b) records (adds goes_on) (copies many replays));
+        keep = all_keep_texts (texts_between size a b) a.durable records go (keep_texts records (puts goes_on));
         replays = replays;
         grows = of_places b last_kept (λ chunk. settled_edits a chunk ++ newly_settled a b chunk ≡ settled_edits b chunk) (λ chunk listed. grows sizes law x quiet step old new a b r moves chunk listed goes_on);
         before = before_same (none_begins a.durable b.durable phase);
-      }))
+      }) in
+      plain_by many replays leads (within_ends size a b leads.commands phase records all leads.others)
 
   -- ---- by one record
 
@@ -145,6 +179,16 @@ module _ (sizes : HaveSizes) (law : AreNumbered) {D : Type 0} (x : Setup D) (qui
       (of_places a first_kept (λ chunk. text_of size (settled_edits a chunk ++ newly_settled a b chunk) ≡ text_of size (b.before chunk))
       (λ chunk listed. ap (text_of size) (grows sizes law x quiet step old new a b r moves chunk (listed_then chunk listed) begins.1 ∙ sym (before_is_settled sizes law x quiet new new b b up chunk (listed_then chunk listed) last_kept))))
 
+  -- right behind it the tree that stands is kept
+  kept_then : (epoch moment chunks : ℕ) → applied a.durable (Prepare epoch moment chunks) ≡ Some b.durable → (plain_view size b).kept ≡ Some (plain_view size b).tree
+  kept_then epoch moment chunks applies =
+      let begins = prepare_begins a.durable b.durable epoch moment chunks applies in
+      let up : IsUpgrading x new b new b = record { old = old; first = a; reached = r; step = step; moves = moves; accepted = begins.0; steps = []; runs = (refl, refl) } in
+      prepared_is (texts_of size b).before a.durable b.durable epoch moment chunks applies ∙ ap (λ (names : NamesView). Some (mapped_rows (texts_of size b).before (fin.entries names.tree))) (sym begins.2)
+      ∙ ap (λ (rows : Texts). Some rows)
+      (same_rows (texts_of size b).before (texts_of size b).now (fin.entries b.durable.names.tree)
+      (of_places b last_kept (λ chunk. text_of size (b.before chunk) ≡ text_of size (settled_edits b chunk)) (λ chunk listed. ap (text_of size) (before_is_settled sizes law x quiet new new b b up chunk listed last_kept))))
+
   finalized : (epoch : ℕ) → IsEntry Two (Finalize epoch) → applied a.durable (Finalize epoch) ≡ Some b.durable → AreCommandsOf size a b (Finalize epoch ∷ [])
   finalized epoch written applies =
       let goes_on = finalize_ends a.durable b.durable epoch applies in
@@ -157,45 +201,149 @@ module _ (sizes : HaveSizes) (law : AreNumbered) {D : Type 0} (x : Setup D) (qui
       commits_lead size a b epoch answers (ends_by (RollbackCommit epoch answers) (alone_back sizes law x quiet of_prepare settled_back no_other step old new a b r moves committed) written applies)
       (of_places b last_kept (λ chunk. text_of size (a.before chunk) ≡ text_of size (settled_edits b chunk)) (λ chunk listed. ap (text_of size) (settled_is_before sizes law x quiet of_prepare settled_back no_other step old new a b r moves committed chunk listed)))
 
+  -- what was kept stands behind it
+  restored_then : (epoch : ℕ) (answers : List Answered) → applied a.durable (RollbackCommit epoch answers) ≡ Some b.durable → (kept : Texts) × ((plain_view size a).kept ≡ Some kept) × (plain_view size b ≡ restored (plain_view size a) kept)
+  restored_then epoch answers applies = (mapped_rows (texts_of size a).before (fin.entries names.tree), was_kept, λ i. record { tree = stands i; kept = none i })
+    where
+      names : NamesView
+      names = first_kept.back.0
+
+      committed : rolls_back a.durable b.durable ≡ true
+      committed = commit_is_back a.durable b.durable epoch answers first_kept applies
+
+      was_kept : (plain_view size a).kept ≡ Some (mapped_rows (texts_of size a).before (fin.entries names.tree))
+      was_kept =
+          ap (λ (p : Phase). kept_in (texts_of size a).before p (all_undone a.durable.inverses a.durable.names)) (rolling_is a.durable.phase (and_parts (is_rolling a.durable.phase) (is_ordinary b.durable.phase) committed).0)
+          ∙ ap (kept_in (texts_of size a).before Rolling) first_kept.back.1
+
+      stands : (plain_view size b).tree ≡ mapped_rows (texts_of size a).before (fin.entries names.tree)
+      stands =
+          same_rows (texts_of size b).now (texts_of size a).before (fin.entries b.durable.names.tree)
+          (of_places b last_kept (λ chunk. text_of size (settled_edits b chunk) ≡ text_of size (a.before chunk))
+          (λ chunk listed. ap (text_of size) (sym (settled_is_before sizes law x quiet of_prepare settled_back no_other step old new a b r moves committed chunk listed))))
+          ∙ ap (λ (n : NamesView). mapped_rows (texts_of size a).before (fin.entries n.tree)) (committed_names a.durable b.durable epoch answers names first_kept.back.1 applies)
+
+      none : (plain_view size b).kept ≡ None
+      none = ap (λ (p : Phase). kept_in (texts_of size b).before p (all_undone b.durable.inverses b.durable.names)) (committed_is a.durable b.durable epoch answers names first_kept.back.1 applies)
+
   -- ---- a turn
 
-  by_one : (many : ℕ) (entry : PlainEntry) → entry ∷ [] ≡ take many (records_at step old) → replayed a.durable (entry ∷ []) ≡ Some b.durable → (applied a.durable entry ≡ Some b.durable → AreCommandsOf size a b (entry ∷ [])) → IsPlainStep size step old a b
-  by_one many entry is replays leads = plain_by many (ap (replayed a.durable) (sym is) ∙ replays) (subst (AreCommandsOf size a b) is (leads (one_applies a.durable b.durable entry replays)))
+  by_one : (many : ℕ) (entry : PlainEntry) → entry ∷ [] ≡ take many (records_at step old) → replayed a.durable (entry ∷ []) ≡ Some b.durable → (applied a.durable entry ≡ Some b.durable → (c : AreCommandsOf size a b (entry ∷ [])) × EndsAs size a b c.commands) → IsPlainStep size step old a b
+  by_one many entry is replays leads =
+      let by_records = subst (λ records. (c : AreCommandsOf size a b records) × EndsAs size a b c.commands) is (leads (one_applies a.durable b.durable entry replays)) in
+      plain_by many (ap (replayed a.durable) (sym is) ∙ replays) by_records.0 by_records.1
 
   by_move : (many : ℕ) (config : _) (s : State) (move : Move) → is_bound move ≡ true → (move_turn config s move).records ≡ take many (records_at step old) → AllByRecursion (IsEntry Two) (move_turn config s move).records → replayed a.durable (move_turn config s move).records ≡ Some b.durable → IsPlainStep size step old a b
-  by_move many config s (Prepares req moment) bound is written replays = by_one many _ is replays (prepared _ _ _ written.0)
-  by_move many config s (Finalizes req) bound is written replays = by_one many _ is replays (finalized _ written.0)
-  by_move many config s (CommitsRollback req names) bound is written replays = by_one many _ is replays (rolled_back _ _ written.0)
+  by_move many config s (Prepares req moment) bound is written replays = by_one many _ is replays (λ applies. (let c = prepared _ _ _ written.0 applies in (c, prepare_ends size a b c.commands _ _ _ applies c.others (kept_then _ _ _ applies))))
+  by_move many config s (Finalizes req) bound is written replays = by_one many _ is replays (λ applies. (let c = finalized _ written.0 applies in (c, finalize_ends_as size a b c.commands _ applies)))
+  by_move many config s (CommitsRollback req names) bound is written replays = by_one many _ is replays (λ applies. (let c = rolled_back _ _ written.0 applies in (c, commit_ends size a b c.commands _ _ first_kept applies c.others (restored_then _ _ applies))))
   by_move many config s move bound is written replays = absurd (false≢true bound)
 
-  by_pace : (many : ℕ) (config : _) (heard : Heard) (s : State) (t : Turn) → AddNone t.records → Paced config heard s t → s.durable ≡ a.durable → t.records ≡ take many (records_at step old) → AllByRecursion (IsEntry Two) t.records → replayed a.durable t.records ≡ Some b.durable → IsPlainStep size step old a b
-  by_pace many config heard s t adds (Goes u v chain) first is written replays =
-      within many (subst AddNone is adds) (subst (AllByRecursion (IsEntry Two)) is written) (subst (GoWithin a.durable) is (subst (λ d. GoWithin d v.records) first (chain_within config heard u v chain written).0)) (ap (replayed a.durable) (sym is) ∙ replays)
-  by_pace many config heard s t adds (Bounds u move said made bound) first is written replays = by_move many config u move bound is written replays
+  by_pace : (many : ℕ) (config : _) (heard : Heard) (s : State) (t : Turn) → PutTexts t.records → Paced config heard s t → s.durable ≡ a.durable → t.records ≡ take many (records_at step old) → AllByRecursion (IsEntry Two) t.records → replayed a.durable t.records ≡ Some b.durable → IsPlainStep size step old a b
+  by_pace many config heard s t puts (Goes u v chain) first is written replays =
+      within many (subst PutTexts is puts) (subst (AllByRecursion (IsEntry Two)) is written) (subst (GoWithin a.durable) is (subst (λ d. GoWithin d v.records) first (chain_within config heard u v chain written).0)) (ap (replayed a.durable) (sym is) ∙ replays)
+  by_pace many config heard s t puts (Bounds u move said made bound) first is written replays = by_move many config u move bound is written replays
+
+  -- ---- a copy that takes the place of a chunk
+
+  module _ (goes_on : rolls_back a.durable b.durable ≡ false) (m : MasterOf D) (stands : old.nodes.master ≡ Standing m) (same : m.state.durable ≡ a.durable) (place : Place) (chunk : ℕ) (listed : is_listed b.durable chunk ≡ true) where
+    held : AreHeld m.state
+    held = places_held x quiet old a m r stands
+
+    -- it was waited for before the turn
+    waited : is_copied old.sent chunk ≡ true → Waited m.state (Some place) chunk → WaitsIn m.state (for_copy place chunk)
+    waited copied (inl out) = absurd (false≢true (sym out ∙ copied_given old.sent m.state chunk (subst (MadeAt x old.sent) stands (made_there x quiet sizes old a r)) copied))
+    waited copied (inr waits_so) = waits_so
+
+    -- where it hasn't come, the chunk that is copied stands there
+    waits_still : is_listed a.durable chunk ≡ false → WaitsIn m.state (for_copy place chunk) → WaitsStill place chunk m.state
+    waits_still out waits_so = (
+      waits_so,
+      elim (holds place chunk m.state held waits_so).2 [
+        | inl come ↦ absurd (false≢true (sym out ∙ is_listed_there a.durable.names first_kept.names chunk place.path place.index (ap (λ (d : Durable). slot d.names place.path place.index) (sym same) ∙ come)))
+        | inr still ↦ still.0
+      ],
+    )
+
+    replaced_text : is_listed a.durable chunk ≡ false → is_copied old.sent chunk ≡ true → Waited m.state (Some place) chunk → HasTextOf (Some place) chunk
+    replaced_text out copied waits_so =
+        let k = waits_still out (waited copied waits_so) in
+        let from = some_copied (copied_from old.sent chunk) copied in
+        let told = told_of_place sizes law x quiet place chunk old a m from.0.0 from.0.1 r stands k from.1 in
+        let un = unled_in sizes law x quiet place chunk old a m r stands k in
+        let later = view_of (fin.get b.durable.chunks chunk) (last_kept.settled chunk listed) in
+        ap (text_of size)
+        (added_as_made sizes law x quiet old new a b step chunk r moves goes_on out listed ∙ same_made sizes law x quiet step old new a b r moves chunk later.0 later.1 goes_on ∙ ap (edits_of a) from.1 ∙ ap (λ n. a.list n from.0.1) told.source_is
+        ∙ sym told.settled_is ∙ sym (append-nil (settled_edits a place.chunk)) ∙ ap (λ es. settled_edits a place.chunk ++ es) (sym (none_new sizes law x quiet step old new a b r moves place.chunk un.view un.told un.unled goes_on)))
+
+  -- ---- what the master writes
+
+  -- a chunk that a turn puts into a file
+  abbrev Put : State → State → Option Place → ℕ → Type 0
+  Put s u place chunk = AndWaited (ToldSo old.sent) s place chunk × ((is_listed s.durable chunk ≡ false) × (is_listed u.durable chunk ≡ true))
+
+  abbrev ToldPut : PlainEntry → Type 0
+  ToldPut = PutsCopy (λ chunk. is_some (fin.get b.durable.chunks chunk) ≡ true → is_copied old.sent chunk ≡ true)
+
+  -- each has its text
+  put_texts : (s u : State) → ((chunk : ℕ) → Put s u None chunk → HasTextOf None chunk) → ((place : Place) (chunk : ℕ) → (is_some (fin.get b.durable.chunks chunk) ≡ true → is_copied old.sent chunk ≡ true) → Put s u (Some place) chunk → HasTextOf (Some place) chunk)
+      → (records : List PlainEntry) → AllByRecursion (OfPut (Put s u)) records → AllByRecursion ToldPut records → AllByRecursion (OfPut HasTextOf) records
+  put_texts s u at_end at_place [] put told = tt
+  put_texts s u at_end at_place (entry ∷ records) put told = (by_entry entry put.0 told.0, put_texts s u at_end at_place records put.1 told.1)
+    where
+      by_edit : (by : ReqId) (edit : PlainEdit) → OfPut (Put s u) (Edited by edit) → ToldPut (Edited by edit) → OfPut HasTextOf (Edited by edit)
+      by_edit by (AddChunk path chunk) k is = at_end chunk k
+      by_edit by (Cow path index before after) k is = at_place (record { path = path; index = index; chunk = before }) after is k
+      by_edit by edit k is = tt
+
+      by_entry : (e : PlainEntry) → OfPut (Put s u) e → ToldPut e → OfPut HasTextOf e
+      by_entry (Edited by edit) k is = by_edit by edit k is
+      by_entry e k is = tt
+
+  take_told : (many : ℕ) (records : List PlainEntry) → AllByRecursion ToldPut records → AllByRecursion ToldPut (take many records)
+  take_told zero records all = tt
+  take_told (suc many) [] all = tt
+  take_told (suc many) (entry ∷ records) all = (all.0, take_told many records all.1)
 
   same_there : Writes x.seen (records_at step old) old.nodes.master new.nodes.master → IsPlainStep size step old a b
   same_there (Keeps f) =
       let same = has_one x new.nodes.master a.durable b.durable (f a.durable (had sizes law x quiet step old new a b r moves)) (has sizes law x quiet step old new a b r moves) in
       within 0 (λ goes_on. tt) tt tt (ap Some same)
-  same_there (Turns m after heard t at to turn written state many is) =
-      let first : m.state.durable ≡ a.durable = subst (λ p. HasDurable x.seen p a.durable) at (had sizes law x quiet step old new a b r moves) in
-      let last : after.state.durable ≡ b.durable = subst (λ p. HasDurable x.seen p b.durable) to (has sizes law x quiet step old new a b r moves) in
-      let fit = turn_fits m.config heard m.state t turn written in
-      let replays : replayed a.durable t.records ≡ Some b.durable = ap (λ d. replayed d t.records) (sym first) ∙ fit ∙ ap Some (sym (ap (λ (s : State). s.durable) state) ∙ last) in
-      let well = once_stands m.config heard m.state t turn written (subst IsKept (sym first) first_kept) in
-      let bare = subst (BareAt x old.sent) at (bare_there x quiet sizes old a r) in
-      let out : (chunk : ℕ) → is_listed m.state.durable chunk ≡ false → is_listed a.durable chunk ≡ false = λ chunk none. ap (λ (d : Durable). is_listed d chunk) (sym first) ∙ none in
-      let in_file : (chunk : ℕ) → is_listed t.after.durable chunk ≡ true → is_listed b.durable chunk ≡ true = λ chunk some. ap (λ (d : Durable). is_listed d chunk) (sym (sym (ap (λ (s : State). s.durable) state) ∙ last)) ∙ some in
-      by_pace many m.config heard m.state t
-      (λ goes_on. adds_weaker _ HasNoText (λ chunk o. added_text goes_on chunk o.0 (out chunk o.1.0) (in_file chunk o.1.1)) t.records (once_over m.config heard (NoCopy x old.sent) m.state t well.turn bare)) (paced m.config heard m.state t turn) first is written replays
+  same_there (Turns m after heard t at to turn written state many is) = by_pace many m.config heard m.state t puts (paced m.config heard m.state t turn) first is written replays
+    where
+      first : m.state.durable ≡ a.durable
+      first = subst (λ p. HasDurable x.seen p a.durable) at (had sizes law x quiet step old new a b r moves)
+
+      last : t.after.durable ≡ b.durable
+      last = sym (ap (λ (s : State). s.durable) state) ∙ subst (λ p. HasDurable x.seen p b.durable) to (has sizes law x quiet step old new a b r moves)
+
+      replays : replayed a.durable t.records ≡ Some b.durable
+      replays = ap (λ d. replayed d t.records) (sym first) ∙ turn_fits m.config heard m.state t turn written ∙ ap Some last
+
+      put : AllByRecursion (OfPut (Put m.state t.after)) t.records
+      put =
+          let well = once_stands m.config heard m.state t turn written (subst IsKept (sym first) first_kept) in
+          once_over m.config heard (AndWaited (ToldSo old.sent) m.state) m.state t well.turn (all_waited (ToldSo old.sent) m.state (subst (MadeAt x old.sent) at (made_there x quiet sizes old a r)))
+
+      out : (chunk : ℕ) → is_listed m.state.durable chunk ≡ false → is_listed a.durable chunk ≡ false
+      out chunk none = ap (λ (d : Durable). is_listed d chunk) (sym first) ∙ none
+
+      in_file : (chunk : ℕ) → is_listed t.after.durable chunk ≡ true → is_listed b.durable chunk ≡ true
+      in_file chunk some = ap (λ (d : Durable). is_listed d chunk) (sym last) ∙ some
+
+      puts : PutTexts t.records
+      puts goes_on =
+          put_texts m.state t.after (λ chunk o. added_text goes_on chunk (no_copy old.sent chunk o.0.0) (out chunk o.1.0) (in_file chunk o.1.1))
+          (λ place chunk told o. replaced_text goes_on m at first place chunk (in_file chunk o.1.1) (out chunk o.1.0) (told (last_kept.settled chunk (in_file chunk o.1.1))) o.0.1) t.records put
+          (subst (AllByRecursion ToldPut) (sym is) (take_told many (records_at step old) (were_told old new a b step r moves)))
 
   pub step_plain : IsPlainStep size step old a b
   step_plain =
       let sound = reached_sound x quiet old a r in
       same_there (writes x r.begins.given step old new moves.steps.goes (named x step old moves.steps.within sound.types) sound.lasts (moves.steps.sound quiet))
 
-pub steps_plain : HaveSizes → AreNumbered → {D : Type 0} (x : Setup D) → EachIsOfAPrepare x → GivesSettledBack x → GivesNoOtherBack x → StepsArePlain x
-steps_plain sizes law x of_prepare settled_back no_other quiet old new a b step r moves copies = step_plain sizes law x quiet of_prepare settled_back no_other step old new a b r moves copies
+pub steps_plain : HaveSizes → AreNumbered → {D : Type 0} (x : Setup D) → EachIsOfAPrepare x → GivesSettledBack x → GivesNoOtherBack x → PutWereTold x → StepsArePlain x
+steps_plain sizes law x of_prepare settled_back no_other were_told quiet old new a b step r moves = step_plain sizes law x quiet of_prepare settled_back no_other step old new a b r moves were_told
 
 -- edits come to chunks at one place each
 pub edits_one_place : HaveSizes → AreNumbered → {D : Type 0} (x : Setup D) → EachIsOfAPrepare x → GivesSettledBack x → GivesNoOtherBack x → EditsOnePlace x

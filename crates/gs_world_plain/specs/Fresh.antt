@@ -1,11 +1,15 @@
 -- Chunks that no file has, or has not had yet: what is settled of them.
 use Rattle.std.specs.Prelude.{[], ◌++◌, ◌≡◌, None, Some, false, refl, true, ℕ}
+use Rattle.gs_base.specs.declared.numbers.Stamp.{Stamp}
 use Rattle.gs_lease.specs.declared.view.View.{View}
 use Rattle.gs_master.specs.Masters.{MasterOf}
-use Rattle.gs_master_copies.specs.Held.{AreHeld}
+use Rattle.gs_master_copies.specs.Held.{AreHeld, IsIn, slot}
 use Rattle.gs_nodes.specs.declared.place.MasterPlace.TheVariants.{Standing}
 use Rattle.gs_master_moves.specs.Epochs.{rolls_back}
 use Rattle.gs_master_spec.specs.Durable.{is_listed}
+use Rattle.gs_master_spec.specs.declared.pending.Pending.{Pending}
+use Rattle.gs_master_spec.specs.declared.pending.Waiting.TheVariants as waits
+use Rattle.gs_path.specs.Path.{Path}
 use Rattle.gs_world.specs.Histories.{History}
 use Rattle.gs_world.specs.Runs.{Step}
 use Rattle.gs_world_chunks.specs.Accounts.{Account, settled_edits, view_at}
@@ -27,6 +31,11 @@ module _ {D : Type 0} (x : Setup D) where
   -- A call that waits to copy a chunk at a place of a file, or for that copy, holds the place: nobody may write the chunk until the copy has come there.
   abbrev pub PlacesAreHeld : Type 0
   PlacesAreHeld = x.fails ≡ false → (now : History D) (a : Account) (m : MasterOf D) → IsReached x now a → now.nodes.master ≡ Standing m → AreHeld m.state
+
+  -- A call that waits for a copy, which was told to be one: it was told to be one of the chunk whose place it is to take, and as long as that stands there, all that is settled of it is what is copied.
+  abbrev pub CopiesAreOfPlaces : Type 0
+  CopiesAreOfPlaces = x.fails ≡ false → (now : History D) (a : Account) (m : MasterOf D) (p : Pending) (path : Path) (index old new source : ℕ) (at : Stamp) → IsReached x now a → now.nodes.master ≡ Standing m → IsIn p m.state.volatile.pending →
+      p.waits ≡ waits.Copy path index old new → slot m.state.durable.names path index ≡ Some old → copied_from now.sent new ≡ Some (source, at) → (source ≡ old) × (settled_edits a old ≡ a.list old at)
 
 -- ---- Worked
 of_no_copy_none : (a : Account) → edits_of a None ≡ []

@@ -5,3 +5,5 @@ pub mod Plainly
 pub mod Stepping
 pub mod Fresh
 pub mod Told
+pub mod Ends
+pub mod Back

@@ -1,32 +1,25 @@
 -- A run of a store is a run of the plain machine.
 use Rattle.std.specs.Prelude.{[], ◌++◌, ◌∷◌, ◌≡◌, List, Ok, Some, false, filter_map, map, refl, take, true, ℕ}
-use Rattle.std.specs.List.{AllByRecursion}
 use Rattle.gs_edit.specs.Machine.{first}
 use Rattle.gs_master_plain.specs.Commands.{Command, all_commanded, but_edit, command_of, edit_at}
 use Rattle.gs_master_plain.specs.Places.{AreAlone, op_of}
-use Rattle.gs_master_plain.specs.Records.{Telling}
 use Rattle.gs_master_moves.specs.Epochs.{rolls_back}
 use Rattle.gs_master_spec.specs.Durable.{is_listed}
-use Rattle.gs_master_record.specs.Plain.{Cow, Edited, Finalize, PlainEntry}
 use Rattle.gs_master_spec.specs.Applied.{replayed}
 use Rattle.gs_path.specs.Path.{Path}
 use Rattle.gs_world.specs.Histories.{History}
 use Rattle.gs_world.specs.Runs.{Step}
 use Rattle.gs_world_chunks.specs.Accounts.{Account, settled_edits}
 use Rattle.gs_world_chunks.specs.Running.{IsNew, IsReached, Moves, Runs, Setup}
+use Rattle.gs_world_plain.specs.Ends.{EndsAs}
 use Rattle.gs_world_plain.specs.Settling.{newly_settled, settled_at}
-use Rattle.gs_world_plain.specs.Stepping.{texts_between}
 use Rattle.gs_world_plain.specs.Views.{chunk_at, plain_view}
 use Rattle.gs_world_plain.specs.Written.{records_at}
-
--- where a record puts a copy in the place of another chunk, that has its text
-abbrev pub KeepsCopy : Telling → PlainEntry → Type 0
-KeepsCopy t (Edited by (Cow path index before copy)) = t.now copy ≡ t.now before
-KeepsCopy t entry = Unit {0}
 
 -- The step is a list of commands of the plain machine, which lead from the plain view before it to the one behind it. Those that edit no text are what
 -- its records say, each once and in their order; of the records those stand that were written. Those that edit a text are, at each place of a file, the
 -- edits that are settled there, each once and in their order: what is settled of a chunk then is what was, and these behind it, unless a rollback is committed.
+-- At a prepare one of them keeps the tree, and at the commit of a rollback one puts it back.
 pub record IsPlainStep {D : Type 0} (size : ℕ) (step : Step) (old : History D) (a b : Account) : Type 0 where
   pub commands : List Command
   pub leads : all_commanded size commands (plain_view size a) ≡ Ok (plain_view size b)
@@ -34,12 +27,8 @@ pub record IsPlainStep {D : Type 0} (size : ℕ) (step : Step) (old : History D)
   pub records : replayed a.durable (take written (records_at step old)) ≡ Some b.durable
   pub others : filter_map but_edit commands ≡ filter_map command_of (take written (records_at step old))
   pub edits : (p : Path) (index : ℕ) → filter_map (edit_at p index) commands ≡ map op_of (settled_at a b (chunk_at a p index))
+  pub ends : EndsAs size a b commands
   pub grows : (chunk : ℕ) → rolls_back a.durable b.durable ≡ false → is_listed b.durable chunk ≡ true → settled_edits a chunk ++ newly_settled a b chunk ≡ settled_edits b chunk
-
--- Whatever of the records of a step was written: where one of them puts a copy in the place of another chunk, the copy has the text of that, with what is settled at the step.
-abbrev pub CopiesHaveTexts : {D : Type 0} → ℕ → Step → History D → Account → Account → Type 0
-CopiesHaveTexts size step old a b =
-    (written : ℕ) → replayed a.durable (take written (records_at step old)) ≡ Some b.durable → AllByRecursion (KeepsCopy (texts_between size a b)) (take written (records_at step old))
 
 module _ {D : Type 0} (x : Setup D) where
   -- The plain view of a new store is the plain machine that has done nothing;
@@ -48,7 +37,7 @@ module _ {D : Type 0} (x : Setup D) where
 
   -- each step of each run in which no disk fails is such;
   abbrev pub StepsArePlain : Type 0
-  StepsArePlain = x.fails ≡ false → (old new : History D) (a b : Account) (step : Step) → IsReached x old a → Moves x step old a new b → CopiesHaveTexts x.config.chunk step old a b → IsPlainStep x.config.chunk step old a b
+  StepsArePlain = x.fails ≡ false → (old new : History D) (a b : Account) (step : Step) → IsReached x old a → Moves x step old a new b → IsPlainStep x.config.chunk step old a b
 
   -- and so a run is: at each of its steps commands by what it is, one after the other.
   abbrev pub ArePlainSteps : List Step → History D → Account → History D → Account → List Command → Type 0
@@ -61,13 +50,8 @@ module _ {D : Type 0} (x : Setup D) where
     pub go : ArePlainSteps steps old a new b commands
     pub leads : all_commanded x.config.chunk commands (plain_view x.config.chunk a) ≡ Ok (plain_view x.config.chunk b)
 
-  -- so of each step of a run
-  abbrev pub EachHasTexts : (steps : List Step) (old : History D) (a : Account) (new : History D) (b : Account) → Runs x steps old a new b → Type 0
-  EachHasTexts [] old a new b runs = Unit {0}
-  EachHasTexts (step ∷ steps) old a new b (mid, c, one, rest) = CopiesHaveTexts x.config.chunk step old a c × EachHasTexts steps mid c new b rest
-
   abbrev pub RunsArePlain : Type 0
-  RunsArePlain = x.fails ≡ false → (old new : History D) (a b : Account) (steps : List Step) → IsReached x old a → (runs : Runs x steps old a new b) → EachHasTexts steps old a new b runs → IsPlainRun steps old a new b
+  RunsArePlain = x.fails ≡ false → (old new : History D) (a b : Account) (steps : List Step) → IsReached x old a → Runs x steps old a new b → IsPlainRun steps old a new b
 
   -- ---- what it rests on
 
@@ -78,6 +62,3 @@ module _ {D : Type 0} (x : Setup D) where
 -- ---- Worked: no steps are no commands
 no_steps : {D : Type 0} (x : Setup D) (old : History D) (a : Account) → IsPlainRun x [] old a old a
 no_steps x old a = record { commands = []; go = (refl, refl, refl); leads = refl }
-
-what_is_no_copy_keeps_texts : (t : Telling) (epoch : ℕ) → KeepsCopy t (Finalize epoch) ≡ Unit {0}
-what_is_no_copy_keeps_texts t epoch = refl

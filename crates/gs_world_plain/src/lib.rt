@@ -1,9 +1,10 @@
-//! A run of a store in which no disk fails is a run of the plain machine, as long as copies on write have the texts of what they copy: what a store shows is a tree of texts, and while an upgrade stands the tree of its
-//! prepare; each step is commands that lead from what was shown to what is.
+//! A run of a store in which no disk fails is a run of the plain machine: what a store shows is a tree of texts, and while an upgrade stands the tree of its prepare; each step is commands that lead from what was
+//! shown to what is. So an upgrade that is rolled back leads back to what was shown right behind its prepare.
 #![tactic(auto)]
 
 ghost use Rattle.gs_world_chunks.specs.Running.{Setup};
-ghost use Rattle.gs_world_plain.specs.Fresh.{AddedAreAsMade, NewAreAsMade, PlacesAreHeld};
+ghost use Rattle.gs_world_plain.specs.Back.{RollbacksGoBackPlainly};
+ghost use Rattle.gs_world_plain.specs.Fresh.{AddedAreAsMade, CopiesAreOfPlaces, NewAreAsMade, PlacesAreHeld};
 ghost use Rattle.gs_world_plain.specs.Plainly.{BeginsPlain, EditsOnePlace, RunsArePlain, StepsArePlain};
 ghost use Rattle.gs_world_plain.specs.Stepping.{CommitsLead, FinalizesLead, GrowingStepsLead, PreparesLead, StepsOfAccountsLead};
 ghost use Rattle.gs_world_plain.specs.Told.{PutWereTold, SettledWereMade, WaitingWereTold};
@@ -69,12 +70,31 @@ pub fn copies_were_told_to_be_such<D>()
     a_message_edits_a_replica_by_what_it_says();
 }
 
-/// A new store shows the machine that has done nothing. In a run in which no disk fails each step is commands of the plain machine, by its records and by the edits that are settled at it, wherever a copy that is put in
-/// the place of another chunk at that step has the text of that (a chunk that is put at the end of a file has none, which is no premise). So is each run of such steps, and commands lead from what was shown to what is.
-pub fn a_run_is_plain_where_copies_have_their_texts<D>()
+/// A call that waits for a copy, which was told to a server, waits for one of the chunk whose place the copy is to take; and as long as that stands there, all that is settled of it is what is copied.
+pub fn copies_are_of_what_stands_at_their_places<D>()
+    ensures { (x : Setup D) → CopiesAreOfPlaces x }
+{
+    configurations_have_sizes();
+    a_message_edits_a_replica_by_what_it_says();
+}
+
+/// A new store shows the machine that has done nothing. In a run in which no disk fails each step is commands of the plain machine, by its records and by the edits that are settled at it: at a prepare one of them keeps
+/// the tree that stands behind the step, and at the commit of a rollback one puts back what was kept. So is each run of such steps, and commands lead from what was shown to what is.
+pub fn a_run_is_a_run_of_the_plain_machine<D>()
     ensures begins { (x : Setup D) → BeginsPlain x }
     ensures steps { (x : Setup D) → StepsArePlain x }
     ensures runs { (x : Setup D) → RunsArePlain x }
+{
+    configurations_have_sizes();
+    a_message_edits_a_replica_by_what_it_says();
+    each_rollback_is_of_a_prepare::<D>();
+    a_rollback_gives_back_what_was_settled::<D>();
+}
+
+/// A rollback that is done leads back to the last prepare that was accepted. Right behind that the tree that stood was kept; from there on the run is commands that edit names and texts alone, so it is kept still; and
+/// behind the rollback it stands, with the text of each file, and none is kept.
+pub fn a_rollback_shows_what_its_prepare_showed<D>()
+    ensures { (x : Setup D) → RollbacksGoBackPlainly x }
 {
     configurations_have_sizes();
     a_message_edits_a_replica_by_what_it_says();
