@@ -39,8 +39,9 @@ pub mod Staying
 pub mod Runs
 pub mod Holding
 pub mod Locating
+pub mod LocatingCut
 pub mod Returning
-mod Well
+pub mod Well
 mod Became
 mod Leading
 mod Going

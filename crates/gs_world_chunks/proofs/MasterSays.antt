@@ -1,26 +1,16 @@
 -- The master says what is its own, whatever disk of it fails.
-use Rattle.std.proofs.Common.{◌≡◌, ℕ, List, subst}
+use Rattle.std.proofs.Common.{◌≡◌, List, subst}
 use Rattle.gs_msg.specs.declared.message.Message.{Message}
-use Rattle.gs_msg.specs.declared.event.DiskId.{DiskId}
 use Rattle.gs_nodes.specs.declared.place.MasterPlace.{MasterPlace}
 use Rattle.gs_world.specs.Histories.{History}
 use Rattle.gs_world.specs.Lasting.{Lasts}
-use Rattle.gs_world.specs.Sent.{Sent}
 use Rattle.gs_world_chunks.proofs.Well.{IsWell, well_lasts}
 use Rattle.gs_world_chunks.specs.Running.{Setup}
-use Rattle.gs_world_lift.proofs.AskingRuns.{does_say}
 use Rattle.gs_world_lift.proofs.DoingAll.{masters_do_all}
-use Rattle.gs_world_lift.proofs.SteppingAll.{replies_of_master}
+use Rattle.gs_world_lift.proofs.TellingAll.{does_all_say}
 use Rattle.gs_world_lift.specs.Going.{MasterGoes}
-use Rattle.gs_world_lift.specs.Left.{Arranges, Cuts, Does, Keeps, MasterDoesAll, as_left}
+use Rattle.gs_world_lift.specs.Left.{as_left}
 use Rattle.gs_world_lift.specs.Saying.{AreOfMaster}
-
-module _ {D : Type 0} (seen : D → List ℕ) (armed : DiskId → ℕ → MasterPlace D → MasterPlace D) (sent : Sent) (old new : MasterPlace D) (messages : List Message) where
-  does_all_say : MasterDoesAll seen armed sent old new messages → AreOfMaster messages
-  does_all_say (Does does) = does_say seen (λ disk call place. place) sent (as_left old) (as_left new) messages does
-  does_all_say (Cuts m heard t many d first second at was turn within stand master kept counters told replies) = replies_of_master messages replies
-  does_all_say (Keeps same replies) = replies_of_master messages replies
-  does_all_say (Arranges disk call is replies) = replies_of_master messages replies
 
 pub master_says : {D : Type 0} (x : Setup D) (old new : History D) (place : MasterPlace D) (messages : List Message) → IsWell x old → IsWell x new → new.nodes.master ≡ place → MasterGoes x.seen x.failures x.armed old.nodes.config old.sent old.nodes.master place messages → AreOfMaster messages
 master_says x old new place messages well still is goes =

@@ -17,6 +17,7 @@ use Rattle.gs_master_moves.specs.Locations as replies
 use Rattle.gs_master_entry.specs.Locating.{IsLookedUpIn}
 use Rattle.gs_world_lift.specs.Doing.{HasDurable}
 use Rattle.gs_world_lift.specs.Going.{AllSent}
+use Rattle.gs_world_lift.specs.Left.{as_left}
 use Rattle.gs_world_chunks.specs.Accounts.{Account}
 use Rattle.gs_world_chunks.specs.Running.{Setup}
 use Rattle.gs_world_chunks.specs.Reading.{WasCalled, WasLookedUp}
@@ -39,17 +40,29 @@ module _ {D : Type 0} (seen : D → List ℕ) where
   abbrev pub IsLocatedAt : (sent : Sent) (old new : MasterPlace D) → (caller : ReqId) (chunk : ℕ) → View → (epoch : ℕ) → Type 0
   IsLocatedAt sent old new caller chunk view epoch = KeepsAt old caller chunk view epoch ⊎ (WasCalled sent caller × ((d : Durable) × HasDurable seen new d × IsLookedUpIn d chunk view epoch))
 
-  -- So it is of what is kept where the master is behind something that it does, and of what it sends; and each call that waits then was sent.
+  -- So it is of what is kept where the master is behind something that it does at which no disk fails, and of what it sends; and each call that waits then was sent.
   pub record LocatesSo (before : Sent) (old new : MasterPlace D) (messages : List Message) : Type 0 where
     pub kept : (caller : ReqId) (chunk : ℕ) (view : View) (epoch : ℕ) → KeepsAt new caller chunk view epoch → IsLocatedAt before old new caller chunk view epoch
     pub sent : AllByRecursion (λ (m : Message). IsToldOnlyIf (IsLocatedAt before old new) m.body) messages
     pub waits : WaitAt (WasCalled before) new
 
+  -- whatever disk fails: a reply is kept in memory, or by what is left
+  abbrev pub KeepsEither : MasterPlace D → (caller : ReqId) (chunk : ℕ) → View → (epoch : ℕ) → Type 0
+  KeepsEither place caller chunk view epoch = KeepsAt place caller chunk view epoch ⊎ KeepsAt (as_left place) caller chunk view epoch
+
+  abbrev pub IsLocatedLeft : (sent : Sent) (old new : MasterPlace D) → (caller : ReqId) (chunk : ℕ) → View → (epoch : ℕ) → Type 0
+  IsLocatedLeft sent old new caller chunk view epoch = KeepsEither old caller chunk view epoch ⊎ (WasCalled sent caller × ((d : Durable) × HasDurable seen (as_left new) d × IsLookedUpIn d chunk view epoch))
+
+  pub record LocatesLeft (before : Sent) (old new : MasterPlace D) (messages : List Message) : Type 0 where
+    pub kept : (caller : ReqId) (chunk : ℕ) (view : View) (epoch : ℕ) → KeepsEither new caller chunk view epoch → IsLocatedLeft before old new caller chunk view epoch
+    pub sent : AllByRecursion (λ (m : Message). IsToldOnlyIf (IsLocatedLeft before old new) m.body) messages
+    pub waits : WaitAt (WasCalled before) (as_left new)
+
 -- ---- a run
 
 module _ {D : Type 0} (x : Setup D) where
-  -- In a world of a run each view that a client was ever told was looked up, and so was each that is kept in a reply; and each call that waits was sent.
+  -- In a world of a run each view that a client was ever told was looked up, and so was each that is kept in a reply, by a master of which a disk has failed too; and each call that waits where none has was sent.
   pub record WereLookedUp (now : History D) (a : Account) : Type 0 where
     pub sent : AllSent (λ (m : Message). IsToldOnlyIf (WasLookedUp x now a) m.body) now.sent
-    pub kept : (caller : ReqId) (chunk : ℕ) (view : View) (epoch : ℕ) → KeepsAt x.seen now.nodes.master caller chunk view epoch → WasLookedUp x now a caller chunk view epoch
-    pub waits : WaitAt x.seen (WasCalled now.sent) now.nodes.master
+    pub kept : (caller : ReqId) (chunk : ℕ) (view : View) (epoch : ℕ) → KeepsEither x.seen now.nodes.master caller chunk view epoch → WasLookedUp x now a caller chunk view epoch
+    pub waits : WaitAt x.seen (WasCalled now.sent) (as_left now.nodes.master)

@@ -126,7 +126,7 @@ module _ {D : Type 0} (x : Setup D) where
   -- So it was of each view that any client was ever told. It needn't be where the client was first told: an answer that is kept may be sent later, when another
   -- view has been settled.
   abbrev pub LocationsWereLookedUp : Type 0
-  LocationsWereLookedUp = x.fails ≡ false → (now : History D) (b : Account) (req : ReqId) (chunk epoch : ℕ) (view : View) → IsReached x now b → WasLocated now.sent req chunk view epoch → WasLookedUp now b req chunk view epoch
+  LocationsWereLookedUp = (now : History D) (b : Account) (req : ReqId) (chunk epoch : ℕ) (view : View) → IsReached x now b → WasLocated now.sent req chunk view epoch → WasLookedUp now b req chunk view epoch
 
   -- Whatever anybody gives, it is a server that gives it, where it is asked for that request, and it is of a text of the chunk: nothing else is ever read.
   abbrev pub BytesAreFetched : Type 0

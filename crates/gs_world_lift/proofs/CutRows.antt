@@ -111,16 +111,18 @@ reply_copies s family to body is = absurd is
 
 -- ---- a part of one move
 
--- the rows, the names, and what tells of epochs stay
-record IsLinked (u d : Durable) : Type 0 where
-  epoch : d.epoch ≡ u.epoch
-  phase : d.phase ≡ u.phase
-  handle : d.next_handle ≡ u.next_handle
-  listed : (chunk : ℕ) → is_listed d chunk ≡ is_listed u chunk
-  rows : (chunk : ℕ) → fin.get d.chunks chunk ≡ fin.get u.chunks chunk
+-- the rows, the names, the replies, and what tells of epochs stay
+pub record IsLinked (u d : Durable) : Type 0 where
+  pub epoch : d.epoch ≡ u.epoch
+  pub phase : d.phase ≡ u.phase
+  pub handle : d.next_handle ≡ u.next_handle
+  pub listed : (chunk : ℕ) → is_listed d chunk ≡ is_listed u chunk
+  pub rows : (chunk : ℕ) → fin.get d.chunks chunk ≡ fin.get u.chunks chunk
+  pub replies : d.replies ≡ u.replies
+  pub names : d.names ≡ u.names
 
-linked_still : (u d : Durable) → u ≡ d → IsLinked u d
-linked_still u d same = subst (IsLinked u) same (record { epoch = refl; phase = refl; handle = refl; listed = λ chunk. refl; rows = λ chunk. refl })
+pub linked_still : (u d : Durable) → u ≡ d → IsLinked u d
+linked_still u d same = subst (IsLinked u) same (record { epoch = refl; phase = refl; handle = refl; listed = λ chunk. refl; rows = λ chunk. refl; replies = refl; names = refl })
 
 -- who took an image changes nothing else
 holds_others : (d next : Durable) (q : ℕ) (b : Bool) (target : Option ℕ) → replayed d (holder_records b q target) ≡ Some next → next ≡ record d { prepared = next.prepared }
@@ -144,6 +146,8 @@ linked_holds d next q b target fit =
       handle = ap (λ (x : Durable). x.next_handle) others;
       listed = λ chunk. ap (λ (x : Durable). is_listed x chunk) others;
       rows = λ chunk. ap (λ (x : Durable). fin.get x.chunks chunk) others;
+      replies = ap (λ (x : Durable). x.replies) others;
+      names = ap (λ (x : Durable). x.names) others;
     }
 
 counts_taken : (chunk : ℕ) (xs : List PlainEntry) (many : ℕ) → list_all (counts_on chunk) xs ≡ true → list_all (counts_on chunk) (take many xs) ≡ true
@@ -198,21 +202,31 @@ short_records config s (Settles q asking carried view) few = absurd (false≢tru
 short_records config s (Scans removed forgotten) few = absurd (false≢true (sym few))
 short_records config s move few = refl
 
+-- a record that tells who took an image tells nothing else
+abbrev pub is_silent : PlainEntry → Bool
+is_silent (Holder q server) = true
+is_silent entry = false
+
+holders_silent : (b : Bool) (q : ℕ) (target : Option ℕ) → list_all is_silent (holder_records b q target) ≡ true
+holders_silent b q None = refl
+holders_silent false q (Some server) = refl
+holders_silent true q (Some server) = refl
+
 -- a scan alone takes rows and names out
-abbrev is_scan : Move → Bool
+abbrev pub is_scan : Move → Bool
 is_scan (Scans removed forgotten) = true
 is_scan move = false
 
 module _ (config : Config) (heard : Heard) (u : State) (d : Durable) where
   -- some records of a move, but not all
   module _ (many : ℕ) where
-    abbrev IsPartOf : Move → Type 0
+    abbrev pub IsPartOf : Move → Type 0
     IsPartOf move = (many < length (move_turn config u move).records) × (replayed u.durable (take many (move_turn config u move).records) ≡ Some d)
 
-    short_part : (move : Move) → has_many move ≡ false → IsPartOf move → u.durable ≡ d
+    pub short_part : (move : Move) → has_many move ≡ false → IsPartOf move → u.durable ≡ d
     short_part move few (within, fit) = durable_is (sym (ap (replayed u.durable) (none_taken (move_turn config u move).records many (short_records config u move few) within)) ∙ fit)
 
-    part_links : (move : Move) → is_scan move ≡ false → IsPartOf move → IsLinked u.durable d
+    pub part_links : (move : Move) → is_scan move ≡ false → IsPartOf move → IsLinked u.durable d
     part_links (Settles q asking carried view) other (within, fit) = by_taken (some_taken holds q (target_of asking.purpose) view many within)
       where
         holds : Bool
@@ -226,6 +240,22 @@ module _ (config : Config) (heard : Heard) (u : State) (d : Durable) where
         by_taken (inr part) = linked_holds u.durable d q holds (target_of asking.purpose) (sym (ap (replayed u.durable) part) ∙ fit)
     part_links (Scans removed forgotten) other part = absurd (false≢true (sym other))
     part_links move other part = linked_still u.durable d (short_part move refl part)
+
+    -- its records are none, or tell who took the image
+    pub part_silent : (move : Move) → is_scan move ≡ false → IsPartOf move → list_all is_silent (take many (move_turn config u move).records) ≡ true
+    part_silent (Settles q asking carried view) other (within, fit) = by_taken (some_taken holds q (target_of asking.purpose) view many within)
+      where
+        holds : Bool
+        holds = is_holder u.durable.phase (prepared_view u.durable q) carried asking view
+
+        all : List PlainEntry
+        all = (move_turn config u (Settles q asking carried view)).records
+
+        by_taken : (take many all ≡ []) ⊎ (take many all ≡ holder_records holds q (target_of asking.purpose)) → list_all is_silent (take many all) ≡ true
+        by_taken (inl none) = ap (list_all is_silent) none
+        by_taken (inr part) = ap (list_all is_silent) part ∙ holders_silent holds q (target_of asking.purpose)
+    part_silent (Scans removed forgotten) other part = absurd (false≢true (sym other))
+    part_silent move other (within, fit) = ap (list_all is_silent) (none_taken (move_turn config u move).records many (short_records config u move refl) within)
 
     part_reaches : (chunk : ℕ) (log : Log) (w : ChunkWorld) (move : Move) → IsMadeWell config heard u move → IsKept d → IsPartOf move → Shows chunk u w → WasHeard (Says chunk w) heard → Reaches chunk w (restarted d log)
     part_reaches chunk log w (Settles q asking carried view) well kept (within, fit) k was =

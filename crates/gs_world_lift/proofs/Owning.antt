@@ -5,7 +5,6 @@ use Rattle.gs_base.specs.declared.numbers.ReqId.{ReqId}
 use Rattle.gs_replica.specs.Stands.{Edit}
 use Rattle.gs_msg.specs.declared.body.Body.TheVariants as bodies
 use Rattle.gs_msg.specs.declared.chunk.Chunk.TheVariants as chunks
-use Rattle.gs_msg.specs.declared.node.NodeId.{NodeId}
 use Rattle.gs_msg.specs.declared.node.NodeId.TheVariants as nodes
 use Rattle.gs_world.proofs.Sending.{sent_still}
 use Rattle.gs_world.specs.Runs.{StaySent}

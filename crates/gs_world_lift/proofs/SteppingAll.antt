@@ -33,7 +33,7 @@ use Rattle.gs_world.specs.Sent.{message_of}
 use Rattle.gs_world_lift.proofs.Arming.{shows_armed, unknown_armed}
 use Rattle.gs_world_lift.proofs.Chains.{begun_standing, heard_of, marks_of}
 use Rattle.gs_world_lift.proofs.CutRows.{cut_rows, replies_so}
-use Rattle.gs_world_lift.proofs.DoingAll.{masters_do_all}
+use Rattle.gs_world_lift.proofs.DoingAll.{answers_reply, cut_replies, heard_by, masters_do_all}
 use Rattle.gs_world_lift.proofs.Durable.{has_durable}
 use Rattle.gs_world_lift.proofs.Keeping.{keeps_then}
 use Rattle.gs_world_lift.proofs.Living.{AllNext, elsewhere_next, server_next}
@@ -100,20 +100,23 @@ module _ {D : Type 0} (seen : D → List ℕ) (config : Config) (bytes : ReqId �
       (replies_of_master messages replies) (λ chunk given. replies_others chunk messages replies) rows
 
   master_all : MasterDoesAll seen armed old.sent old.nodes.master new.nodes.master messages → AllNext seen config bytes among step about O N lives
-  master_all (Does does) =
+  master_all (Does sound does) =
       master_next seen config bytes among step about quiet O N lives lasts held moment messages servers posted (λ disk call place. place) (record { shown = λ chunk w disk call place shows. shows; durable = λ d disk call place has. has })
       (λ disk call place last. last) (λ chunk disk call epoch place untold. untold) empty right does
-  master_all (Cuts m heard t many d first second at was turn within stand master kept counters told replies) =
+  master_all (Cuts m after heard caller t place many said d first second at there was turn cut least within stand master kept counters told) =
+      let replies = cut_replies m.state caller t place messages said after.state cut in
       cut_next m d first second at master kept counters told replies
       (cut_rows (λ chunk. is_copied new.sent chunk) (λ chunk. whole_in d chunk old.nodes.servers) m.config heard m.state t many d m.state.log messages (λ chunk. (begun_standing seen config bytes among step about O N lives m at chunk (lives.life chunk)).there)
-      (λ chunk. let b = begun_standing seen config bytes among step about O N lives m at chunk (lives.life chunk) in heard_of seen config bytes among step about O N lives m.state heard was chunk (lives.life chunk) b.there b.linked)
+      (λ chunk. let b = begun_standing seen config bytes among step about O N lives m at chunk (lives.life chunk) in heard_of seen config bytes among step about O N lives m.state heard (heard_by old.sent heard caller was) chunk (lives.life chunk) b.there b.linked)
       (λ chunk. let b = begun_standing seen config bytes among step about O N lives m at chunk (lives.life chunk) in marks_of seen config bytes among step about O N lives m.state d chunk (lives.life chunk) b.there b.linked) kept replies within stand turn)
-  master_all (Keeps same replies) =
+  master_all (Keeps m after heard caller at there failed still same was answers) =
       let x = has_durable seen O.nodes.master lives.lasts in
+      let replies = answers_reply m.state caller messages answers in
       still_next seen config bytes among step about quiet O N lives lasts held moment messages servers posted x.0 x.0 refl x.1 (subst (λ place. HasDurable seen place x.0) (sym same) x.1) (replies_there messages replies)
       (λ chunk w shows. subst (λ place. ShowsMaster seen chunk place w) (sym same) shows) (λ chunk epoch untold. subst (IsUnknown seen chunk epoch) (sym same) untold)
-  master_all (Arranges disk call is replies) =
+  master_all (Arranges disk call is none) =
       let x = has_durable seen O.nodes.master lives.lasts in
+      let replies = subst AreReplies (sym none) tt in
       let same = ap as_left is in
       still_next seen config bytes among step about quiet O N lives lasts held moment messages servers posted x.0 x.0 refl x.1 (subst (λ place. HasDurable seen place x.0) (sym same) (arming.durable x.0 disk call old.nodes.master x.1)) (replies_there messages replies)
       (λ chunk w shows. subst (λ place. ShowsMaster seen chunk place w) (sym same) (arming.shown chunk w disk call old.nodes.master shows))

@@ -17,7 +17,7 @@ use Rattle.gs_world.specs.Sent.{Sent}
 use Rattle.gs_world_lift.proofs.Answered.{nothing_new, of_client_quiet, of_master_quiet, server_done}
 use Rattle.gs_world_lift.proofs.AskingClients.{NoRequests, clients_go, of_master}
 use Rattle.gs_world_lift.proofs.AskingRuns.{asked_first, asks_more, does_say, none_more, stay_then}
-use Rattle.gs_world_lift.proofs.DoingAll.{masters_do_all}
+use Rattle.gs_world_lift.proofs.DoingAll.{answers_reply, cut_replies, masters_do_all}
 use Rattle.gs_world_lift.proofs.Posting.{posts_stay}
 use Rattle.gs_world_lift.proofs.Running.{before, leads_more, leads_still}
 use Rattle.gs_world_lift.proofs.SteppingAll.{held_first, lasting_stays, left_still, replies_of_master, stores_go_all}
@@ -36,11 +36,11 @@ use Rattle.gs_world_lift.specs.Waiting.{AllWaitAsked}
 -- ---- the master says what is its own
 
 module _ {D : Type 0} (seen : D → List ℕ) (armed : DiskId → ℕ → MasterPlace D → MasterPlace D) (sent : Sent) (old new : MasterPlace D) (messages : List Message) where
-  does_all_say : MasterDoesAll seen armed sent old new messages → AreOfMaster messages
-  does_all_say (Does does) = does_say seen (λ disk call place. place) sent (as_left old) (as_left new) messages does
-  does_all_say (Cuts m heard t many d first second at was turn within stand master kept counters told replies) = replies_of_master messages replies
-  does_all_say (Keeps same replies) = replies_of_master messages replies
-  does_all_say (Arranges disk call is replies) = replies_of_master messages replies
+  pub does_all_say : MasterDoesAll seen armed sent old new messages → AreOfMaster messages
+  does_all_say (Does sound does) = does_say seen (λ disk call place. place) sent (as_left old) (as_left new) messages does
+  does_all_say (Cuts m after heard caller t place many said d first second at there was turn cut least within stand master kept counters told) = replies_of_master messages (cut_replies m.state caller t place messages said after.state cut)
+  does_all_say (Keeps m after heard caller at there failed still same was answers) = replies_of_master messages (answers_reply m.state caller messages answers)
+  does_all_say (Arranges disk call is none) = subst AreOfMaster (sym none) tt
 
 module _ {D : Type 0} (seen : D → List ℕ) (failures : D → ℕ) (armed : DiskId → ℕ → MasterPlace D → MasterPlace D) where
   goes_say : (config : Config) (sent : Sent) (old new place : MasterPlace D) (messages : List Message) → Lasts seen (as_left old) → Lasts seen (as_left new) → new ≡ place → MasterGoes seen failures armed config sent old place messages → AreOfMaster messages

@@ -149,9 +149,10 @@ pub fn what_clients_are_told_goes_along_with_the_machines<D>()
 
 /// All chunks of a store go on with their machines over each step, whatever disk of the master fails at it, and so over each run. Once one has failed, what the disks
 /// tell is all that is left of the master, as where they wait for it: so the machine of each chunk shows it. Where one fails at a turn, so many of its records stand,
-/// perhaps all, and nobody is told anything but the caller; the machine leads on by events of the master's part to where what they lead to is shown, or the chunk is
-/// born by them. A master of which a disk has failed changes nothing of what is left, and answers calls alone; and a restart leads from there as from any disks. What is
-/// left of the master is to last: its disks tell what a master may stand on.
+/// perhaps all, and nobody is told anything but the caller, that it is unsure; the machine leads on by events of the master's part to where what they lead to is shown, or
+/// the chunk is born by them. A master of which a disk has failed changes nothing of what is left, or in memory, and answers calls alone: by the reply that it keeps, that a
+/// call is an older one, or that a disk has failed; and a restart leads from there as from any disks. What is left of the master is to last: its disks tell what a master
+/// may stand on.
 pub fn all_chunks_live_whatever_disks_fail<D>()
     ensures does { (seen : D → List ℕ) (failures : D → ℕ) (armed : DiskId → ℕ → MasterPlace D → MasterPlace D) → MastersDoAll seen failures armed }
     ensures step { (seen : D → List ℕ) (failures : D → ℕ) (armed : DiskId → ℕ → MasterPlace D → MasterPlace D) (config : Config) (bytes : ReqId → List ℕ) (among : List ℕ → Bool) → StoresGoAll seen failures armed config bytes among }

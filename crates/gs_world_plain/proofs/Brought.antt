@@ -4,16 +4,8 @@ use Rattle.std.specs.Prelude.{is_some}
 use Rattle.std.specs.List.{AllByRecursion}
 use Rattle.std.proofs.lemmas.Bool.{false≢true}
 use Rattle.gs_base.specs.declared.numbers.Moment.{Moment}
-use Rattle.gs_base.specs.declared.numbers.ReqId.{ReqId}
 use Rattle.gs_base.specs.declared.numbers.Stamp.{Stamp}
-use Rattle.gs_base.specs.declared.config.Config.{Config}
 use Rattle.gs_master_copies.specs.Made.{MakesNone}
-use Rattle.gs_master_moves.proofs.Fitting.{once_chain}
-use Rattle.gs_master_moves.specs.Epochs.{EndsOnce}
-use Rattle.gs_master_moves.specs.Guards.{Heard}
-use Rattle.gs_master_moves.specs.Laws.{IsMadeWell}
-use Rattle.gs_master_spec.specs.Handling.{restarted}
-use Rattle.gs_master_spec.specs.State.{State, Turn}
 use Rattle.gs_msg.specs.declared.body.Body.{Body}
 use Rattle.gs_msg.specs.declared.body.Body.TheVariants as bodies
 use Rattle.gs_msg.specs.declared.chunk.Chunk.{Chunk}
@@ -21,7 +13,6 @@ use Rattle.gs_msg.specs.declared.chunk.Chunk.TheVariants as chunks
 use Rattle.gs_msg.specs.declared.message.Message.{Message}
 use Rattle.gs_msg.specs.declared.node.NodeId.{NodeId}
 use Rattle.gs_msg.specs.declared.node.NodeId.TheVariants as nodes
-use Rattle.gs_nodes.specs.Happenings.{refusal_of_call}
 use Rattle.gs_nodes.specs.declared.place.MasterPlace.{MasterPlace}
 use Rattle.gs_server.specs.Servers.{Server}
 use Rattle.gs_server_member.specs.Unborn.{KeepsNothing}
@@ -39,16 +30,14 @@ use Rattle.gs_world_chunks.specs.Running.{IsReached, Moves, Runs, Setup}
 use Rattle.gs_world_lift.proofs.Beginning.{begins_none, begins_unborn}
 use Rattle.gs_world_lift.proofs.Copying.{copied_is_told, copied_there}
 use Rattle.gs_world_lift.proofs.DoingAll.{masters_do_all}
-use Rattle.gs_world_lift.proofs.Joint.{chain_of_master}
 use Rattle.gs_world_lift.proofs.Placing.{kind_of}
 use Rattle.gs_world_lift.proofs.Posting.{HasSaid, posted_all, posted_there, posts_stay}
 use Rattle.gs_world_lift.proofs.Running.{before}
 use Rattle.gs_world_lift.proofs.Serving.{set_cases}
-use Rattle.gs_world_lift.proofs.SteppingAll.{replies_of_master}
+use Rattle.gs_world_lift.proofs.TellingAll.{does_all_say}
 use Rattle.gs_world_lift.specs.Copying.{copied_from, is_copied}
-use Rattle.gs_world_lift.specs.Doing.{Arms, MasterDoes, Moves as MovesAt, Refuses, Starts, Waits}
 use Rattle.gs_world_lift.specs.Going.{AllSent, Elsewhere, Kind, MasterGoes, OfMaster, OfServer, Posts}
-use Rattle.gs_world_lift.specs.Left.{Arranges, Cuts, Does, Keeps, MasterDoesAll, as_left}
+use Rattle.gs_world_lift.specs.Left.{MasterDoesAll, as_left}
 use Rattle.gs_world_lift.specs.Saying.{AreOfClient, AreOfMaster, IsOfClient, IsOfClientAbout, IsOfMaster, IsOfMasterAbout}
 use Rattle.gs_world_plain.proofs.Nowhere.{BringNone, BringsNone, BringsNoneAbout, goes_nowhere}
 use Rattle.gs_world_plain.specs.Told.{IsMadeNowhere}
@@ -128,29 +117,6 @@ all_of_master : (chunk : ℕ) (new : Sent) → IsMadeNowhere new chunk → copie
 all_of_master chunk new made none [] are = tt
 all_of_master chunk new made none (m ∷ messages) are = (of_master chunk new made none m are.0, all_of_master chunk new made none messages are.1)
 
--- ---- what the master says
-
-refused_of_master : (caller : Option ReqId) → AreOfMaster (refusal_of_call caller)
-refused_of_master None = tt
-refused_of_master (Some req) = (tt, tt)
-
-turn_of_master : (config : Config) (heard : Heard) (s : State) (t : Turn) (messages : List Message) → EndsOnce config (IsMadeWell config heard) s t → messages ≡ t.sent → AreOfMaster messages
-turn_of_master config heard s t messages turn sends = subst AreOfMaster (sym sends) (chain_of_master config heard s t (once_chain config (IsMadeWell config heard) s t turn))
-
-module _ {D : Type 0} (x : Setup D) (sent : Sent) (old new : MasterPlace D) (messages : List Message) where
-  does_of_master : MasterDoes x.seen (λ disk call place. place) sent (as_left old) (as_left new) messages → AreOfMaster messages
-  does_of_master (MovesAt m after heard t at to was turn state sends) = turn_of_master m.config heard m.state t messages turn sends
-  does_of_master (Starts config d log after t has kept counters to turn state sends) = turn_of_master config None (restarted d log) t messages turn sends
-  does_of_master (Waits d first second has kept counters to told sends) = subst AreOfMaster (sym sends) tt
-  does_of_master (Refuses caller same sends) = subst AreOfMaster (sym sends) (refused_of_master caller)
-  does_of_master (Arms disk call is sends) = subst AreOfMaster (sym sends) tt
-
-  all_does_of_master : MasterDoesAll x.seen x.armed sent old new messages → AreOfMaster messages
-  all_does_of_master (Does does) = does_of_master does
-  all_does_of_master (Cuts m heard t many d first second at was turn within stand to kept counters told replies) = replies_of_master messages replies
-  all_does_of_master (Keeps same replies) = replies_of_master messages replies
-  all_does_of_master (Arranges disk call is replies) = replies_of_master messages replies
-
 -- ---- over a run
 
 module _ (sizes : HaveSizes) (law : AreNumbered) {D : Type 0} (x : Setup D) where
@@ -197,7 +163,7 @@ module _ (sizes : HaveSizes) (law : AreNumbered) {D : Type 0} (x : Setup D) wher
             }
         by_kind (OfMaster place messages moment goes servers master posted) =
             let w = was moment nodes.Master messages posted in
-            let are = all_does_of_master x old.sent old.nodes.master place messages (does_there step old new a b place messages r moves master goes) in
+            let are = does_all_say x.seen x.armed old.sent old.nodes.master place messages (does_there step old new a b place messages r moves master goes) in
             record {
               servers = λ j y at. w.servers j y (subst (λ ss. slice_get ss j ≡ Some y) servers at);
               brings = posted_there (SaidSo chunk) moment messages old.sent new.sent posted w.brings (all_of_master chunk new.sent made none messages are);

@@ -43,6 +43,7 @@ use Rattle.gs_world_lift.proofs.Beginning.{begins_none, begins_told}
 use Rattle.gs_world_lift.proofs.Posting.{posted_all}
 use Rattle.gs_world_lift.specs.Doing.{Arms, HasDurable, MasterDoes, Moves as MovesAt, Refuses, Starts, Waits}
 use Rattle.gs_world_lift.specs.Going.{Beats, Damages, Elsewhere, Hears, Kind, Loses, OfMaster, OfServer, Posts, Restarts, ServerGoes, Ticks}
+use Rattle.gs_world_lift.proofs.DoingAll.{answers_reply, cut_replies}
 use Rattle.gs_world_lift.specs.Left.{Arranges, AreReplies, Cuts, Does, IsReply, Keeps, MasterDoesAll, as_left, left_of}
 use Rattle.gs_world_lift.specs.Saying.{AreOfClient, IsOfClient, IsOfClientAbout}
 use Rattle.gs_world_plain.proofs.Brought.{does_there, kind_there}
@@ -153,17 +154,18 @@ module _ {D : Type 0} (x : Setup D) where
   armed_at sent Away other to k = subst (λ p. OfCopiesAt sent (as_left p)) (sym to) tt
 
   all_does_at : IsGiven x → (sent next : Sent) (old new : MasterPlace D) (messages : List Message) (moment : Moment) → Posts moment nodes.Master messages sent next → MasterDoesAll x.seen x.armed sent old new messages → OfCopiesAt sent (as_left old) → OfCopiesAt next (as_left new)
-  all_does_at given sent next old new messages moment posted (Does does) k = does_at sent next (as_left old) (as_left new) messages moment posted does k
-  all_does_at given sent next old new messages moment posted (Cuts m heard t many d first second at was turn within stand to kept counters told replies) k =
-      subst (OfCopiesAt next) (sym to) (λ e other chunk out. nowhere_then chunk moment nodes.Master messages sent next posted (replies_none chunk messages replies)
+  all_does_at given sent next old new messages moment posted (Does sound does) k = does_at sent next (as_left old) (as_left new) messages moment posted does k
+  all_does_at given sent next old new messages moment posted (Cuts m after heard caller t place many said d first second at there was turn cut least within stand to kept counters told) k =
+      subst (OfCopiesAt next) (sym to) (λ e other chunk out. nowhere_then chunk moment nodes.Master messages sent next posted (replies_none chunk messages (cut_replies m.state caller t place messages said after.state cut))
       ((subst (OfCopiesAt sent) at k).fresh chunk (before chunk (ap (λ (f : Durable). is_given f.next_handle chunk) (told_once (standing (x.seen first) (x.seen second)) d e told other) ∙ out) (is_given m.state.durable.next_handle chunk) refl)))
     where
       before : (chunk : ℕ) → is_given d.next_handle chunk ≡ false → (b : Bool) → is_given m.state.durable.next_handle chunk ≡ b → b ≡ false
       before chunk out true is = absurd (false≢true (sym out ∙ stays_given_cut m.config heard chunk m.state t many d turn stand is))
       before chunk out false is = refl
-  all_does_at given sent next old new messages moment posted (Keeps same replies) k = subst (OfCopiesAt next) (sym same) (quiet_at moment nodes.Master messages sent next (as_left old) posted (λ chunk. replies_none chunk messages replies) k)
-  all_does_at given sent next old new messages moment posted (Arranges disk call is replies) k =
-      subst (λ p. OfCopiesAt next (as_left p)) (sym is) (armed_at next old (x.armed disk call old) (given.armed disk call old) (quiet_at moment nodes.Master messages sent next (as_left old) posted (λ chunk. replies_none chunk messages replies) k))
+  all_does_at given sent next old new messages moment posted (Keeps m after heard caller at there failed still same was answers) k =
+      subst (OfCopiesAt next) (sym same) (quiet_at moment nodes.Master messages sent next (as_left old) posted (λ chunk. replies_none chunk messages (answers_reply m.state caller messages answers)) k)
+  all_does_at given sent next old new messages moment posted (Arranges disk call is none) k =
+      subst (λ p. OfCopiesAt next (as_left p)) (sym is) (armed_at next old (x.armed disk call old) (given.armed disk call old) (quiet_at moment nodes.Master messages sent next (as_left old) posted (λ chunk. subst (MakeNone chunk) (sym none) tt) k))
 
   -- ---- over a run
 
