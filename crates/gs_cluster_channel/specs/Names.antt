@@ -1,5 +1,4 @@
 -- The name of a channel.
-use Rattle.std.specs.Prelude.{ℕ, List}
 use Rattle.atomic_table.specs.Seated.{TableId}
 use Rattle.atomic_table.specs.declared.badge.Badge.{Badge}
 use Rattle.crossbeam_channel.specs.declared.flavors.array.Key.{Key}

@@ -1,11 +1,11 @@
 -- What ends of channels have put and taken, and that what an ear has taken was put by the ways into its node.
-use Rattle.std.specs.Prelude.{◌≡◌, ◌++◌, ℕ, Bool, true, false, List, [], ◌∷◌, Option, Some, None, slice_get, refl}
+use Rattle.std.specs.Prelude.{◌≡◌, ◌-◌, ◌++◌, ℕ, Bool, true, false, List, [], ◌∷◌, Option, Some, None, refl}
 use Rattle.std.specs.Coded.{Coded, code_by, coded×, coded_ℕ, coded_list}
 use Rattle.gs_msg.specs.contracts.node.NodeId as node_code
 use Rattle.gs_msg.specs.declared.node.NodeId.{NodeId}
 use Rattle.gs_msg.specs.declared.sent.Sent.{Sent}
 use Rattle.gs_msg.specs.contracts.sent.Sent as sent_code
-use Rattle.gs_cluster_channel.specs.Carried.{In}
+use Rattle.gs_cluster_history.specs.Histories.{Among}
 
 -- a way into a node, and what it has put
 pub record Putting : Type 0 where
@@ -24,6 +24,10 @@ coded_putting = code_by (NodeId × List Sent) (coded× node_code.the_row.coded (
 abbrev pub coded_hearing : Coded Hearing
 coded_hearing = code_by (NodeId × (ℕ × List Sent)) (coded× node_code.the_row.coded (coded× coded_ℕ (coded_list sent_code.the_row.coded))) (λ e. (e.me, (e.parts, e.taken))) (λ p. record { me = p.0; parts = p.1.0; taken = p.1.1 }) (λ _. refl)
 
+-- one part has been cut off
+abbrev pub less_one : Hearing → Hearing
+less_one e = record { me = e.me; parts = e.parts - 1; taken = e.taken }
+
 -- it puts a message, if it can
 abbrev pub puts : Bool → Sent → Putting → Putting
 puts true sent w = record { to = w.to; put = w.put ++ sent ∷ [] }
@@ -34,12 +38,9 @@ abbrev pub hears : Option Sent → Hearing → Hearing
 hears (Some sent) e = record { me = e.me; parts = e.parts; taken = e.taken ++ sent ∷ [] }
 hears None e = e
 
-abbrev pub Among : {A : Type 0} → List A → A → Type 0
-Among xs x = (k : ℕ) × (slice_get xs k ≡ Some x)
-
 abbrev pub AllGoTo : NodeId → List Putting → Type 0
 AllGoTo me ways = (way : Putting) → Among ways way → way.to ≡ me
 
 -- one of these ways has put it
 abbrev pub PutBy : List Putting → Sent → Type 0
-PutBy ways x = (way : Putting) × Among ways way × In way.put x
+PutBy ways x = (way : Putting) × Among ways way × Among way.put x

@@ -1,18 +1,17 @@
-ghost use Rattle.std.specs.Prelude.{◌≡◌, ◌+◌, [], true, vec_len};
-ghost use Rattle.crossbeam_channel.specs.Claims.{view, IsSeatAt};
-ghost use Rattle.crossbeam_channel.specs.Ends.{sends_on, receives_on};
-ghost use Rattle.gs_cluster_channel.specs.Carried.{In, hand};
+ghost use Rattle.std.specs.Prelude.{◌≡◌, ◌+◌, ◌<◌, ◌↔◌, IfOk, IsTrue, OnErr, OnOk, [], true, vec_len};
+ghost use Rattle.gs_cluster_history.specs.Histories.{Among};
 ghost use Rattle.gs_cluster_channel.specs.Named.{IsNamed};
-ghost use Rattle.gs_cluster_channel.specs.Settled.{AllGoTo, PutBy, hears};
+ghost use Rattle.gs_cluster_channel.specs.Settled.{AllGoTo, PutBy, hears, less_one};
 ghost use Rattle.gs_msg.specs.declared.sent.Sent.{Sent};
 
 use crate::hand::Hand;
-use crate::line::{Inlet, Outlet};
+use crate::line::{Inlet, Line, Outlet};
 use crate::naming::Naming;
-use crate::steps::{join, learn_total, learn_two_ears, try_take};
+use crate::steps::{cut_part, join, learn_total, learn_two_ears, try_take};
 use crate::way::Way;
 use crossbeam_channel::Pass;
 use gs_msg::{NodeId, Sent};
+use std::alloc::AllocError;
 use std::marker::{Model, PhantomData};
 use std::sync::Wait;
 
@@ -45,29 +44,47 @@ impl<N: Naming> Model for Ear<N> {
 }
 
 impl<N: Naming> Ear<N> {
-    pub(crate) fn new(
-        me: NodeId,
-        parts: u64,
-        outlet: Outlet,
-        inlet: Inlet,
-        pass: Pass<Sent, Hand>,
-    ) -> Ear<N>
-        requires seat { IsSeatAt (sends_on outlet) pass }
-        requires ends { receives_on inlet ≡ sends_on outlet }
-        requires part { (view pass).parts ≡ parts }
-        requires ear { (view pass).ears ≡ 1 }
-        requires quiet { ((view pass).put ≡ []) × ((view pass).taken ≡ []) }
-        requires named { IsNamed N.names me pass }
-        ensures { result ≡ record { me = me; parts = parts; taken = [] } }
+    /// The receiver's end of a channel that is named, with the whole pass to it.
+    pub fn new(line: Line) -> Ear<N>
+        requires { IsNamed N.names line.me line.pass }
+        ensures { result ≡ record { me = line.me; parts = 1024; taken = [] } }
     {
+        let Line {
+            me,
+            outlet,
+            inlet,
+            pass,
+        } = line;
         Ear {
             me,
-            parts,
+            parts: 1024,
             outlet,
             inlet,
             pass,
             of: PhantomData,
         }
+    }
+
+    /// Cuts a way into the node off. Where memory is wanting nothing changes.
+    pub fn way(&mut self) -> Result<Way<N>, AllocError>
+        requires { 1 < self.old.parts }
+        ensures ok { OnOk result (self.new ≡ less_one self.old) }
+        ensures err { OnErr result (self.new ≡ self.old) }
+        ensures way { IfOk result (λ way. way ≡ record { to = self.old.me; put = [] }) }
+    {
+        let Ear {
+            me,
+            parts,
+            outlet,
+            inlet: _,
+            pass,
+            of: _,
+        } = self;
+        let theirs = outlet.try_clone()?;
+        let to = *me;
+        *parts -= 1;
+        let part = cut_part(outlet, pass);
+        Ok(Way::new(to, theirs, part))
     }
 
     /// Its node.
@@ -96,8 +113,8 @@ impl<N: Naming> Ear<N> {
 /// All that an ear has taken was put by these ways into its node, where they have every part between them. Else it is false.
 pub fn settle<N: Naming>(ear: Ear<N>, ways: Vec<Way<N>>) -> bool
     requires { AllGoTo ear.me ways.items }
-    ensures all { result ≡ true → ear.parts + vec_len ways ≡ 1024 }
-    ensures put { result ≡ true → (x : Sent) → In ear.taken x → PutBy ways.items x }
+    ensures all { IsTrue result ↔ (ear.parts + vec_len ways ≡ 1024) }
+    ensures put { result ≡ true → (x : Sent) → Among ear.taken x → PutBy ways.items x }
 {
     let Ear {
         me: _,

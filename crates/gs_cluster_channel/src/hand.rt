@@ -3,12 +3,10 @@ use crossbeam_channel::protocol::{Join, Lesson, Outcome, Protocol, Split};
 use gs_msg::Sent;
 use std::collections::LinkedList;
 
-/// What a pass has put and taken, and what it has of the whole: of 1,024 parts, of the one ear and of 17 keys. No value of it is
-/// made.
+/// What a pass has put and taken, and what it has of the whole: of 1,024 parts, and of the one ear. No value of it is made.
 pub struct Hand {
     pub parts: u64,
     pub ears: u64,
-    pub keys: u64,
     pub put: LinkedList<Sent>,
     pub taken: LinkedList<Sent>,
 }
@@ -31,33 +29,9 @@ impl Split<Hand> for Cut {
     ghost use Rattle.std.specs.Prelude.{[], ◌-◌};
     ghost use Rattle.gs_cluster_channel.specs.Carried.{hand};
 
-    ghost left = { λ v. hand (v.parts - 1) v.ears v.keys v.put v.taken };
+    ghost left = { λ v. hand (v.parts - 1) v.ears v.put v.taken };
 
-    ghost right = { λ v. hand 1 0 0 [] [] };
-}
-
-/// A new pass gets all keys.
-pub struct CutKeys;
-
-impl Split<Hand> for CutKeys {
-    ghost use Rattle.std.specs.Prelude.{[]};
-    ghost use Rattle.gs_cluster_channel.specs.Carried.{hand};
-
-    ghost left = { λ v. hand v.parts v.ears 0 v.put v.taken };
-
-    ghost right = { λ v. hand 0 0 v.keys [] [] };
-}
-
-/// A new pass gets one key.
-pub struct CutKey;
-
-impl Split<Hand> for CutKey {
-    ghost use Rattle.std.specs.Prelude.{[], ◌-◌};
-    ghost use Rattle.gs_cluster_channel.specs.Carried.{hand};
-
-    ghost left = { λ v. hand v.parts v.ears (v.keys - 1) v.put v.taken };
-
-    ghost right = { λ v. hand 0 0 1 [] [] };
+    ghost right = { λ v. hand 1 0 [] [] };
 }
 
 /// A pass gets all that another has.
@@ -69,7 +43,7 @@ impl Join<Hand> for Joined {
 
     ghost both = { joined };
 
-    ghost spent = { hand 0 0 0 [] [] };
+    ghost spent = { hand 0 0 [] [] };
 }
 
 /// A try to send, of which the list put alone changes.
@@ -79,7 +53,7 @@ impl Outcome<Sent, Hand> for Puts {
     ghost use Rattle.std.specs.Prelude.{◌≡◌, [], ◌∷◌, ◌++◌};
     ghost use Rattle.gs_cluster_channel.specs.Carried.{hand};
 
-    ghost then = { λ v x w. w ≡ hand v.parts v.ears v.keys (v.put ++ x ∷ []) v.taken };
+    ghost then = { λ v x w. w ≡ hand v.parts v.ears (v.put ++ x ∷ []) v.taken };
 }
 
 impl Lesson<Sent, Hand> for Puts {
@@ -95,7 +69,7 @@ impl Outcome<Sent, Hand> for Takes {
     ghost use Rattle.std.specs.Prelude.{◌≡◌, [], ◌∷◌, ◌++◌};
     ghost use Rattle.gs_cluster_channel.specs.Carried.{hand};
 
-    ghost then = { λ v x w. w ≡ hand v.parts v.ears v.keys v.put (v.taken ++ x ∷ []) };
+    ghost then = { λ v x w. w ≡ hand v.parts v.ears v.put (v.taken ++ x ∷ []) };
 }
 
 impl Lesson<Sent, Hand> for Takes {
@@ -108,22 +82,15 @@ impl Lesson<Sent, Hand> for Takes {
 pub struct Total;
 
 impl Lesson<Sent, Hand> for Total {
-    ghost use Rattle.gs_cluster_channel.specs.Carried.{In};
+    ghost use Rattle.gs_cluster_history.specs.Histories.{Among};
     ghost use Rattle.gs_msg.specs.declared.sent.Sent.{Sent};
 
-    ghost fact = { λ v items. (x : Sent) → In v.taken x → In v.put x };
+    ghost fact = { λ v items. (x : Sent) → Among v.taken x → Among v.put x };
 }
 
 /// What a pass with two ears learns: there is none.
 pub struct TwoEars;
 
 impl Lesson<Sent, Hand> for TwoEars {
-    ghost fact = { λ v items. ⊥ };
-}
-
-/// What a pass with more keys than there are learns: there is none.
-pub struct SpareKey;
-
-impl Lesson<Sent, Hand> for SpareKey {
     ghost fact = { λ v items. ⊥ };
 }

@@ -4,19 +4,13 @@
 
 mod ear;
 mod hand;
-mod key;
 mod line;
 mod naming;
-mod stem;
 mod steps;
 mod way;
 
 pub use ear::{Ear, settle, two_ears};
-pub use hand::{
-    Carries, Cut, CutKey, CutKeys, Hand, Joined, Puts, SpareKey, Takes, Total, TwoEars,
-};
-pub use key::{Key, spare_key};
+pub use hand::{Carries, Cut, Hand, Joined, Puts, Takes, Total, TwoEars};
 pub use line::{CAPACITY, Inlet, Line, Outlet};
 pub use naming::Naming;
-pub use stem::Stem;
 pub use way::Way;

@@ -2,10 +2,11 @@
 ghost use Rattle.std.specs.Prelude.{◌≡◌, ◌-◌, ◌<◌, ◌≤◌, []};
 ghost use Rattle.crossbeam_channel.specs.Claims.{view, IsSeatAt};
 ghost use Rattle.crossbeam_channel.specs.Ends.{sends_on, receives_on};
-ghost use Rattle.gs_cluster_channel.specs.Carried.{HasPut, HasTaken, In, hand, joined};
+ghost use Rattle.gs_cluster_channel.specs.Carried.{HasPut, HasTaken, hand, joined};
+ghost use Rattle.gs_cluster_history.specs.Histories.{Among};
 ghost use Rattle.gs_msg.specs.declared.sent.Sent.{Sent};
 
-use crate::hand::{Cut, CutKey, CutKeys, Hand, Joined, Puts, SpareKey, Takes, Total, TwoEars};
+use crate::hand::{Cut, Hand, Joined, Puts, Takes, Total, TwoEars};
 use crate::line::{Inlet, Outlet};
 use crossbeam_channel::Pass;
 use gs_msg::Sent;
@@ -45,7 +46,7 @@ pub(crate) fn join(outlet: &Outlet, pass: &mut Pass<Sent, Hand>, other: Pass<Sen
 pub(crate) fn learn_total(outlet: &Outlet, pass: &mut Pass<Sent, Hand>)
     requires seat { IsSeatAt (sends_on outlet.now) pass.old }
     requires all { (view pass.old).parts ≡ 1024 }
-    ensures { (x : Sent) → In (view pass.old).taken x → In (view pass.old).put x }
+    ensures { (x : Sent) → Among (view pass.old).taken x → Among (view pass.old).put x }
 {
     outlet.learn_as::<Total>(pass);
 }
@@ -62,35 +63,8 @@ pub(crate) fn cut_part(outlet: &Outlet, pass: &mut Pass<Sent, Hand>) -> Pass<Sen
     requires seat { IsSeatAt (sends_on outlet.now) pass.old }
     requires more { 1 < (view pass.old).parts }
     ensures seat { IsSeatAt (sends_on outlet.now) pass.new × IsSeatAt (sends_on outlet.now) result }
-    ensures left { view pass.new ≡ hand ((view pass.old).parts - 1) (view pass.old).ears (view pass.old).keys (view pass.old).put (view pass.old).taken }
-    ensures right { view result ≡ hand 1 0 0 [] [] }
+    ensures left { view pass.new ≡ hand ((view pass.old).parts - 1) (view pass.old).ears (view pass.old).put (view pass.old).taken }
+    ensures right { view result ≡ hand 1 0 [] [] }
 {
     outlet.another::<Cut>(pass)
-}
-
-pub(crate) fn cut_keys(outlet: &Outlet, pass: &mut Pass<Sent, Hand>) -> Pass<Sent, Hand>
-    requires seat { IsSeatAt (sends_on outlet.now) pass.old }
-    ensures seat { IsSeatAt (sends_on outlet.now) pass.new × IsSeatAt (sends_on outlet.now) result }
-    ensures left { view pass.new ≡ hand (view pass.old).parts (view pass.old).ears 0 (view pass.old).put (view pass.old).taken }
-    ensures right { view result ≡ hand 0 0 (view pass.old).keys [] [] }
-{
-    outlet.another::<CutKeys>(pass)
-}
-
-pub(crate) fn cut_key(outlet: &Outlet, pass: &mut Pass<Sent, Hand>) -> Pass<Sent, Hand>
-    requires seat { IsSeatAt (sends_on outlet.now) pass.old }
-    requires more { 0 < (view pass.old).keys }
-    ensures seat { IsSeatAt (sends_on outlet.now) pass.new × IsSeatAt (sends_on outlet.now) result }
-    ensures left { (view pass.new).keys ≡ (view pass.old).keys - 1 }
-    ensures right { view result ≡ hand 0 0 1 [] [] }
-{
-    outlet.another::<CutKey>(pass)
-}
-
-pub(crate) fn learn_spare_key(outlet: &Outlet, pass: &mut Pass<Sent, Hand>)
-    requires seat { IsSeatAt (sends_on outlet.now) pass.old }
-    requires more { 17 < (view pass.old).keys }
-    ensures { ⊥ }
-{
-    outlet.learn_as::<SpareKey>(pass);
 }

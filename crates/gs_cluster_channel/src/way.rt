@@ -42,7 +42,7 @@ impl<N: Naming> Model for Way<N> {
 impl<N: Naming> Way<N> {
     pub(crate) fn new(to: NodeId, outlet: Outlet, pass: Pass<Sent, Hand>) -> Way<N>
         requires seat { IsSeatAt (sends_on outlet) pass }
-        requires part { view pass ≡ hand 1 0 0 [] [] }
+        requires part { view pass ≡ hand 1 0 [] [] }
         requires named { IsNamed N.names to pass }
         ensures { result ≡ record { to = to; put = [] } }
     {

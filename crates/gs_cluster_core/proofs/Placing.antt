@@ -17,6 +17,7 @@ use Rattle.gs_cluster_core.proofs.Sending.{counted_else, counted_here, get_set_e
 pub record Moves {D : Type 0} (old new : Nodes D) (me : NodeId) (after : Role D) : Type 0 where
   pub here : node_at new me ≡ Some after
   pub others : (other : NodeId) → (me ≡ other → ⊥) → node_at new other ≡ node_at old other
+  pub config : new.config ≡ old.config
 
 module _ {D : Type 0} (n : Nodes D) where
   beside_master : (place : MasterPlace D) (other : NodeId) → (ids.Master ≡ other → ⊥) → node_at (with_master place n) other ≡ node_at n other
@@ -25,7 +26,7 @@ module _ {D : Type 0} (n : Nodes D) where
   beside_master place (ids.Client j) differ = refl
 
   pub master_moves : (place : MasterPlace D) → Moves n (with_master place n) ids.Master (Master place)
-  master_moves place = record { here = refl; others = beside_master place }
+  master_moves place = record { here = refl; others = beside_master place; config = refl }
 
   beside_server : (i : ℕ) (after : Server) (other : NodeId) → (ids.Server i ≡ other → ⊥) → node_at (with_servers (slice_set n.servers i after) n) other ≡ node_at n other
   beside_server i after ids.Master differ = refl
@@ -34,7 +35,7 @@ module _ {D : Type 0} (n : Nodes D) where
 
   pub server_moves : (id : ℕ) (s after : Server) → slice_get n.servers id ≡ Some s → Moves n (with_servers (slice_set n.servers id after) n) (ids.Server id) (AServer after)
   server_moves id s after h =
-      record { here = ap (as_server {D = D}) (get_set_here n.servers id s after h); others = beside_server id after }
+      record { here = ap (as_server {D = D}) (get_set_here n.servers id s after h); others = beside_server id after; config = refl }
 
   beside_client : (i : ClientId) (c after : Node) → client_in n.clients i ≡ Some c → (other : NodeId) → (ids.Client i ≡ other → ⊥)
       → node_at (with_clients (slice_set n.clients (i.0 - 1) after) n) other ≡ node_at n other
@@ -48,6 +49,7 @@ module _ {D : Type 0} (n : Nodes D) where
   client_moves id c after h = record {
     here = ap (as_client {D = D}) (counted_here (id.0 == 0) n.clients (id.0 - 1) c after h);
     others = beside_client id c after h;
+    config = refl;
   }
 
 -- ---- which node it is

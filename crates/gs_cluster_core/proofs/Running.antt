@@ -15,7 +15,7 @@ use Rattle.gs_cluster_history.specs.declared.took.Took.TheVariants.{Heard, Did}
 use Rattle.gs_cluster_history.specs.Histories.{Among, Line, Listed, MayTake, Past, Upshot, listing, moment_of, out_of, said_of}
 use Rattle.gs_cluster_history.specs.Merging.{Comes, Place, RunsAll, Stands, event_of}
 use Rattle.gs_cluster_core.specs.Roles.{DoesAs}
-use Rattle.gs_cluster_core.specs.Stores.{AreIn, Differ, StandsIn, node_at, numbers, post_of}
+use Rattle.gs_cluster_core.specs.Stores.{AreIn, Differ, OthersStay, StandsIn, node_at, numbers, post_of}
 use Rattle.gs_cluster_core.specs.declared.role.Role.{Role}
 use Rattle.gs_cluster_core.proofs.Happening.{Occurs, acting_occurs, hearing_occurs}
 use Rattle.gs_cluster_core.proofs.Placing.{Moves}
@@ -56,7 +56,7 @@ module _ {D : Type 0} (seen : D → List ℕ) (failures : D → ℕ) (armed : Di
       ap (λ o. message_in o s.place) (ap (posts_of h.sent) (sym from) ∙ (are.all l among).sent) ∙ message_listed l.past.sent s.place s listed
 
   took_occurs : (lines : List (Line (Role D))) (h : History D) (took : Took) (me : NodeId) (clock : ℕ) (core : Role D) (o : Upshot) (after : Role D)
-      → AreIn lines h → Stands lines me took → MayTake me clock took → node_at h.nodes me ≡ Some core → DoesAs seen failures me took core o after
+      → AreIn lines h → Stands lines me took → MayTake me clock took → node_at h.nodes me ≡ Some core → DoesAs seen failures took core o after
       → Occurs seen failures armed (event_of took).moment (event_of took).happening h me o after
   took_occurs lines h (Heard s) me clock core o after are (to, l, among, from, listed) may at does =
       hearing_occurs seen failures armed h me s core o after to (stands_sent lines h s l are among from listed) at does
@@ -76,32 +76,65 @@ module _ {D : Type 0} (seen : D → List ℕ) (failures : D → ℕ) (armed : Di
       record { node = moves.others l.me apart ∙ before.node; sent = others l.me apart ∙ before.sent })
       (set_at old at k line (record { me = line.me; past = after }) l found is)
 
-  pub comes_happens : (p : Place) (old new : List (Line (Role D))) (h : History D) → Differ (numbers old) → Comes (DoesAs seen failures) p old new → AreIn old h
-      → (after : History D) × Happens seen failures armed (event_of p.entry.took) h (said_of p.entry.outcome) after × AreIn new after
-  comes_happens p old new h differ comes are =
+  -- one entry is an event of the store, and nodes that aren't among these stay
+  record HasCome (p : Place) (old new : List (Line (Role D))) (h : History D) : Type 0 where
+    after : History D
+    happens : Happens seen failures armed (event_of p.entry.took) h (said_of p.entry.outcome) after
+    are : AreIn new after
+    others : OthersStay (numbers old) h after
+
+  has_come : (p : Place) (old new : List (Line (Role D))) (h : History D) → Differ (numbers old) → Comes (DoesAs seen failures) p old new → AreIn old h → HasCome p old new h
+  has_come p old new h differ comes are =
       let line = comes.line in
       let stands = are.all line (p.at, comes.at) in
       let occurs = took_occurs old h p.entry.took line.me p.entry.clock line.past.core p.entry.outcome comes.after.core are comes.known comes.takes.may stands.node comes.takes.does in
       let sent = sends seen failures armed (event_of p.entry.took).moment line.me p.entry.outcome (map post_of line.past.sent) h.sent stands.sent in
       let here : posts_of sent.0 line.me ≡ Some (map post_of comes.after.sent) =
       sent.1.here ∙ ap Some (ap (λ m. map post_of line.past.sent ++ map (posts.posted m) (out_of p.entry.outcome)) (same_moment p.entry.took)
-      ∙ sym (posts_added line.past.sent p.entry.clock (moment_of p.entry.took) (out_of p.entry.outcome)) ∙ ap (map post_of) (sym comes.takes.sent)) in (
-        record { nodes = occurs.new; sent = sent.0 },
-        record { by = line.me; outcome = p.entry.outcome; at = occurs.at; tells = sent.1.tells },
-        subst (λ (ls : List (Line (Role D))). AreIn ls (record { nodes = occurs.new; sent = sent.0 })) (sym comes.rest) (record {
+      ∙ sym (posts_added line.past.sent p.entry.clock (moment_of p.entry.took) (out_of p.entry.outcome)) ∙ ap (map post_of) (sym comes.takes.sent)) in
+      let among : Among (numbers old) line.me = (p.at, map_at (λ (m : Line (Role D)). m.me) old p.at line comes.at) in
+      record {
+        after = record { nodes = occurs.new; sent = sent.0 };
+        happens = record { by = line.me; outcome = p.entry.outcome; at = occurs.at; tells = sent.1.tells };
+        are = subst (λ (ls : List (Line (Role D))). AreIn ls (record { nodes = occurs.new; sent = sent.0 })) (sym comes.rest) (record {
           all = goes_on old p.at line comes.after h occurs.new sent.0 differ are comes.at occurs.moves here sent.1.others;
           none_lost = sent.1.lost ∙ are.none_lost;
-        }),
-      )
+        });
+        others = record {
+          config = occurs.moves.config;
+          node = λ me apart. occurs.moves.others me (λ e. apart (subst (Among (numbers old)) e among));
+          sent = λ me apart. sent.1.others me (λ e. apart (subst (Among (numbers old)) e among));
+        };
+      }
+
+  pub comes_happens : (p : Place) (old new : List (Line (Role D))) (h : History D) → Differ (numbers old) → Comes (DoesAs seen failures) p old new → AreIn old h
+      → (after : History D) × Happens seen failures armed (event_of p.entry.took) h (said_of p.entry.outcome) after × AreIn new after
+  comes_happens p old new h differ comes are = let one = has_come p old new h differ comes are in (one.after, one.happens, one.are)
 
   numbers_stay : (p : Place) (old new : List (Line (Role D))) → Comes (DoesAs seen failures) p old new → numbers new ≡ numbers old
   numbers_stay p old new comes =
       ap numbers comes.rest ∙ map_same (λ (m : Line (Role D)). m.me) old p.at comes.line (record { me = comes.line.me; past = comes.after }) comes.at refl
 
-  pub all_happen : (places : List Place) (old new : List (Line (Role D))) (h : History D) → Differ (numbers old) → RunsAll (DoesAs seen failures) places old new → AreIn old h
-      → (end : History D) × HappensAll seen failures armed (map (λ (p : Place). event_of p.entry.took) places) (map (λ (p : Place). said_of p.entry.outcome) places) h end × AreIn new end
-  all_happen [] old new h differ same are = (h, (refl, refl), subst (λ (ls : List (Line (Role D))). AreIn ls h) (sym same) are)
+  pub record HaveHappened (places : List Place) (old new : List (Line (Role D))) (h : History D) : Type 0 where
+    pub end : History D
+    pub happens : HappensAll seen failures armed (map (λ (p : Place). event_of p.entry.took) places) (map (λ (p : Place). said_of p.entry.outcome) places) h end
+    pub are : AreIn new end
+    pub others : OthersStay (numbers old) h end
+
+  pub all_happen : (places : List Place) (old new : List (Line (Role D))) (h : History D) → Differ (numbers old) → RunsAll (DoesAs seen failures) places old new → AreIn old h → HaveHappened places old new h
+  all_happen [] old new h differ same are =
+      record { end = h; happens = (refl, refl); are = subst (λ (ls : List (Line (Role D))). AreIn ls h) (sym same) are; others = record { config = refl; node = λ me apart. refl; sent = λ me apart. refl } }
   all_happen (p ∷ ps) old new h differ (mid, comes, rest) are =
-      let one = comes_happens p old mid h differ comes are in
-      let others = all_happen ps mid new one.0 (subst Differ (sym (numbers_stay p old mid comes)) differ) rest one.2 in
-      (others.0, (said_of p.entry.outcome, map (λ (q : Place). said_of q.entry.outcome) ps, one.0, refl, one.1, others.1), others.2)
+      let one = has_come p old mid h differ comes are in
+      let stay = numbers_stay p old mid comes in
+      let all = all_happen ps mid new one.after (subst Differ (sym stay) differ) rest one.are in
+      record {
+        end = all.end;
+        happens = (said_of p.entry.outcome, map (λ (q : Place). said_of q.entry.outcome) ps, one.after, refl, one.happens, all.happens);
+        are = all.are;
+        others = record {
+          config = all.others.config ∙ one.others.config;
+          node = λ me apart. all.others.node me (λ a. apart (subst (λ ns. Among ns me) stay a)) ∙ one.others.node me apart;
+          sent = λ me apart. all.others.sent me (λ a. apart (subst (λ ns. Among ns me) stay a)) ∙ one.others.sent me apart;
+        };
+      }

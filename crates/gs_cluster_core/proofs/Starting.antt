@@ -22,7 +22,7 @@ use Rattle.gs_cluster_history.specs.Histories.{Among, Begins as NodeBegins, Kept
 use Rattle.gs_cluster_history.specs.Merging.{AreBegun, IsRunOf, Place, lines_of}
 use Rattle.gs_cluster_history.specs.Setting.{Setting}
 use Rattle.gs_cluster_core.specs.Roles.{DoesAs, StartsAs}
-use Rattle.gs_cluster_core.specs.Stores.{AreIn, Differ, IsStoreRun, StandsIn, as_client, as_server, node_at, numbers, post_of}
+use Rattle.gs_cluster_core.specs.Stores.{AreIn, Differ, IsStoreRun, OthersStay, StandsIn, as_client, as_server, node_at, numbers, post_of}
 use Rattle.gs_cluster_core.specs.declared.role.Role.{Role}
 use Rattle.gs_cluster_core.specs.declared.role.Role.TheVariants.{Master, Server as AServer, Client}
 use Rattle.gs_cluster_core.proofs.Running.{all_happen, map_at}
@@ -176,9 +176,12 @@ module _ {D : Type 0} (seen : D → List ℕ) (failures : D → ℕ) (armed : Di
       record {
         disks = o.disks;
         begun = begun seen failures setting o.place o.turn;
-        end = all.0;
+        end = all.end;
         texts = o.texts;
         begins = begins_new setting o.disks o.place o.turn o.opens;
-        happens = all.1;
-        stand = all.2;
+        happens = all.happens;
+        stand = all.are;
+        others = subst (λ ns. OthersStay ns (begun seen failures setting o.place o.turn) all.end) are.nodes all.others;
+        each = run.each;
+        rises = run.rises;
       }

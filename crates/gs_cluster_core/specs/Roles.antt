@@ -80,9 +80,9 @@ module _ {D : Type 0} (seen : D → List ℕ) (failures : D → ℕ) where
   ActsAs moment happening (AServer server) outcome new = (after : Server) × (new ≡ AServer after) × ServerActs moment happening server outcome after
   ActsAs moment happening (Client node) outcome new = (after : Node) × (new ≡ Client after) × ClientActs happening node outcome after
 
-  abbrev pub DoesAs : NodeId → Took → Role D → Upshot → Role D → Type 0
-  DoesAs me (Heard sent) old outcome new = HearsAs sent old outcome new
-  DoesAs me (Did event) old outcome new = ActsAs event.moment event.happening old outcome new
+  abbrev pub DoesAs : Took → Role D → Upshot → Role D → Type 0
+  DoesAs (Heard sent) old outcome new = HearsAs sent old outcome new
+  DoesAs (Did event) old outcome new = ActsAs event.moment event.happening old outcome new
 
   -- A master is what its disks tell, which are seen to say what the setting says; a server and a client have heard nothing.
   abbrev pub StartsAs : Setting → NodeId → Role D → List Message → Type 0

@@ -16,7 +16,7 @@ use Rattle.gs_world.specs.Histories.{Begins, History}
 use Rattle.gs_world.specs.Runs.{HappensAll}
 use Rattle.gs_world.specs.Sent.{posts_of}
 use Rattle.gs_cluster_history.specs.Histories.{Among, Kept, Line, Listed, listed, said_of}
-use Rattle.gs_cluster_history.specs.Merging.{Place, event_of, lines_of}
+use Rattle.gs_cluster_history.specs.Merging.{Place, Rises, event_of, lines_of, mine}
 use Rattle.gs_cluster_history.specs.Setting.{Setting}
 use Rattle.gs_cluster_core.specs.declared.role.Role.{Role}
 use Rattle.gs_cluster_core.specs.declared.role.Role.TheVariants.{Master, Server as AServer, Client}
@@ -54,9 +54,16 @@ numbers {D} lines = map (λ (l : Line (Role D)). l.me) lines
 abbrev pub Differ : List NodeId → Type 0
 Differ ids = (i j : ℕ) (me : NodeId) → slice_get ids i ≡ Some me → slice_get ids j ≡ Some me → i ≡ j
 
+-- The sizes stay, and so does each node that isn't among these, with what it has sent.
+pub record OthersStay {D : Type 0} (ids : List NodeId) (old new : History D) : Type 0 where
+  pub config : new.nodes.config ≡ old.nodes.config
+  pub node : (me : NodeId) → (Among ids me → ⊥) → node_at new.nodes me ≡ node_at old.nodes me
+  pub sent : (me : NodeId) → (Among ids me → ⊥) → posts_of new.sent me ≡ posts_of old.sent me
+
 module _ {D : Type 0} (seen : D → List ℕ) (failures : D → ℕ) (armed : DiskId → ℕ → MasterPlace D → MasterPlace D) where
   -- The entries, one after the other, are events of a store that has begun new, over disks that say what the setting says. They lead to
-  -- a store in which each of the nodes is what its history makes of it, and has sent what that says.
+  -- a store in which each of the nodes is what its history makes of it, and has sent what that says; any other node is as it began.
+  -- Each history stands among the entries in its order, and clocks never fall.
   pub record IsStoreRun (setting : Setting) (ks : List (Kept (Role D))) (places : List Place) : Type 0 where
     pub disks : D × D
     pub begun : History D
@@ -65,6 +72,9 @@ module _ {D : Type 0} (seen : D → List ℕ) (failures : D → ℕ) (armed : Di
     pub begins : Begins seen failures armed setting.config setting.clients disks begun
     pub happens : HappensAll seen failures armed (map (λ (p : Place). event_of p.entry.took) places) (map (λ (p : Place). said_of p.entry.outcome) places) begun end
     pub stand : AreIn (lines_of ks) end
+    pub others : OthersStay (map (λ (k : Kept (Role D)). k.me) ks) begun end
+    pub each : (i : ℕ) (k : Kept (Role D)) → slice_get ks i ≡ Some k → mine i places ≡ k.entries
+    pub rises : Rises 0 places
 
 -- Worked: the master is found by its number, and what was sent at a clock stands at its moment.
 the_master_is_found : {D : Type 0} (n : Nodes D) → node_at n ids.Master ≡ Some (Master n.master)

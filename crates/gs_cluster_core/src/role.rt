@@ -9,7 +9,7 @@ use gs_base::{Moment, Refusal};
 use gs_client::ClientNode;
 use gs_cluster_history::{Core, Took, Turn};
 use gs_journal::Disk;
-use gs_msg::{Event, Happening, Message, NodeId, Sent, StoreNode};
+use gs_msg::{Event, Happening, Message, Sent, StoreNode};
 use gs_nodes::{MasterPlace, turn_of};
 use gs_server::Server;
 use std::alloc::Global;
@@ -154,11 +154,18 @@ impl<D: Disk + Drop> Core for Role<D> {
 
     ghost Does = { DoesAs D.seen D.failures };
 
-    fn take(&mut self, alloc: Global, me: NodeId, took: Took) -> Result<Turn, Refusal> {
-        let _ = me;
+    fn take(&mut self, alloc: Global, took: Took) -> Result<Turn, Refusal> {
         match took {
             Took::Heard(sent) => hear(alloc, self, sent),
             Took::Did(event) => act(alloc, self, event),
+        }
+    }
+
+    fn is_waiting(&self) -> bool {
+        match self {
+            Role::Master(master) => master.is_moving(),
+            Role::Server(server) => server.is_waiting(),
+            Role::Client(_) => false,
         }
     }
 }

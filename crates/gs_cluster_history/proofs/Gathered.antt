@@ -1,16 +1,16 @@
 -- All nodes that are kept, merged.
-use Rattle.std.proofs.Common.{◌≡◌, ℕ, zero, suc, ◌≤◌, List, [], ◌∷◌, map, Some, refl, sym, ap, ◌∙◌, subst, arith}
+use Rattle.std.proofs.Common.{◌≡◌, ℕ, zero, suc, ◌≤◌, List, [], ◌∷◌, map, Some, refl, sym, ap, subst, arith}
 use Rattle.std.specs.Prelude.{slice_get}
 use Rattle.std.proofs.lemmas.Option.{none-some, same_Some}
 use Rattle.gs_msg.specs.declared.message.Message.{Message}
 use Rattle.gs_msg.specs.declared.node.NodeId.{NodeId}
 use Rattle.gs_cluster_history.specs.declared.took.Took.{Took}
 use Rattle.gs_cluster_history.specs.Histories.{Among, Begins, Entry, IsKept, Kept, Leads, Line, Upshot, line_of}
-use Rattle.gs_cluster_history.specs.Merging.{AllKept, AreBegun, IsRunOf, Matches, RunsAll, Stands, count, lines_of, merged, merged_from, places_of}
+use Rattle.gs_cluster_history.specs.Merging.{AllKept, AreBegun, IsRunOf, Matches, RunsAll, Stands, count, lines_of, merged_from, places_of}
 use Rattle.gs_cluster_history.proofs.Leading.{Ascends, ascends_from, leads_ascends}
 use Rattle.gs_cluster_history.proofs.Merging.{AllLead, AllStand, Going, end_of, in_order, now_of, rest_of, rising, run}
 
-module _ {C : Type 0} (Does : NodeId → Took → C → Upshot → C → Type 0) (Starts : NodeId → C → List Message → Type 0) where
+module _ {C : Type 0} (Does : Took → C → Upshot → C → Type 0) (Starts : NodeId → C → List Message → Type 0) where
   abbrev entries_of : Kept C → List Entry
   entries_of k = k.entries
 

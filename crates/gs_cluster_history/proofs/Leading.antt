@@ -1,12 +1,12 @@
 -- What is sent at entries from a clock on has no lower clock.
-use Rattle.std.proofs.Common.{◌≡◌, ℕ, zero, suc, ◌+◌, ◌<◌, ◌≤◌, ◌⊎◌, inl, inr, ⊎_elim, List, [], ◌∷◌, ◌++◌, map, Some, refl, sym, ap, ◌∙◌, subst, arith}
+use Rattle.std.proofs.Common.{◌≡◌, ℕ, zero, suc, ◌<◌, ◌≤◌, ◌⊎◌, inl, inr, ⊎_elim, List, [], ◌∷◌, ◌++◌, map, Some, sym, ap, subst, arith}
 use Rattle.std.specs.Prelude.{slice_get}
 use Rattle.std.proofs.lemmas.Option.{none-some, same_Some}
 use Rattle.gs_base.specs.declared.numbers.Moment.{Moment}
 use Rattle.gs_msg.specs.declared.message.Message.{Message}
 use Rattle.gs_msg.specs.declared.node.NodeId.{NodeId}
 use Rattle.gs_cluster_history.specs.declared.took.Took.{Took}
-use Rattle.gs_cluster_history.specs.Histories.{Entry, Leads, Listed, Past, Takes, Upshot, listed, moment_of, out_of}
+use Rattle.gs_cluster_history.specs.Histories.{Entry, Leads, Listed, Past, Upshot, listed, moment_of, out_of}
 
 -- an element of two lists joined is one of the first at its place, or one of the second
 get_either : {X : Type 0} (xs ys : List X) (k : ℕ) (v : X) → slice_get (xs ++ ys) k ≡ Some v → (slice_get xs k ≡ Some v) ⊎ ((j : ℕ) × (slice_get ys j ≡ Some v))
@@ -29,7 +29,7 @@ pub ascends_from : (c d : ℕ) (es : List Entry) → d ≤ c → Ascends c es �
 ascends_from c d [] h a = tt
 ascends_from c d (e ∷ es) h a = (let b = a.0 in omega arith, a.1)
 
-module _ {C : Type 0} (Does : NodeId → Took → C → Upshot → C → Type 0) where
+module _ {C : Type 0} (Does : Took → C → Upshot → C → Type 0) where
   -- the clocks of a history rise
   pub leads_ascends : (me : NodeId) (p : Past C) (es : List Entry) (q : Past C) → Leads Does me p es q → Ascends p.clock es
   leads_ascends me p [] q l = tt

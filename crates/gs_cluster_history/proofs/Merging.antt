@@ -1,15 +1,14 @@
 -- Histories that match are merged into a run.
-use Rattle.std.proofs.Common.{◌≡◌, ℕ, zero, suc, ◌+◌, ◌<◌, ◌≤◌, ◌⊎◌, inl, inr, ⊎_elim, List, [], ◌∷◌, map, length, set, Option, Some, None, refl, sym, ap, ◌∙◌, subst, arith}
+use Rattle.std.proofs.Common.{◌≡◌, ℕ, zero, suc, ◌≤◌, ◌⊎◌, inl, inr, ⊎_elim, List, [], ◌∷◌, map, Option, Some, None, refl, sym, ap, ◌∙◌, subst, arith}
 use Rattle.std.specs.Prelude.{◌==◌, slice_get, slice_set}
-use Rattle.std.proofs.lemmas.Option.{none-some, same_Some, slice_get-map}
+use Rattle.std.proofs.lemmas.Option.{none-some, same_Some}
 use Rattle.std.proofs.lemmas.Bool.{cases_eq, cond-true, cond-false, eq-eqb, ne_eqb}
-use Rattle.gs_msg.specs.declared.message.Message.{Message}
 use Rattle.gs_msg.specs.declared.node.NodeId.{NodeId}
 use Rattle.gs_cluster_history.specs.declared.took.Took.{Took}
 use Rattle.gs_cluster_history.specs.declared.took.Took.TheVariants.{Heard, Did}
-use Rattle.gs_cluster_history.specs.Histories.{Among, Begins, Entry, MayTake, IsKept, Kept, Leads, Line, Past, Takes, Upshot, line_of, listing}
-use Rattle.gs_cluster_history.specs.Merging.{AllKept, AreBegun, Comes, IsRunOf, Matches, Place, Rises, RunsAll, Stands, behind_first, count, least, lines_of, merged, merged_from, mine, next_and, places_of, without_first}
-use Rattle.gs_cluster_history.proofs.Leading.{Ascends, ascends_from, before, leads_ascends}
+use Rattle.gs_cluster_history.specs.Histories.{Among, Entry, MayTake, Leads, Line, Past, Upshot, listing}
+use Rattle.gs_cluster_history.specs.Merging.{Comes, Place, Rises, RunsAll, Stands, behind_first, count, least, merged_from, mine, next_and, without_first}
+use Rattle.gs_cluster_history.proofs.Leading.{Ascends, before, leads_ascends}
 use Rattle.gs_cluster_history.proofs.Least.{AreOver, IsLeast, LeastOf, is_least, none_left, one_less, without_else, without_here}
 
 -- ---- places of lists
@@ -74,7 +73,7 @@ rests_set [] i g h at e = refl
 rests_set (x ∷ gs) zero g h at e = ap (λ r. r ∷ map rest_of gs) (e ∙ ap (λ (z : Going _). behind_first z.rest) (sym (same_Some x g at)))
 rests_set (x ∷ gs) (suc i) g h at e = ap (λ l. x.rest ∷ l) (rests_set gs i g h at e)
 
-module _ {C : Type 0} (Does : NodeId → Took → C → Upshot → C → Type 0) where
+module _ {C : Type 0} (Does : Took → C → Upshot → C → Type 0) where
   -- each goes on as its entries lead it
   abbrev pub AllLead : List (Going C) → Type 0
   AllLead gs = (i : ℕ) (g : Going C) → slice_get gs i ≡ Some g → Leads Does g.me g.now g.rest g.end

@@ -1,8 +1,7 @@
 -- Codes of what histories hold, by which proofs keep it.
-use Rattle.std.specs.Prelude.{ℕ, Option, Result, List, refl}
+use Rattle.std.specs.Prelude.{ℕ, List, refl}
 use Rattle.std.specs.Coded.{Coded, code_by, coded×, coded_ℕ, coded_list, coded_option, coded_result}
 use Rattle.gs_base.specs.declared.numbers.Moment.{Moment}
-use Rattle.gs_base.specs.declared.refusal.Refusal.{Refusal}
 use Rattle.gs_base.specs.contracts.numbers.Moment as moment_code
 use Rattle.gs_base.specs.contracts.refusal.Refusal as refusal_code
 use Rattle.gs_msg.specs.declared.message.Message.{Message}

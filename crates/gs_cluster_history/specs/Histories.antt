@@ -3,7 +3,6 @@ use Rattle.std.specs.Prelude.{◌≡◌, ◌<◌, ◌++◌, ℕ, List, [], ◌�
 use Rattle.gs_base.specs.declared.numbers.Moment.{Moment}
 use Rattle.gs_base.specs.declared.refusal.Refusal.{Refusal}
 use Rattle.gs_msg.specs.Nodes.{as_node}
-use Rattle.gs_msg.specs.declared.event.Event.{Event}
 use Rattle.gs_msg.specs.declared.event.Happening.{Happening}
 use Rattle.gs_msg.specs.declared.event.Happening.TheVariants as happenings
 use Rattle.gs_msg.specs.declared.message.Message.{Message}
@@ -88,10 +87,10 @@ abbrev pub Among : {A : Type 0} → List A → A → Type 0
 Among xs x = (k : ℕ) × (slice_get xs k ≡ Some x)
 
 -- For what a node does with what it takes: what it is before, what comes of it, and what it is after.
-module _ {C : Type 0} (Does : NodeId → Took → C → Upshot → C → Type 0) where
+module _ {C : Type 0} (Does : Took → C → Upshot → C → Type 0) where
   -- one event: what it sends stands behind what it has sent, with the event's clock and moment
   pub record Takes (me : NodeId) (old : Past C) (e : Entry) (new : Past C) : Type 0 where
-    pub does : Does me e.took old.core e.outcome new.core
+    pub does : Does e.took old.core e.outcome new.core
     pub clock : new.clock ≡ e.clock
     pub later : old.clock < e.clock
     pub may : MayTake me e.clock e.took

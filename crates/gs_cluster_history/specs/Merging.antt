@@ -1,5 +1,5 @@
 -- Histories that match, and their merging by clocks into one run.
-use Rattle.std.specs.Prelude.{◌≡◌, ◌+◌, ◌-◌, ◌==◌, ◌≤◌, ℕ, zero, suc, List, [], ◌∷◌, map, length, Option, Some, None, Bool, if◌then◌else◌, cond, nat_le, slice_get, slice_set, refl}
+use Rattle.std.specs.Prelude.{◌≡◌, ◌+◌, ◌==◌, ◌≤◌, ℕ, zero, suc, List, [], ◌∷◌, map, length, Option, Some, None, if◌then◌else◌, cond, nat_le, slice_get, slice_set, refl}
 use Rattle.gs_msg.specs.declared.event.Event.{Event}
 use Rattle.gs_msg.specs.declared.event.Happening.TheVariants as happenings
 use Rattle.gs_msg.specs.declared.message.Message.{Message}
@@ -84,7 +84,7 @@ abbrev pub Rises : ℕ → List Place → Type 0
 Rises clock [] = Unit {0}
 Rises clock (p ∷ ps) = (clock ≤ p.entry.clock) × Rises p.entry.clock ps
 
-module _ {C : Type 0} (Does : NodeId → Took → C → Upshot → C → Type 0) where
+module _ {C : Type 0} (Does : Took → C → Upshot → C → Type 0) where
   -- One node takes an entry, and the others stay as they are. A message that it takes has been sent by then.
   pub record Comes (p : Place) (old new : List (Line C)) : Type 0 where
     pub line : Line C

@@ -1,7 +1,6 @@
 use crate::took::Took;
 use crate::turn::Turn;
 use gs_base::Refusal;
-use gs_msg::NodeId;
 use std::alloc::Global;
 
 /// What a node is, apart from its history: how it may begin, and what it does with what it takes.
@@ -18,9 +17,12 @@ pub trait Core {
     ghost Starts: { Setting → NodeId → Self → List Message → Type 0 };
 
     /// What comes of what a node takes: what it is before, what it sends and says, and what it is after.
-    ghost Does: { NodeId → Took → Self → Upshot → Self → Type 0 };
+    ghost Does: { Took → Self → Upshot → Self → Type 0 };
 
     /// Takes a message or an event of its own.
-    fn take(&mut self, alloc: Global, me: NodeId, took: Took) -> Result<Turn, Refusal>
-        ensures { Does me took self.old (told result) self.new };
+    fn take(&mut self, alloc: Global, took: Took) -> Result<Turn, Refusal>
+        ensures { Does took self.old (told result) self.new };
+
+    /// Whether something waits that a tick of its clock may move on.
+    fn is_waiting(&self) -> bool;
 }

@@ -1,12 +1,12 @@
 -- A node that is kept: what holds of it whenever nobody works on it, and what its calls come to.
-use Rattle.std.specs.Prelude.{◌≡◌, ◌+◌, ◌<◌, ◌≤◌, ◌++◌, ℕ, List, [], ◌∷◌, max, Option, Some, None, Result, Ok, Err, length, slice_get, refl}
+use Rattle.std.specs.Prelude.{◌≡◌, ◌+◌, ◌++◌, ℕ, List, [], ◌∷◌, max, map, Option, Some, None, Result, Ok, Err, length, slice_get, refl}
 use Rattle.gs_base.specs.declared.refusal.Refusal.{Refusal}
 use Rattle.gs_base.specs.declared.refusal.Refusal.TheVariants as refusals
 use Rattle.gs_msg.specs.declared.event.Event.{Event}
 use Rattle.gs_msg.specs.declared.message.Message.{Message}
 use Rattle.gs_msg.specs.declared.node.NodeId.{NodeId}
+use Rattle.gs_msg.specs.declared.node.NodeId.TheVariants as ids
 use Rattle.gs_msg.specs.declared.sent.Sent.{Sent}
-use Rattle.gs_cluster_channel.specs.Carried.{In}
 use Rattle.gs_cluster_channel.specs.Settled.{Hearing, Putting}
 use Rattle.gs_cluster_history.specs.declared.took.Took.{Took}
 use Rattle.gs_cluster_history.specs.declared.took.Took.TheVariants.{Heard, Did}
@@ -26,7 +26,14 @@ pub record IsListed (from to : NodeId) (sent : List Listed) (x : Sent) : Type 0 
 
 -- All that the ways have put stands in what their node has sent.
 abbrev pub AllListed : NodeId → List Listed → List Putting → Type 0
-AllListed me sent ways = (way : Putting) → Among ways way → (x : Sent) → In way.put x → IsListed me way.to sent x
+AllListed me sent ways = (way : Putting) → Among ways way → (x : Sent) → Among way.put x → IsListed me way.to sent x
+
+abbrev pub HaveSentNothing : List Putting → Type 0
+HaveSentNothing ways = (way : Putting) → Among ways way → way.put ≡ []
+
+-- where the ways lead
+abbrev pub leads_of : List Putting → List NodeId
+leads_of ways = map (λ (w : Putting). w.to) ways
 
 -- the messages that were taken
 abbrev pub heard_in : Took → List Sent → List Sent
@@ -37,17 +44,16 @@ abbrev pub heard_of : List Entry → List Sent
 heard_of [] = []
 heard_of (e ∷ es) = heard_in e.took (heard_of es)
 
--- The count is of what was sent, as long as it is below the greatest number.
-abbrev pub Counts : ℕ → List Listed → Type 0
-Counts count sent = count < last_clock → count ≡ length sent
-
--- The history leads to what the node is; its ways have put what it has sent, and its ear has taken what the history took, in its order.
-pub record IsSound {C : Type 0} (Does : NodeId → Took → C → Upshot → C → Type 0) (Starts : NodeId → C → List Message → Type 0) (k : Kept C) (number : ℕ) (ways : List Putting) (ear : Hearing) : Type 0 where
+-- The history leads to what the node is; its ways, one to each of all nodes, have put what it has sent, and its ear has taken what
+-- the history took, in its order. The ear has all parts of its channel but those that the ways into it have.
+pub record IsSound {C : Type 0} (Does : Took → C → Upshot → C → Type 0) (Starts : NodeId → C → List Message → Type 0) (all : List NodeId) (k : Kept C) (ways : List Putting) (ear : Hearing) : Type 0 where
   pub kept : IsKept Does Starts k
-  pub counts : Counts number k.past.sent
+  pub mine : Among all k.me
+  pub leads : leads_of ways ≡ all
   pub put : AllListed k.me k.past.sent ways
-  pub heard : ear.taken ≡ heard_of k.entries
   pub me : ear.me ≡ k.me
+  pub heard : ear.taken ≡ heard_of k.entries
+  pub whole : ear.parts + length all ≡ 1024
 
 -- ---- what is done
 
@@ -56,7 +62,7 @@ abbrev pub next_clock : ℕ → Took → ℕ
 next_clock clock (Heard sent) = max clock sent.clock + 1
 next_clock clock (Did event) = clock + 1
 
-module _ {C : Type 0} (Does : NodeId → Took → C → Upshot → C → Type 0) where
+module _ {C : Type 0} (Does : Took → C → Upshot → C → Type 0) where
   -- One event more, of the core under this history, with what it says.
   pub record Stepped (old : Kept C) (took : Took) (said : Result (Unit {0}) Refusal) (new : Kept C) : Type 0 where
     pub entry : Entry
@@ -81,6 +87,9 @@ module _ {C : Type 0} (Does : NodeId → Took → C → Upshot → C → Type 0)
   Receives old (Err refusals.Exhausted) new = (new ≡ old) × (old.past.clock ≡ last_clock)
   Receives old (Err refusal) new = ⊥
 
--- Worked: a node at clock 3.
+-- Worked: a node at clock 3, and one that has sent nothing, with two ways.
 its_own_event : (event : Event) → next_clock 3 (Did event) ≡ 4
 its_own_event event = refl
+
+two_ways : leads_of (record { to = ids.Master; put = [] } ∷ record { to = ids.Server 0; put = [] } ∷ []) ≡ ids.Master ∷ ids.Server 0 ∷ []
+two_ways = refl

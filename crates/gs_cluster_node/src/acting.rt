@@ -4,10 +4,9 @@ ghost use Rattle.gs_cluster_history.specs.Histories.{moment_of, out_of, said_of}
 ghost use Rattle.gs_cluster_history.specs.Logs.{told};
 ghost use Rattle.gs_cluster_node.specs.inner.Acting.{Acts};
 
-use crate::posting::same;
 use gs_base::{Moment, Refusal};
 use gs_cluster_history::{Core, Deed, Log, Note, Took, Turn};
-use gs_msg::{Message, NodeId};
+use gs_msg::Message;
 use std::alloc::Global;
 
 /// What goes out at an event, at which moment, and what is said.
@@ -54,15 +53,14 @@ pub(crate) fn act<C: Core>(
     alloc: Global,
     core: &mut C,
     log: &mut Log,
-    me: &NodeId,
     clock: u64,
     took: Took,
 ) -> Done
-    ensures { Acts C.Does me.now took clock core.old log.old.entries log.old.sent result.out.items result.moment result.said core.new log.new.entries log.new.sent }
+    ensures { Acts C.Does took clock core.old log.old.entries log.old.sent result.out.items result.moment result.said core.new log.new.entries log.new.sent }
 {
     let moment = moment_of(&took);
     let note = Note::of(&took);
-    let done = core.take(alloc, same(me), took);
+    let done = core.take(alloc, took);
     let deed = Deed { note, clock, done };
     *log = log.then(&deed);
     let Deed {

@@ -8,5 +8,5 @@ mod plan;
 mod posting;
 
 pub use gate::{Gate, Open};
-pub use node::Node;
+pub use node::{Node, Parts};
 pub use plan::Plan;

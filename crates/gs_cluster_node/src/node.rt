@@ -1,23 +1,25 @@
-ghost use Rattle.std.specs.Prelude.{◌≡◌, ◌<◌, ◌+◌, ◌↔◌, IsTrue, Some, max, []};
-ghost use Rattle.gs_cluster_history.specs.Histories.{doer};
+ghost use Rattle.std.specs.Prelude.{◌≡◌, ◌<◌, ◌+◌, ◌↔◌, IsTrue, Some, length, max, slice_get, []};
+ghost use Rattle.gs_cluster_history.specs.Histories.{Among, doer};
 ghost use Rattle.gs_cluster_history.specs.Logs.{first_sent};
-ghost use Rattle.gs_cluster_node.specs.Nodes.{AllListed, Counts, Receives, Steps, last_clock};
-ghost use Rattle.gs_cluster_node.specs.inner.Acting.{Goes, HaveSentNothing};
+ghost use Rattle.gs_cluster_history.specs.Setting.{all_ids};
+ghost use Rattle.gs_cluster_node.specs.Nodes.{AllListed, HaveSentNothing, IsSound, Receives, Steps, last_clock, leads_of};
+ghost use Rattle.gs_cluster_node.specs.inner.Acting.{AllOwn, Counts, Goes, Routes};
 
 use crate::acting::{Done, act};
 use crate::gate::Gate;
 use crate::plan::Plan;
-use crate::posting::{put_all, same};
+use crate::posting::{put_again, put_all, remember, same};
 use gs_base::{Moment, Refusal};
 use gs_cluster_channel::{Ear, Way};
 use gs_cluster_history::{Core, Log, Took, Turn};
-use gs_msg::{Event, Happening, NodeId};
+use gs_msg::{Event, Happening, NodeId, Sent};
 use std::alloc::Global;
 use std::marker::Model;
 use std::sync::Wait;
 
-/// A node with its history, its ear and its ways to the others. All that happens to it goes by its calls, so that its history
-/// leads from how it began to what it is. At run time nothing is kept of the history but the clock, and how much was sent.
+/// A node with its history, its ear and its ways to all nodes. All that happens to it goes by its calls, so that its history
+/// leads from how it began to what it is. At run time nothing is kept of the history but the clock, how much was sent, and what
+/// was asked last.
 #[derive(Drop)]
 pub struct Node<N: Plan, C: Core + Drop> {
     me: NodeId,
@@ -25,7 +27,9 @@ pub struct Node<N: Plan, C: Core + Drop> {
     clock: u64,
     steps: u64,
     count: u64,
+    told: Moment,
     log: Log,
+    asked: Vec<Sent>,
     ways: Vec<Way<N>>,
     ear: Ear<N>,
 }
@@ -33,7 +37,9 @@ pub struct Node<N: Plan, C: Core + Drop> {
 impl<N: Plan, C: Core + Drop> Model for Node<N, C> {
     ghost use Rattle.gs_cluster_history.specs.Coding.{coded_kept};
     ghost use Rattle.gs_cluster_history.specs.Histories.{Kept};
+    ghost use Rattle.gs_cluster_history.specs.Setting.{all_ids};
     ghost use Rattle.gs_cluster_node.specs.Nodes.{IsSound};
+    ghost use Rattle.gs_cluster_node.specs.inner.Acting.{AllOwn, Counts};
 
     ghost Value = { Kept C };
 
@@ -41,7 +47,17 @@ impl<N: Plan, C: Core + Drop> Model for Node<N, C> {
 
     ghost view = { λ n. record { me = n.me; past = record { core = n.core; clock = n.clock; sent = n.log.sent }; entries = n.log.entries } };
 
-    ghost invariant = { λ n. IsSound C.Does (C.Starts N.setting) (record { me = n.me; past = record { core = n.core; clock = n.clock; sent = n.log.sent }; entries = n.log.entries }) n.count n.ways.items n.ear };
+    ghost invariant = { λ n. IsSound C.Does (C.Starts N.setting) (all_ids N.setting) (record { me = n.me; past = record { core = n.core; clock = n.clock; sent = n.log.sent }; entries = n.log.entries }) n.ways.items n.ear
+        × Counts n.count n.log.sent × AllOwn n.me n.log.sent n.asked.items };
+}
+
+/// A node that is taken apart, when nothing happens to it any more.
+#[derive(Drop)]
+pub struct Parts<N: Plan, C: Core + Drop> {
+    pub me: NodeId,
+    pub core: C,
+    pub ways: Vec<Way<N>>,
+    pub ear: Ear<N>,
 }
 
 fn doer(event: &Event) -> Option<NodeId>
@@ -64,6 +80,32 @@ fn is_of(event: &Event, me: &NodeId) -> bool
     }
 }
 
+fn is_ask(took: &Took) -> bool {
+    match took {
+        Took::Did(event) => matches!(&event.happening, Happening::Ask { .. }),
+        Took::Heard(_) => false,
+    }
+}
+
+fn is_node(node: NodeId, other: &NodeId) -> bool
+    ensures { IsTrue result ↔ (node ≡ other.now) }
+{
+    node == *other
+}
+
+/// The place of the way into a node, which is there.
+fn place_of<N: Plan>(ways: &Vec<Way<N>>, me: &NodeId) -> usize
+    requires { Among (leads_of ways.now.items) me.now }
+    ensures { slice_get (leads_of ways.now.items) result ≡ Some me.now }
+{
+    for at in 0..ways.len() {
+        if is_node(ways[at].to(), me) {
+            return at;
+        }
+    }
+    unreachable!()
+}
+
 /// A clock above both.
 fn above(clock: u64, other: u64) -> u64
     requires { (clock < last_clock) × (other < last_clock) }
@@ -72,27 +114,33 @@ fn above(clock: u64, other: u64) -> u64
     if clock < other { other + 1 } else { clock + 1 }
 }
 
-/// A node takes something at a clock, its history goes on by that, and what it sends goes on its ways.
+/// A node takes something at a clock, its history goes on by that, and what it sends goes on its ways. Of what it asks it keeps
+/// copies.
 fn go<N: Plan, C: Core, R: Wait>(
     rt: &R,
     alloc: Global,
     core: &mut C,
     count: &mut u64,
     log: &mut Log,
+    asked: &mut Vec<Sent>,
     ways: &mut Vec<Way<N>>,
     me: &NodeId,
     clock: u64,
     took: Took,
 ) -> Result<(), Refusal>
     requires counts { Counts count.old log.old.sent }
+    requires own { AllOwn me.now log.old.sent asked.old.items }
     requires listed { AllListed me.now log.old.sent ways.old.items }
-    ensures goes { Goes C.Does me.now took clock core.old log.old.entries log.old.sent result core.new log.new.entries log.new.sent }
+    ensures goes { Goes C.Does took clock core.old log.old.entries log.old.sent result core.new log.new.entries log.new.sent }
     ensures counts { Counts count.new log.new.sent }
-    ensures listed { AllListed me.now log.new.sent ways.new.items }
+    ensures own { AllOwn me.now log.new.sent asked.new.items }
+    ensures routes { Routes me.now log.new.sent ways.old.items ways.new.items }
 {
     let first = *count;
-    let Done { out, moment, said } = act(alloc, core, log, me, clock, took);
+    let asks = is_ask(&took);
+    let Done { out, moment, said } = act(alloc, core, log, clock, took);
     *count = first.saturating_add(out.len() as u64);
+    remember(alloc, asks, asked, log, me, first, clock, moment, &out);
     put_all(rt, ways, log, me, first, clock, moment, out);
     said
 }
@@ -101,6 +149,7 @@ impl<N: Plan, C: Core + Drop> Node<N, C> {
     /// A node that has taken nothing: what it sends at first stands in its list at clock 0, and goes on its ways.
     pub fn new<R: Wait>(
         rt: &R,
+        alloc: Global,
         me: NodeId,
         core: C,
         turn: Turn,
@@ -108,8 +157,11 @@ impl<N: Plan, C: Core + Drop> Node<N, C> {
         ear: Ear<N>,
     ) -> Node<N, C>
         requires starts { C.Starts N.setting me core turn.sent.items }
+        requires mine { Among (all_ids N.setting) me }
+        requires leads { leads_of ways.items ≡ all_ids N.setting }
         requires silent { HaveSentNothing ways.items }
         requires ear { ear ≡ record { me = me; parts = ear.parts; taken = [] } }
+        requires whole { ear.parts + length (all_ids N.setting) ≡ 1024 }
         ensures { result ≡ record { me = me; past = record { core = core; clock = 0; sent = first_sent turn }; entries = [] } }
     {
         let log = Log::new().first(&turn);
@@ -122,18 +174,50 @@ impl<N: Plan, C: Core + Drop> Node<N, C> {
             clock: 0,
             steps: 0,
             count,
+            told: Moment(0),
             log,
+            asked: Vec::new(alloc),
             ways,
             ear,
         }
     }
 
+    pub fn me(&self) -> NodeId
+        ensures { result ≡ self.now.me }
+    {
+        self.me
+    }
+
+    /// The place of its number among those of all nodes.
+    pub fn place(&self) -> usize
+        ensures { slice_get (all_ids N.setting) result ≡ Some self.now.me }
+    {
+        place_of(&self.ways, &self.me)
+    }
+
+    pub fn core(&self) -> &C
+        ensures { result.now ≡ self.now.past.core }
+    {
+        &self.core
+    }
+
+    /// How many steps it has made, as far as it has counted them.
+    pub fn steps(&self) -> u64 {
+        self.steps
+    }
+
+    /// The moment of the message that it has heard last.
+    pub fn told(&self) -> Moment {
+        self.told
+    }
+
     /// An event of the node's own: one that asks, or a tick. Its answer is what was said. `Exhausted` where the node's clock is at
     /// its last value, `Stray` where the event isn't its own; nothing changes then.
-    pub fn step<R: Wait>(
+    pub fn step<R: Wait, G: Gate>(
         &mut self,
         rt: &R,
         alloc: Global,
+        gate: &G,
         event: Event,
     ) -> Result<Result<(), Refusal>, Refusal>
         ensures { Steps C.Does self.old event result self.new }
@@ -152,14 +236,18 @@ impl<N: Plan, C: Core + Drop> Node<N, C> {
             clock,
             steps,
             count,
+            told: _,
             log,
+            asked,
             ways,
             ear: _,
         } = self;
+        gate.enter(same(me), *steps);
         *clock += 1;
         *steps = steps.saturating_add(1);
         let took = Took::Did(event);
-        Ok(go(rt, alloc, core, count, log, ways, me, *clock, took))
+        let at = *clock;
+        Ok(go(rt, alloc, core, count, log, asked, ways, me, at, took))
     }
 
     /// Takes the message that has waited longest, and does what it comes to, in one. `None` where no message waits. `Exhausted`
@@ -181,7 +269,9 @@ impl<N: Plan, C: Core + Drop> Node<N, C> {
             clock,
             steps,
             count,
+            told,
             log,
+            asked,
             ways,
             ear,
         } = self;
@@ -191,8 +281,56 @@ impl<N: Plan, C: Core + Drop> Node<N, C> {
         gate.enter(same(me), *steps);
         *clock = above(*clock, sent.clock);
         *steps = steps.saturating_add(1);
+        *told = sent.moment;
+        let at = *clock;
         let took = Took::Heard(sent);
-        let said = go(rt, alloc, core, count, log, ways, me, *clock, took);
+        let said = go(rt, alloc, core, count, log, asked, ways, me, at, took);
         Ok(Some(said))
+    }
+
+    /// Puts what was asked last on its ways once more, as far as there is memory. The messages are the same, in the same places, so
+    /// that nothing changes but what waits in the channels.
+    pub fn again<R: Wait>(&mut self, rt: &R, alloc: Global)
+        ensures { self.new ≡ self.old }
+    {
+        let Node {
+            me,
+            core: _,
+            clock: _,
+            steps: _,
+            count: _,
+            told: _,
+            log,
+            asked,
+            ways,
+            ear: _,
+        } = self;
+        put_again(rt, alloc, ways, log, me, asked);
+    }
+
+    /// Nothing more is heard or sent.
+    pub fn into_parts(self) -> Parts<N, C>
+        ensures sound { IsSound C.Does (C.Starts N.setting) (all_ids N.setting) self result.ways.items result.ear }
+        ensures me { result.me ≡ self.me }
+        ensures core { result.core ≡ self.past.core }
+    {
+        let Node {
+            me,
+            core,
+            clock: _,
+            steps: _,
+            count: _,
+            told: _,
+            log: _,
+            asked: _,
+            ways,
+            ear,
+        } = self;
+        Parts {
+            me,
+            core,
+            ways,
+            ear,
+        }
     }
 }

@@ -1,9 +1,9 @@
-use Rattle.std.proofs.Common.{◌≡◌, ◌∷◌, List, Some, refl, sym, ap, ◌∙◌, subst, rules}
+use Rattle.std.proofs.Common.{◌≡◌, List, sym, ap, ◌∙◌, subst}
 use Rattle.std.specs.Prelude.{slice_get}
 use Rattle.crossbeam_channel.specs.Claims.{view}
 use Rattle.gs_msg.specs.declared.node.NodeId.{NodeId}
-use Rattle.gs_cluster_channel.specs.Carried.{joined}
-use Rattle.gs_cluster_channel.specs.Settled.{Among, Putting}
+use Rattle.gs_cluster_history.specs.Histories.{Among}
+use Rattle.gs_cluster_channel.specs.Settled.{Putting}
 use Rattle.gs_cluster_channel.specs.declared.hand.Hand.{Hand}
 use Rattle.gs_cluster_channel.proofs.Settling.{Pooled, one_pooled}
 use Rattle.gs_cluster_channel.proofs.ear.settle.Goals as goal

@@ -1,10 +1,10 @@
-use Rattle.std.proofs.Common.{◌≡◌, ◌++◌, List, [], map, length, refl, sym, ap, ◌∙◌, subst, arith}
+use Rattle.std.proofs.Common.{◌≡◌, ◌++◌, List, [], refl, sym, ap, ◌∙◌, subst}
 use Rattle.gs_cluster_channel.specs.Settled.{Hearing}
-use Rattle.gs_cluster_history.specs.Histories.{Entry, Listed, Leads, listed}
+use Rattle.gs_cluster_history.specs.Histories.{Entry, Listed, Leads}
 use Rattle.gs_cluster_history.specs.Logs.{first_sent}
-use Rattle.gs_cluster_node.specs.Nodes.{AllListed, heard_of}
+use Rattle.gs_cluster_node.specs.Nodes.{heard_of}
 use Rattle.gs_cluster_node.specs.inner.Acting.{AreAt}
-use Rattle.gs_cluster_node.proofs.Listing.{are_behind, none_listed}
+use Rattle.gs_cluster_node.proofs.Listing.{are_behind, none_listed, own_none}
 use Rattle.gs_cluster_node.proofs.Stepping.{first_count, past_as}
 use Rattle.gs_cluster_node.proofs.node.Node.new.Goals as goal
 
@@ -20,15 +20,20 @@ pub invariant_of-result : goal.invariant_of-result
 invariant_of-result g c =
     let same : c.first-log.result.sent ≡ first_sent c.args.turn = c.first-log.ensures.1 ∙ ap (λ (l : List Listed). l ++ first_sent c.args.turn) c.new.ensures.1 in
     let none : c.first-log.result.entries ≡ [] = c.first-log.ensures.0 ∙ c.new.ensures.0 in
-    let begun = past_as c.args.core 0 c.first-log.result.sent in
-    record {
-      kept = record {
-        begun = begun;
-        begins = record { first = c.args.turn.sent.items; starts = c.requires.starts; clock = refl; sent = same };
-        leads = subst (λ (es : List Entry). Leads g.C.Core.Does c.args.me begun es begun) (sym none) refl;
-      };
-      counts = λ below. first_count c.args.turn.sent.items c.first-log.result.sent c.len-count.result (c.len-count.ensures ∙ c.args.turn.sent.ok.0) same;
-      put = c.put_all.ensures;
-      heard = ap (λ (e : Hearing). e.taken) c.requires.ear ∙ ap heard_of (sym none);
-      me = ap (λ (e : Hearing). e.me) c.requires.ear;
-    }
+    let begun = past_as c.args.core 0 c.first-log.result.sent in (
+      record {
+        kept = record {
+          begun = begun;
+          begins = record { first = c.args.turn.sent.items; starts = c.requires.starts; clock = refl; sent = same };
+          leads = subst (λ (es : List Entry). Leads g.C.Core.Does c.args.me begun es begun) (sym none) refl;
+        };
+        mine = c.requires.mine;
+        leads = c.put_all.ensures.1 ∙ c.requires.leads;
+        put = c.put_all.ensures.0;
+        me = ap (λ (e : Hearing). e.me) c.requires.ear;
+        heard = ap (λ (e : Hearing). e.taken) c.requires.ear ∙ ap heard_of (sym none);
+        whole = c.requires.whole;
+      },
+      (λ below. first_count c.args.turn.sent.items c.first-log.result.sent c.len-count.result (c.len-count.ensures ∙ c.args.turn.sent.ok.0) same),
+      own_none c.args.me c.first-log.result.sent _ c.new-2.ensures.items,
+    )

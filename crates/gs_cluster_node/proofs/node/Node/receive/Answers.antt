@@ -1,6 +1,7 @@
-use Rattle.std.proofs.Common.{◌≡◌, ◌+◌, ◌<◌, max, Some, Option, sym, ap, ◌∙◌, subst, arith}
+use Rattle.std.proofs.Common.{◌<◌, Option, ap, ◌∙◌, subst, arith}
 use Rattle.gs_msg.specs.declared.sent.Sent.{Sent}
 use Rattle.gs_cluster_channel.specs.Settled.{Hearing, hears}
+use Rattle.gs_cluster_history.specs.Setting.{all_ids}
 use Rattle.gs_cluster_history.specs.declared.took.Took.TheVariants.{Heard}
 use Rattle.gs_cluster_history.specs.Histories.{Kept}
 use Rattle.gs_cluster_node.specs.Nodes.{Stepped}
@@ -15,10 +16,13 @@ invariant_of-self-2 g c =
     let later : inside.clock < c.above.result = omega arith in
     let may : c.in-Some.sent.clock < c.above.result = omega arith in
     let took = c.take.ensures ∙ ap (λ (o : Option Sent). hears o inside.ear) c.in-Some.is in
-    let stepped = has_stepped g.C.Core.Does old (Heard c.in-Some.sent) c.above.result c.go-said.result c.go-said.new.core c.go-said.new.log.entries c.go-said.new.log.sent c.go-said.ensures.goes later next may in
-    stays_sound g.C.Core.Does (g.C.Core.Starts g.N.Plan.setting) old (Heard c.in-Some.sent) c.go-said.result c.go-said.new.core c.above.result c.go-said.new.log.entries c.go-said.new.log.sent
-    inside.count c.go-said.new.count inside.ways.items c.go-said.new.ways.items inside.ear c.take.new.self
-    c.self.invariant stepped c.go-said.ensures.counts c.go-said.ensures.listed (ap (λ (e : Hearing). e.taken) took) (ap (λ (e : Hearing). e.me) took)
+    let stepped = has_stepped g.C.Core.Does old (Heard c.in-Some.sent) c.above.result c.go-said.result c.go-said.new.core c.go-said.new.log.entries c.go-said.new.log.sent c.go-said.ensures.goes later next may in (
+      stays_sound g.C.Core.Does (g.C.Core.Starts g.N.Plan.setting) (all_ids g.N.Plan.setting) old (Heard c.in-Some.sent) c.go-said.result c.go-said.new.core c.above.result c.go-said.new.log.entries c.go-said.new.log.sent
+          inside.ways.items c.go-said.new.ways.items inside.ear c.take.new.self
+          c.self.invariant.0 stepped c.go-said.ensures.routes (ap (λ (e : Hearing). e.taken) took) (ap (λ (e : Hearing). e.me) took) (ap (λ (e : Hearing). e.parts) took),
+      c.go-said.ensures.counts,
+      c.go-said.ensures.own,
+    )
 
 pub returns : goal.returns
 returns g c =

@@ -1,0 +1,9 @@
+pub mod Disks
+pub mod Parts
+pub mod Messages
+pub mod Trees
+pub mod Leases
+pub mod Masters
+pub mod Servers
+pub mod Clients
+pub mod Roles
