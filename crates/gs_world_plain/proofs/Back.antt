@@ -20,9 +20,9 @@ use Rattle.gs_world_chunks.proofs.Holding.{reach_more, runs_of}
 use Rattle.gs_world_chunks.specs.Accounts.{Account}
 use Rattle.gs_world_chunks.specs.Running.{IsReached, Setup}
 use Rattle.gs_world_chunks.specs.Upgrading.{IsUpgrading, RunsUpgraded}
-use Rattle.gs_world_plain.specs.Back.{RollbacksGoBackPlainly}
+use Rattle.gs_world_plain.specs.Back.{RollbacksGoBackPlainly, as_run}
 use Rattle.gs_world_plain.specs.Ends.{edits_only}
-use Rattle.gs_world_plain.specs.Plainly.{ArePlainSteps, IsPlainRun, IsPlainStep, StepsArePlain}
+use Rattle.gs_world_plain.specs.Plainly.{IsPlainRun, IsPlainStep, StepsArePlain}
 use Rattle.gs_world_plain.specs.Views.{plain_view}
 
 -- ---- the machine: what edits names and texts leaves the tree that is kept
@@ -75,48 +75,35 @@ module _ {D : Type 0} (x : Setup D) (plain : StepsArePlain x) (quiet : x.fails �
   abbrev size : ℕ
   size = x.config.chunk
 
-  record EditsAlone (steps : List Step) (old : History D) (a : Account) (new : History D) (b : Account) : Type 0 where
-    pub run : IsPlainRun x steps old a new b
+  record EditsAlone (steps : List Step) (old : History D) (a : Account) (new : History D) (b : Account) (runs : RunsUpgraded x steps old a new b) : Type 0 where
+    pub run : IsPlainRun x steps old a new b (as_run x steps old a new b runs)
     pub edits : list_all edits_only run.commands ≡ true
 
-  edits_alone : (steps : List Step) (old new : History D) (a b : Account) → IsReached x old a → is_ordinary a.durable.phase ≡ false → RunsUpgraded x steps old a new b → EditsAlone steps old a new b
-  edits_alone [] old new a b r upgraded runs = record { run = record { commands = []; go = (runs.0, runs.1, refl); leads = ap (λ (k : Account). Ok (plain_view size k)) (sym runs.1) }; edits = refl }
+  edits_alone : (steps : List Step) (old new : History D) (a b : Account) → IsReached x old a → is_ordinary a.durable.phase ≡ false → (runs : RunsUpgraded x steps old a new b) → EditsAlone steps old a new b runs
+  edits_alone [] old new a b r upgraded runs = record { run = record { commands = []; go = refl; leads = ap (λ (k : Account). Ok (plain_view size k)) (sym runs.1) }; edits = refl }
   edits_alone (step ∷ steps) old new a b r upgraded (mid, c, one, still, rest) =
       let first = plain quiet old mid a c step r one in
       let more = edits_alone steps mid new c b (reach_more x old mid a c (step ∷ []) r (mid, c, one, (refl, refl))) still rest in
       record {
         run = record {
           commands = first.commands ++ more.run.commands;
-          go = (mid, c, one, first, more.run.commands, refl, more.run.go);
+          go = (first, more.run.commands, refl, more.run.go);
           leads = then_many size first.commands more.run.commands (plain_view size a) (plain_view size c) first.leads ∙ more.run.leads;
         };
         edits = all_both first.commands more.run.commands (first.ends.within (still ∙ sym upgraded)) more.edits;
       }
 
--- one run, and then another
-go_then : {D : Type 0} (x : Setup D) (xs ys : List Step) (old mid new : History D) (a c b : Account) (cs ds : List Command) → ArePlainSteps x xs old a mid c cs → ArePlainSteps x ys mid c new b ds → ArePlainSteps x (xs ++ ys) old a new b (cs ++ ds)
-go_then {D = D} x [] ys old mid new a c b cs ds one more =
-    subst (λ es. ArePlainSteps x ys old a new b (es ++ ds)) (sym one.2) (subst (λ (h : History D). ArePlainSteps x ys h a new b ds) one.0 (subst (λ (k : Account). ArePlainSteps x ys mid k new b ds) one.1 more))
-go_then {D = D} x (step ∷ xs) ys old mid new a c b cs ds (next, e, moves, first, rest, is, go) more =
-    (next, e, moves, first, rest ++ ds, ap (λ es. es ++ ds) is ∙ append_assoc first.commands rest ds, go_then x xs ys next mid new e c b rest ds go more)
-
 pub go_back_plainly : {D : Type 0} (x : Setup D) → StepsArePlain x → RollbacksGoBackPlainly x
 go_back_plainly x plain quiet prepared now back before after last rolled = record {
+  begins = first;
   keeps = keeps;
   within = alone.run;
   edits = alone.edits;
   still = still;
+  ends = second;
   gives = (second.ends.restores rolled.accepted).2 ∙ ap (restored (shown after)) (tree_is (sym (second.ends.restores rolled.accepted).1 ∙ still));
-  whole = record {
-    commands = first.commands ++ (alone.run.commands ++ (second.commands ++ []));
-    go = (prepared, before, up.moves, first, alone.run.commands ++ (second.commands ++ []), refl, go_then x up.steps (rolled.step ∷ []) prepared now back before after last alone.run.commands (second.commands ++ []) alone.run.go (back, last, rolled.moves, second, [], refl, (refl, refl, refl)));
-    leads = then_many size first.commands (alone.run.commands ++ (second.commands ++ [])) (shown up.first) (shown before) first.leads
-        ∙ (then_many size alone.run.commands (second.commands ++ []) (shown before) (shown after) alone.run.leads ∙ (then_many size second.commands [] (shown after) (shown last) second.leads));
-  };
-  others = filter_map-append but_edit first.commands (alone.run.commands ++ (second.commands ++ [])) ∙ ap (λ cs. cs ++ filter_map but_edit (alone.run.commands ++ (second.commands ++ []))) (first.ends.begins up.accepted)
-      ∙ ap (λ cs. Prepare ∷ cs)
-      (filter_map-append but_edit alone.run.commands (second.commands ++ [])
-      ∙ ap (λ cs. filter_map but_edit alone.run.commands ++ cs) (filter_map-append but_edit second.commands [] ∙ append-nil (filter_map but_edit second.commands) ∙ second.ends.back rolled.accepted));
+  others = filter_map-append but_edit first.commands (alone.run.commands ++ second.commands) ∙ ap (λ cs. cs ++ filter_map but_edit (alone.run.commands ++ second.commands)) (first.ends.begins up.accepted)
+      ∙ ap (λ cs. Prepare ∷ cs) (filter_map-append but_edit alone.run.commands second.commands ∙ ap (λ cs. filter_map but_edit alone.run.commands ++ cs) (second.ends.back rolled.accepted));
 }
   where
     tree_is : {p q : Texts} → Some p ≡ Some q → p ≡ q
@@ -140,7 +127,7 @@ go_back_plainly x plain quiet prepared now back before after last rolled = recor
     second : IsPlainStep size rolled.step now after last
     second = plain quiet now back after last rolled.step (reach_more x prepared now before after up.steps there (runs_of x up.steps prepared now before after up.runs)) rolled.moves
 
-    alone : EditsAlone x plain quiet up.steps prepared before now after
+    alone : EditsAlone x plain quiet up.steps prepared before now after up.runs
     alone = edits_alone x plain quiet up.steps prepared now before after there (upgrade_stands before.durable.phase (and_parts (is_ordinary up.first.durable.phase) (is_upgrade before.durable.phase) up.accepted).1) up.runs
 
     keeps : (shown before).kept ≡ Some (shown before).tree

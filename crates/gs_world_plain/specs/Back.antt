@@ -10,25 +10,33 @@ use Rattle.gs_tree.specs.Entry.{Dir, File}
 use Rattle.gs_world.specs.Histories.{History}
 use Rattle.gs_world_chunks.specs.Accounts.{Account}
 use Rattle.gs_world_chunks.specs.Back.{HasRolledBack}
-use Rattle.gs_world_chunks.specs.Running.{Setup}
+use Rattle.gs_world_chunks.specs.Running.{Runs, Setup}
+use Rattle.gs_world_chunks.specs.Upgrading.{RunsUpgraded}
+use Rattle.gs_world.specs.Runs.{Step}
 use Rattle.gs_world_plain.specs.Ends.{edits_only}
-use Rattle.gs_world_plain.specs.Plainly.{IsPlainRun}
+use Rattle.gs_world_plain.specs.Plainly.{IsPlainRun, IsPlainStep}
 use Rattle.gs_world_plain.specs.Views.{plain_view}
 
 module _ {D : Type 0} (x : Setup D) where
   abbrev pub shown : Account → Plain (List ℕ)
   shown a = plain_view x.config.chunk a
 
+  -- a run from a prepare on that isn't ended is a run
+  pub as_run : (steps : List Step) (old : History D) (a : Account) (new : History D) (b : Account) → RunsUpgraded x steps old a new b → Runs x steps old a new b
+  as_run [] old a new b runs = runs
+  as_run (step ∷ steps) old a new b (mid, c, one, still, rest) = (mid, c, one, as_run steps mid c new b rest)
+
   -- Right behind a prepare the tree that stands is kept. From there to the rollback the run is commands that edit names and texts, so it is kept still; and behind the rollback it stands, and none is kept. Of the
-  -- commands of the run, the steps of the prepare and of the rollback with it, those that edit no text are a prepare, then edits of names, and then a rollback.
+  -- commands of the step of the prepare, of the run behind it and of the step of the rollback, those that edit no text are a prepare, then edits of names, and then a rollback.
   pub record GoesBackPlainly (prepared : History D) (before : Account) (now : History D) (after : Account) (back : History D) (last : Account) (rolled : HasRolledBack x prepared before now after back last) : Type 0 where
+    pub begins : IsPlainStep x.config.chunk rolled.upgrade.step rolled.upgrade.old rolled.upgrade.first before
     pub keeps : (shown before).kept ≡ Some (shown before).tree
-    pub within : IsPlainRun x rolled.upgrade.steps prepared before now after
+    pub within : IsPlainRun x rolled.upgrade.steps prepared before now after (as_run rolled.upgrade.steps prepared before now after rolled.upgrade.runs)
     pub edits : list_all edits_only within.commands ≡ true
     pub still : (shown after).kept ≡ Some (shown before).tree
+    pub ends : IsPlainStep x.config.chunk rolled.step now after last
     pub gives : shown last ≡ restored (shown after) (shown before).tree
-    pub whole : IsPlainRun x (rolled.upgrade.step ∷ rolled.upgrade.steps ++ rolled.step ∷ []) rolled.upgrade.old rolled.upgrade.first back last
-    pub others : filter_map but_edit whole.commands ≡ Prepare ∷ filter_map but_edit within.commands ++ Rollback ∷ []
+    pub others : filter_map but_edit (begins.commands ++ (within.commands ++ ends.commands)) ≡ Prepare ∷ filter_map but_edit within.commands ++ Rollback ∷ []
 
   -- So it is of each rollback that is done in a run in which no disk fails, with the last prepare that was accepted before it.
   abbrev pub RollbacksGoBackPlainly : Type 0

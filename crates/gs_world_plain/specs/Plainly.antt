@@ -40,18 +40,18 @@ module _ {D : Type 0} (x : Setup D) where
   StepsArePlain = x.fails ≡ false → (old new : History D) (a b : Account) (step : Step) → IsReached x old a → Moves x step old a new b → IsPlainStep x.config.chunk step old a b
 
   -- and so a run is: at each of its steps commands by what it is, one after the other.
-  abbrev pub ArePlainSteps : List Step → History D → Account → History D → Account → List Command → Type 0
-  ArePlainSteps [] old a new b commands = (new ≡ old) × (b ≡ a) × (commands ≡ [])
-  ArePlainSteps (step ∷ steps) old a new b commands =
-      (mid : History D) × (c : Account) × Moves x step old a mid c × (one : IsPlainStep x.config.chunk step old a c) × (more : List Command) × (commands ≡ one.commands ++ more) × ArePlainSteps steps mid c new b more
+  abbrev pub ArePlainSteps : (steps : List Step) (old : History D) (a : Account) (new : History D) (b : Account) → Runs x steps old a new b → List Command → Type 0
+  ArePlainSteps [] old a new b runs commands = commands ≡ []
+  ArePlainSteps (step ∷ steps) old a new b (mid, c, one, rest) commands =
+      (first : IsPlainStep x.config.chunk step old a c) × (more : List Command) × (commands ≡ first.commands ++ more) × ArePlainSteps steps mid c new b rest more
 
-  pub record IsPlainRun (steps : List Step) (old : History D) (a : Account) (new : History D) (b : Account) : Type 0 where
+  pub record IsPlainRun (steps : List Step) (old : History D) (a : Account) (new : History D) (b : Account) (runs : Runs x steps old a new b) : Type 0 where
     pub commands : List Command
-    pub go : ArePlainSteps steps old a new b commands
+    pub go : ArePlainSteps steps old a new b runs commands
     pub leads : all_commanded x.config.chunk commands (plain_view x.config.chunk a) ≡ Ok (plain_view x.config.chunk b)
 
   abbrev pub RunsArePlain : Type 0
-  RunsArePlain = x.fails ≡ false → (old new : History D) (a b : Account) (steps : List Step) → IsReached x old a → Runs x steps old a new b → IsPlainRun steps old a new b
+  RunsArePlain = x.fails ≡ false → (old new : History D) (a b : Account) (steps : List Step) → IsReached x old a → (runs : Runs x steps old a new b) → IsPlainRun steps old a new b runs
 
   -- ---- what it rests on
 
@@ -60,5 +60,5 @@ module _ {D : Type 0} (x : Setup D) where
   EditsOnePlace = x.fails ≡ false → (old new : History D) (a b : Account) (step : Step) → IsReached x old a → Moves x step old a new b → AreAlone a.durable.names (newly_settled a b)
 
 -- ---- Worked: no steps are no commands
-no_steps : {D : Type 0} (x : Setup D) (old : History D) (a : Account) → IsPlainRun x [] old a old a
-no_steps x old a = record { commands = []; go = (refl, refl, refl); leads = refl }
+no_steps : {D : Type 0} (x : Setup D) (old : History D) (a : Account) → IsPlainRun x [] old a old a (refl, refl)
+no_steps x old a = record { commands = []; go = refl; leads = refl }
