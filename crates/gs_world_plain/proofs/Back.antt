@@ -71,7 +71,7 @@ upgrade_stands Rolling h = absurd (false≢true h)
 
 -- ---- a run from a prepare on, that isn't ended
 
-module _ {D : Type 0} (x : Setup D) (plain : StepsArePlain x) (quiet : x.fails ≡ false) where
+module _ {D : Type 0} (x : Setup D) (plain : StepsArePlain x) where
   abbrev size : ℕ
   size = x.config.chunk
 
@@ -82,7 +82,7 @@ module _ {D : Type 0} (x : Setup D) (plain : StepsArePlain x) (quiet : x.fails �
   edits_alone : (steps : List Step) (old new : History D) (a b : Account) → IsReached x old a → is_ordinary a.durable.phase ≡ false → (runs : RunsUpgraded x steps old a new b) → EditsAlone steps old a new b runs
   edits_alone [] old new a b r upgraded runs = record { run = record { commands = []; go = refl; leads = ap (λ (k : Account). Ok (plain_view size k)) (sym runs.1) }; edits = refl }
   edits_alone (step ∷ steps) old new a b r upgraded (mid, c, one, still, rest) =
-      let first = plain quiet old mid a c step r one in
+      let first = plain old mid a c step r one in
       let more = edits_alone steps mid new c b (reach_more x old mid a c (step ∷ []) r (mid, c, one, (refl, refl))) still rest in
       record {
         run = record {
@@ -94,7 +94,7 @@ module _ {D : Type 0} (x : Setup D) (plain : StepsArePlain x) (quiet : x.fails �
       }
 
 pub go_back_plainly : {D : Type 0} (x : Setup D) → StepsArePlain x → RollbacksGoBackPlainly x
-go_back_plainly x plain quiet prepared now back before after last rolled = record {
+go_back_plainly x plain prepared now back before after last rolled = record {
   begins = first;
   keeps = keeps;
   within = alone.run;
@@ -122,13 +122,13 @@ go_back_plainly x plain quiet prepared now back before after last rolled = recor
     there = reach_more x up.old prepared up.first before (up.step ∷ []) up.reached (prepared, before, up.moves, (refl, refl))
 
     first : IsPlainStep size up.step up.old up.first before
-    first = plain quiet up.old prepared up.first before up.step up.reached up.moves
+    first = plain up.old prepared up.first before up.step up.reached up.moves
 
     second : IsPlainStep size rolled.step now after last
-    second = plain quiet now back after last rolled.step (reach_more x prepared now before after up.steps there (runs_of x up.steps prepared now before after up.runs)) rolled.moves
+    second = plain now back after last rolled.step (reach_more x prepared now before after up.steps there (runs_of x up.steps prepared now before after up.runs)) rolled.moves
 
-    alone : EditsAlone x plain quiet up.steps prepared before now after up.runs
-    alone = edits_alone x plain quiet up.steps prepared now before after there (upgrade_stands before.durable.phase (and_parts (is_ordinary up.first.durable.phase) (is_upgrade before.durable.phase) up.accepted).1) up.runs
+    alone : EditsAlone x plain up.steps prepared before now after up.runs
+    alone = edits_alone x plain up.steps prepared now before after there (upgrade_stands before.durable.phase (and_parts (is_ordinary up.first.durable.phase) (is_upgrade before.durable.phase) up.accepted).1) up.runs
 
     keeps : (shown before).kept ≡ Some (shown before).tree
     keeps = first.ends.keeps up.accepted

@@ -1,5 +1,5 @@
 -- Where a rollback is committed what is settled is what was prepared.
-use Rattle.std.proofs.Common.{◌≡◌, ◌∙◌, ◌≤◌, ℕ, true, false, List, [], length, refl, sym, ap, arith}
+use Rattle.std.proofs.Common.{◌≡◌, ◌∙◌, ◌≤◌, ℕ, true, List, [], length, refl, sym, ap, arith}
 use Rattle.std.specs.Prelude.{is_some, Option, Some, None}
 use Rattle.std.proofs.lemmas.Bool.{false≢true}
 use Rattle.std.specs.FinMap as fin
@@ -37,7 +37,7 @@ row_of : (o : Option Settled) (view : View) → view_in o ≡ Some view → is_s
 row_of None view is = absurd (cc)
 row_of (Some y) view is = refl
 
-module _ (sizes : HaveSizes) (law : AreNumbered) {D : Type 0} (x : Setup D) (quiet : x.fails ≡ false) where
+module _ (sizes : HaveSizes) (law : AreNumbered) {D : Type 0} (x : Setup D) where
   -- ---- since a prepare
 
   module _ (prepared now : History D) (before after : Account) (up : IsUpgrading x prepared before now after) (chunk : ℕ) (listed : is_listed before.durable chunk ≡ true) (kept : IsKept before.durable) where
@@ -75,14 +75,14 @@ module _ (sizes : HaveSizes) (law : AreNumbered) {D : Type 0} (x : Setup D) (qui
     back = rolled.2
 
     kept_then : IsKept before.durable
-    kept_then = kept_behind sizes law x quiet (back.upgrade).step (back.upgrade).old prepared (back.upgrade).first before (back.upgrade).reached (back.upgrade).moves
+    kept_then = kept_behind sizes law x (back.upgrade).step (back.upgrade).old prepared (back.upgrade).first before (back.upgrade).reached (back.upgrade).moves
 
     had : (chunk : ℕ) → is_some (fin.get b.durable.chunks chunk) ≡ true → is_listed before.durable chunk ≡ true
     had chunk row = no_other prepared old new before a b chunk back row
 
     pub settled_is_before : (chunk : ℕ) → is_listed b.durable chunk ≡ true → a.before chunk ≡ settled_edits b chunk
     settled_is_before chunk listed =
-        let was = had chunk ((kept_behind sizes law x quiet step old new a b r moves).settled chunk listed) in
+        let was = had chunk ((kept_behind sizes law x step old new a b r moves).settled chunk listed) in
         before_is_settled prepared old before a back.upgrade chunk was kept_then ∙ sym (settled_back prepared old new before a b chunk back was).1
 
     -- of no chunk that a file has more is settled
@@ -90,7 +90,7 @@ module _ (sizes : HaveSizes) (law : AreNumbered) {D : Type 0} (x : Setup D) (qui
     none_new_there chunk listed = by_view (view_at b chunk) refl
       where
         here : (view : View) × (view_at a chunk ≡ Some view)
-        here = view_of (fin.get a.durable.chunks chunk) ((kept_before sizes law x quiet step old new a b r moves).settled chunk listed)
+        here = view_of (fin.get a.durable.chunks chunk) ((kept_before sizes law x step old new a b r moves).settled chunk listed)
 
         by_view : (o : Option View) → view_at b chunk ≡ o → newly_settled a b chunk ≡ []
         by_view None told = drop_short (length (settled_edits a chunk)) (settled_edits b chunk) (let n = ap (λ (es : List Edit). length es) (ap (settled_in b chunk) told) in omega arith)
@@ -101,4 +101,4 @@ module _ (sizes : HaveSizes) (law : AreNumbered) {D : Type 0} (x : Setup D) (qui
             drop_short (length (settled_edits a chunk)) (settled_edits b chunk) (omega arith)
 
     pub alone_back : AreAlone a.durable.names (newly_settled a b)
-    alone_back = alone_where_shared_stay a.durable.names (newly_settled a b) (kept_before sizes law x quiet step old new a b r moves).names (λ chunk listed more. none_new_there chunk listed)
+    alone_back = alone_where_shared_stay a.durable.names (newly_settled a b) (kept_before sizes law x step old new a b r moves).names (λ chunk listed more. none_new_there chunk listed)

@@ -1,6 +1,7 @@
 -- In each world of a run a new chunk that a call waits for was told to be a copy of that alone of which the call waits for one.
-use Rattle.std.proofs.Common.{◌≡◌, ◌∙◌, inl, inr, ℕ, false, List, [], ◌∷◌, refl, ap, sym, subst}
+use Rattle.std.proofs.Common.{◌≡◌, ◌∙◌, inl, inr, ℕ, Bool, true, false, List, [], ◌∷◌, refl, ap, sym, subst}
 use Rattle.std.specs.Prelude.{MatchOption, slice_get, Option, Some, None}
+use Rattle.std.proofs.lemmas.Bool.{false≢true}
 use Rattle.gs_base.specs.declared.config.Config.{Config}
 use Rattle.gs_base.specs.declared.numbers.ClientId.{ClientId}
 use Rattle.gs_base.specs.declared.numbers.Moment.{Moment}
@@ -30,24 +31,25 @@ use Rattle.gs_nodes.specs.declared.place.MasterPlace.TheVariants.{Away, Closed, 
 use Rattle.gs_world.proofs.Lasting.{begins_firm}
 use Rattle.gs_world.proofs.Reaching.{HaveSizes}
 use Rattle.gs_world.specs.Histories.{Begins, History}
-use Rattle.gs_world.specs.Lasting.{IsToldIn, Lasts, OpensAs, failures_at}
+use Rattle.gs_world.specs.Lasting.{IsToldIn, Lasts, OpensAs}
 use Rattle.gs_world.specs.Runs.{Step}
 use Rattle.gs_world.specs.Sent.{Appends, Line, Sent, lost_all, posts_of, with_line}
 use Rattle.gs_world_chunks.proofs.Copied.{said_before}
 use Rattle.gs_world_chunks.proofs.Once.{told_once}
-use Rattle.gs_world_chunks.proofs.Told.{named, one_lasts}
+use Rattle.gs_world_chunks.proofs.Told.{named}
 use Rattle.gs_world_chunks.specs.Accounts.{Account}
 use Rattle.gs_world_chunks.specs.Running.{IsArmed, IsGiven, IsReached, Runs, Setup, StepsWithin}
-use Rattle.gs_world_laws.proofs.Keeping.{begins_keeping}
-use Rattle.gs_world_laws.specs.Saying.{KeepsTypes}
+use Rattle.gs_master_copies.proofs.Given.{stays_given_cut}
+use Rattle.gs_world_chunks.proofs.Well.{IsWell, armed_left, begins_well, left_so, step_well, well_lasts}
 use Rattle.gs_world_lift.proofs.Beginning.{begins_none, begins_told}
 use Rattle.gs_world_lift.proofs.Copying.{IsToldToCopy, copied_is_told}
-use Rattle.gs_world_lift.proofs.Doing.{masters_do}
+use Rattle.gs_world_lift.proofs.DoingAll.{answers_reply, cut_replies, masters_do_all}
 use Rattle.gs_world_lift.proofs.Placing.{kind_of}
 use Rattle.gs_world_lift.proofs.Posting.{HasSaid}
 use Rattle.gs_world_lift.specs.Copying.{copied_from}
 use Rattle.gs_world_lift.specs.Doing.{Arms, HasDurable, MasterDoes, Moves as MovesAt, Refuses, Starts, Waits}
 use Rattle.gs_world_lift.specs.Going.{Elsewhere, Kind, OfMaster, OfServer, Posts}
+use Rattle.gs_world_lift.specs.Left.{AreReplies, Arranges, Cuts, Does, IsReply, Keeps, MasterDoesAll, as_left}
 use Rattle.gs_world_lift.specs.Saying.{AreOfClient, IsOfClient}
 
 -- ---- what is said of a chunk
@@ -116,6 +118,15 @@ refused_so : (place : Option Place) (chunk : ℕ) (caller : Option ReqId) → Ma
 refused_so place chunk None = tt
 refused_so place chunk (Some req) = (tt, tt)
 
+-- and neither does another reply
+replies_so : (place : Option Place) (chunk : ℕ) (messages : List Message) → AreReplies messages → MakeSo place chunk messages
+replies_so place chunk [] are = tt
+replies_so place chunk (m ∷ messages) are = (by_body m.body are.0, replies_so place chunk messages are.1)
+  where
+    by_body : (body : Body) → IsReply body → MakesSo place chunk body
+    by_body (bodies.Reply req result) is = tt
+    by_body body is = absurd is
+
 module _ {D : Type 0} (x : Setup D) where
   abbrev pub MadeAt : Sent → MasterPlace D → Type 0
   MadeAt sent (Standing m) = AllNew (ToldSo sent) m.state
@@ -139,43 +150,59 @@ module _ {D : Type 0} (x : Setup D) where
       all_new_weaker (λ place chunk. ToldSo old place chunk × MakeSo place chunk t.sent) (ToldSo new) (λ place chunk n. told_on place chunk moment nodes.Master messages old new posted (subst (MakeSo place chunk) (sym sends) n.1) n.0) t.after
       (chain_new config heard (ToldSo old) s t (once_chain config (IsMadeWell config heard) s t turn) k)
 
-  does_at : IsGiven x → (sent next : Sent) (old new : MasterPlace D) (messages : List Message) (moment : Moment) → Posts moment nodes.Master messages sent next → MasterDoes x.seen x.armed sent old new messages → MadeAt sent old → MadeAt next new
-  does_at given sent next old new messages moment posted (MovesAt m after heard t at to was turn state sends) k =
+  armed_at : (next : Sent) (spot other : MasterPlace D) → IsArmed x.seen spot other → MadeAt next spot → MadeAt next other
+  armed_at next (Standing m) other (j, to, alike) k = subst (MadeAt next) (sym to) k
+  armed_at next (Closed first second) other (one, two, to, same, alike) k =
+      subst (MadeAt next) (sym to) (subst (λ t. (d : Durable) → IsToldIn t d → (place : Option Place) (chunk : ℕ) → is_given d.next_handle chunk ≡ false → ToldSo next place chunk) (sym (ap (λ s. standing s (x.seen two)) same ∙ ap (standing (x.seen first)) alike)) k)
+  armed_at next Away other to k = subst (MadeAt next) (sym to) k
+
+  -- what is left of the master, where no disk fails
+  does_at : (sent next : Sent) (old new : MasterPlace D) (messages : List Message) (moment : Moment) → Posts moment nodes.Master messages sent next → MasterDoes x.seen (λ disk call spot. spot) sent old new messages → MadeAt sent old → MadeAt next new
+  does_at sent next old new messages moment posted (MovesAt m after heard t at to was turn state sends) k =
       subst (MadeAt next) (sym to) (subst (AllNew (ToldSo next)) (sym state) (turn_at m.config heard m.state t moment messages sent next turn sends posted (subst (MadeAt sent) at k)))
-  does_at given sent next old new messages moment posted (Starts config d log after t has kept counters to turn state sends) k =
+  does_at sent next old new messages moment posted (Starts config d log after t has kept counters to turn state sends) k =
       subst (MadeAt next) (sym to) (subst (AllNew (ToldSo next)) (sym state)
       (turn_at config None (restarted d log) t moment messages sent next turn sends posted (record { waiting = tt; fresh = λ place chunk out. fresh_at sent old d has k place chunk out })))
-  does_at given sent next old new messages moment posted (Waits d first second has kept counters to told sends) k =
+  does_at sent next old new messages moment posted (Waits d first second has kept counters to told sends) k =
       subst (MadeAt next) (sym to) (λ e other place chunk out. told_on place chunk moment nodes.Master messages sent next posted (subst (MakeSo place chunk) (sym sends) tt)
       (fresh_at sent old d has k place chunk (ap (λ (f : Durable). is_given f.next_handle chunk) (told_once (standing (x.seen first) (x.seen second)) d e told other) ∙ out)))
-  does_at given sent next old new messages moment posted (Refuses caller same sends) k =
+  does_at sent next old new messages moment posted (Refuses caller same sends) k =
       subst (MadeAt next) (sym same) (same_at sent next old (λ place chunk. told_on place chunk moment nodes.Master messages sent next posted (subst (MakeSo place chunk) (sym sends) (refused_so place chunk caller))) k)
-  does_at given sent next old new messages moment posted (Arms disk call is sends) k =
-      subst (MadeAt next) (sym is) (armed_at old (x.armed disk call old) (given.armed disk call old) (same_at sent next old (λ place chunk. told_on place chunk moment nodes.Master messages sent next posted (subst (MakeSo place chunk) (sym sends) tt)) k))
-    where
-      armed_at : (spot other : MasterPlace D) → IsArmed x.seen spot other → MadeAt next spot → MadeAt next other
-      armed_at (Standing m) other (j, to, alike) k = subst (MadeAt next) (sym to) k
-      armed_at (Closed first second) other (one, two, to, same, alike) k =
-          subst (MadeAt next) (sym to) (subst (λ t. (d : Durable) → IsToldIn t d → (place : Option Place) (chunk : ℕ) → is_given d.next_handle chunk ≡ false → ToldSo next place chunk) (sym (ap (λ s. standing s (x.seen two)) same ∙ ap (standing (x.seen first)) alike)) k)
-      armed_at Away other to k = subst (MadeAt next) (sym to) k
+  does_at sent next old new messages moment posted (Arms disk call is sends) k =
+      subst (MadeAt next) (sym is) (same_at sent next old (λ place chunk. told_on place chunk moment nodes.Master messages sent next posted (subst (MakeSo place chunk) (sym sends) tt)) k)
 
-  made_on : x.fails ≡ false → IsGiven x → (step : Step) (old mid : History D) → Lasts x.seen old.nodes.master → KeepsTypes old → StepsWithin x step old mid → MadeAt old.sent old.nodes.master → MadeAt mid.sent mid.nodes.master
-  made_on quiet given step old mid lasts types one k = by_kind (kind_of x.seen x.failures x.armed step old mid one.goes (named x step old one.within types))
+  -- whatever disks of it fail
+  all_does_at : IsGiven x → (sent next : Sent) (old new : MasterPlace D) (messages : List Message) (moment : Moment) → Posts moment nodes.Master messages sent next → MasterDoesAll x.seen x.armed sent old new messages → MadeAt sent (as_left old) → MadeAt next (as_left new)
+  all_does_at given sent next old new messages moment posted (Does sound does) k = does_at sent next (as_left old) (as_left new) messages moment posted does k
+  all_does_at given sent next old new messages moment posted (Cuts m after heard caller t place many said d first second at there was turn cut least within stand to kept counters told) k =
+      subst (MadeAt next) (sym to) (λ e other spot chunk out. told_on spot chunk moment nodes.Master messages sent next posted (replies_so spot chunk messages (cut_replies m.state caller t place messages said after.state cut))
+      ((subst (MadeAt sent) at k).fresh spot chunk (before chunk (ap (λ (f : Durable). is_given f.next_handle chunk) (told_once (standing (x.seen first) (x.seen second)) d e told other) ∙ out) (is_given m.state.durable.next_handle chunk) refl)))
     where
-      by_kind : Kind x.seen x.failures x.armed step old mid → MadeAt mid.sent mid.nodes.master
+      before : (chunk : ℕ) → is_given d.next_handle chunk ≡ false → (b : Bool) → is_given m.state.durable.next_handle chunk ≡ b → b ≡ false
+      before chunk out true is = absurd (false≢true (sym out ∙ stays_given_cut m.config heard chunk m.state t many d turn stand is))
+      before chunk out false is = refl
+  all_does_at given sent next old new messages moment posted (Keeps m after heard caller at there failed still same was answers) k =
+      subst (MadeAt next) (sym same) (same_at sent next (as_left old) (λ place chunk. told_on place chunk moment nodes.Master messages sent next posted (replies_so place chunk messages (answers_reply m.state caller messages answers))) k)
+  all_does_at given sent next old new messages moment posted (Arranges disk call is none) k =
+      subst (λ p. MadeAt next (as_left p)) (sym is) (armed_at next (as_left old) (as_left (x.armed disk call old)) (armed_left x.seen old (x.armed disk call old) (given.armed disk call old))
+      (same_at sent next (as_left old) (λ place chunk. told_on place chunk moment nodes.Master messages sent next posted (subst (MakeSo place chunk) (sym none) tt)) k))
+
+  made_on : IsGiven x → (step : Step) (old mid : History D) → IsWell x old → StepsWithin x step old mid → MadeAt old.sent (as_left old.nodes.master) → MadeAt mid.sent (as_left mid.nodes.master)
+  made_on given step old mid well one k = by_kind (kind_of x.seen x.failures x.armed step old mid one.goes (named x step old one.within well.types))
+    where
+      by_kind : Kind x.seen x.failures x.armed step old mid → MadeAt mid.sent (as_left mid.nodes.master)
       by_kind (OfServer id s after messages moment found goes met servers master posted) =
-          subst (MadeAt mid.sent) (sym master) (same_at old.sent mid.sent old.nodes.master (λ place chunk. told_still place chunk old.sent mid.sent (servers_say id moment messages old.sent mid.sent posted)) k)
+          subst (λ p. MadeAt mid.sent (as_left p)) (sym master) (same_at old.sent mid.sent (as_left old.nodes.master) (λ place chunk. told_still place chunk old.sent mid.sent (servers_say id moment messages old.sent mid.sent posted)) k)
       by_kind (Elsewhere by messages moment are servers master posted) =
-          subst (MadeAt mid.sent) (sym master) (same_at old.sent mid.sent old.nodes.master (λ place chunk. told_on place chunk moment by messages old.sent mid.sent posted (of_clients_so place chunk messages are)) k)
+          subst (λ p. MadeAt mid.sent (as_left p)) (sym master) (same_at old.sent mid.sent (as_left old.nodes.master) (λ place chunk. told_on place chunk moment by messages old.sent mid.sent posted (of_clients_so place chunk messages are)) k)
       by_kind (OfMaster spot messages moment goes servers master posted) =
-          subst (MadeAt mid.sent) (sym master)
-          (does_at given old.sent mid.sent old.nodes.master spot messages moment posted
-          (masters_do x.seen x.failures x.armed old.nodes.config old.sent old.nodes.master spot messages lasts (sym (ap (failures_at x.failures) master) ∙ one.sound quiet) goes) k)
+          subst (λ p. MadeAt mid.sent (as_left p)) (sym master)
+          (all_does_at given old.sent mid.sent old.nodes.master spot messages moment posted
+          (masters_do_all x.seen x.failures x.armed old.nodes.config old.sent old.nodes.master spot messages (well_lasts x old well) (subst (λ p. Lasts x.seen (as_left p)) master (well_lasts x mid (step_well x given step old mid well one))) goes) k)
 
-  made_over : x.fails ≡ false → IsGiven x → (steps : List Step) (old new : History D) (a b : Account) → Runs x steps old a new b → Lasts x.seen old.nodes.master → KeepsTypes old → MadeAt old.sent old.nodes.master → MadeAt new.sent new.nodes.master
-  made_over quiet given [] old new a b runs lasts types k = subst (λ (h : History D). MadeAt h.sent h.nodes.master) (sym runs.0) k
-  made_over quiet given (step ∷ steps) old new a b (mid, c, one, rest) lasts types k =
-      let behind = one_lasts x given quiet step old mid lasts types one.steps in made_over quiet given steps mid new c b rest behind.0 behind.1 (made_on quiet given step old mid lasts types one.steps k)
+  made_over : IsGiven x → (steps : List Step) (old new : History D) (a b : Account) → Runs x steps old a new b → IsWell x old → MadeAt old.sent (as_left old.nodes.master) → MadeAt new.sent (as_left new.nodes.master)
+  made_over given [] old new a b runs well k = subst (λ (h : History D). MadeAt h.sent (as_left h.nodes.master)) (sym runs.0) k
+  made_over given (step ∷ steps) old new a b (mid, c, one, rest) well k = made_over given steps mid new c b rest (step_well x given step old mid well one.steps) (made_on given step old mid well one.steps k)
 
   -- in a new store nobody was told anything, and no call waits
   none_told : HaveSizes → (begun : History D) → IsGiven x → Begins x.seen x.failures x.armed x.config x.clients x.disks begun → (place : Option Place) (chunk : ℕ) → ToldSo begun.sent place chunk
@@ -185,9 +212,9 @@ module _ {D : Type 0} (x : Setup D) where
   made_first : (sent : Sent) (spot : MasterPlace D) → ((place : Option Place) (chunk : ℕ) → ToldSo sent place chunk) → OpensAs x.seen start spot → MadeAt sent spot
   made_first sent spot none (after, is, state, firm) = subst (MadeAt sent) (sym is) (subst (AllNew (ToldSo sent)) (sym state) (record { waiting = tt; fresh = λ place chunk out. none place chunk }))
 
-  pub made_there : x.fails ≡ false → HaveSizes → (now : History D) (a : Account) → IsReached x now a → MadeAt now.sent now.nodes.master
-  made_there quiet sizes now a r =
+  pub made_there : HaveSizes → (now : History D) (a : Account) → IsReached x now a → MadeAt now.sent (as_left now.nodes.master)
+  made_there sizes now a r =
       let given = r.begins.given in
-      made_over quiet given r.steps r.begun now r.first a r.runs (begins_firm x.seen x.failures x.armed x.config x.clients x.disks r.begun given.new r.begins.begins)
-      (begins_keeping x.seen x.failures x.armed x.config x.clients x.disks r.begun given.few r.begins.begins)
-      (made_first r.begun.sent r.begun.nodes.master (none_told sizes r.begun given r.begins.begins) (begins_told x.seen x.failures x.armed x.config x.clients x.disks r.begun given.new r.begins.begins))
+      made_over given r.steps r.begun now r.first a r.runs (begins_well x given r.begun r.begins.begins)
+      (subst (MadeAt r.begun.sent) (sym (left_so x.seen r.begun.nodes.master (begins_firm x.seen x.failures x.armed x.config x.clients x.disks r.begun given.new r.begins.begins)))
+      (made_first r.begun.sent r.begun.nodes.master (none_told sizes r.begun given r.begins.begins) (begins_told x.seen x.failures x.armed x.config x.clients x.disks r.begun given.new r.begins.begins)))

@@ -30,26 +30,27 @@ use Rattle.gs_replica.specs.Stands.{Edit}
 use Rattle.gs_server_member.specs.Requests.{bytes_in}
 use Rattle.gs_world.proofs.Reaching.{HaveSizes}
 use Rattle.gs_world.specs.Histories.{History}
-use Rattle.gs_world.specs.Lasting.{Lasts, failures_at}
+use Rattle.gs_world.specs.Lasting.{Lasts}
 use Rattle.gs_world.specs.Runs.{Step}
 use Rattle.gs_world.specs.Sent.{Sent}
 use Rattle.gs_world_chunks.proofs.Copied.{copies_are_of_views, lists_same}
 use Rattle.gs_world_chunks.proofs.Edits.{AreNumbered}
 use Rattle.gs_world_chunks.proofs.Holding.{reach_more}
 use Rattle.gs_world_chunks.proofs.Runs.{has_told, keeps_told, living_told, seen_of}
-use Rattle.gs_world_chunks.proofs.Seeing.{each_is_seen}
-use Rattle.gs_world_chunks.proofs.SeeingThrough.{through_stays}
-use Rattle.gs_world_chunks.proofs.Told.{named, reached_sound}
+use Rattle.gs_world_chunks.proofs.SeeingThrough.{each_is_seen_through, reached_well, through_stays}
+use Rattle.gs_world_chunks.proofs.Told.{named}
+use Rattle.gs_world_chunks.proofs.Well.{IsWell, armed_left, step_well, well_lasts}
 use Rattle.gs_world_chunks.proofs.Viewing.{told_view}
 use Rattle.gs_world_chunks.specs.Accounts.{Account, settled_edits, settled_in, view_at}
 use Rattle.gs_world_chunks.specs.Copying.{WasCopied}
-use Rattle.gs_world_chunks.specs.Running.{IsArmed, IsGiven, IsReached, Moves, Runs, Setup, StaysSound}
+use Rattle.gs_world_chunks.specs.Running.{IsArmed, IsGiven, IsReached, Moves, Runs, Setup}
 use Rattle.gs_world_lift.proofs.Copying.{copied_is_told, copied_there}
-use Rattle.gs_world_lift.proofs.Doing.{masters_do}
+use Rattle.gs_world_lift.proofs.DoingAll.{masters_do_all}
 use Rattle.gs_world_lift.proofs.Placing.{kind_of}
 use Rattle.gs_world_lift.specs.Copying.{copied_from, is_copied}
 use Rattle.gs_world_lift.specs.Doing.{Arms, HasDurable, MasterDoes, Moves as MovesAt, Refuses, Starts, Waits}
 use Rattle.gs_world_lift.specs.Going.{Elsewhere, Kind, OfMaster, OfServer}
+use Rattle.gs_world_lift.specs.Left.{Arranges, Cuts, Does, Keeps, MasterDoesAll, as_left, left_in}
 use Rattle.gs_world_plain.proofs.Fresh.{armed_had, never_back}
 use Rattle.gs_world_plain.proofs.Holding.{places_held}
 use Rattle.gs_world_plain.proofs.Onward.{grows, had, has, none_new}
@@ -131,8 +132,8 @@ module _ {D : Type 0} (x : Setup D) (place : Place) (new : ℕ) where
     goes_on = λ d e was is. ap (rolls_back d) (sym (has_one x old d e was (subst (λ p. HasDurable x.seen p e) same is))) ∙ never_back d.phase;
   }
 
-  does_waited : IsGiven x → (sent : Sent) (old now : MasterPlace D) (messages : List Message) → Lasts x.seen old → MasterDoes x.seen x.armed sent old now messages → HeldAt old → MadeAt x sent old → WaitsAt now → HasWaitedAt sent old now
-  does_waited given sent old now messages lasts (MovesAt m after heard t at to was turn state sends) held made k = record { before = by_copied; goes_on = goes_on }
+  does_waited : (sent : Sent) (old now : MasterPlace D) (messages : List Message) → Lasts x.seen old → MasterDoes x.seen (λ disk call spot. spot) sent old now messages → HeldAt old → MadeAt x sent old → WaitsAt now → HasWaitedAt sent old now
+  does_waited sent old now messages lasts (MovesAt m after heard t at to was turn state sends) held made k = record { before = by_copied; goes_on = goes_on }
     where
       firm : is_rolling m.state.durable.phase ≡ true → m.state.volatile.pending ≡ []
       firm = (subst (Lasts x.seen) at lasts).firm.rolling
@@ -165,7 +166,7 @@ module _ {D : Type 0} (x : Setup D) (place : Place) (new : ℕ) where
           let first : m.state.durable ≡ d = subst (λ p. HasDurable x.seen p d) at was in
           let last : t.after.durable ≡ e = sym (ap (λ (s : State). s.durable) state) ∙ subst (λ p. HasDurable x.seen p e) to is in
           ap (λ f. rolls_back f e) (sym first) ∙ ap (rolls_back m.state.durable) (sym last) ∙ turn_goes_on m.config heard place new m.state t turn firm waits_then.0
-  does_waited given sent old now messages lasts (Starts config d log after t durable_was kept counters to turn state sends) held made k = record { before = by_copied; goes_on = goes_on }
+  does_waited sent old now messages lasts (Starts config d log after t durable_was kept counters to turn state sends) held made k = record { before = by_copied; goes_on = goes_on }
     where
       waits_then : WaitsStill place new t.after
       waits_then = subst (WaitsStill place new) state (subst WaitsAt to k)
@@ -179,40 +180,50 @@ module _ {D : Type 0} (x : Setup D) (place : Place) (new : ℕ) where
       goes_on f e was is =
           let last : t.after.durable ≡ e = sym (ap (λ (s : State). s.durable) state) ∙ subst (λ p. HasDurable x.seen p e) to is in
           ap (λ g. rolls_back g e) (sym (has_one x old d f durable_was was)) ∙ ap (rolls_back d) (sym last) ∙ turn_goes_on config None place new (restarted d log) t turn (λ rolling. refl) waits_then.0
-  does_waited given sent old now messages lasts (Waits d first second durable_was kept counters to told sends) held made k = absurd (subst WaitsAt to k)
-  does_waited given sent old now messages lasts (Refuses caller same sends) held made k = same_waits sent old now same k
-  does_waited given sent old now messages lasts (Arms disk call is sends) held made k = record {
-    before = λ copied. armed_waits old (x.armed disk call old) (given.armed disk call old) (subst WaitsAt is k);
-    goes_on = λ d e was then. ap (rolls_back d) (sym (has_one x old d e was (armed_had x 0 old (x.armed disk call old) (given.armed disk call old) e (subst (λ p. HasDurable x.seen p e) is then)))) ∙ never_back d.phase;
+  does_waited sent old now messages lasts (Waits d first second durable_was kept counters to told sends) held made k = absurd (subst WaitsAt to k)
+  does_waited sent old now messages lasts (Refuses caller same sends) held made k = same_waits sent old now same k
+  does_waited sent old now messages lasts (Arms disk call is sends) held made k = same_waits sent old now is k
+
+  armed_waits : (spot other : MasterPlace D) → IsArmed x.seen spot other → WaitsAt other → WaitsAt spot
+  armed_waits (Standing m) other (j, to, alike) k = subst WaitsAt to k
+  armed_waits (Closed first second) other (one, two, to, same, alike) k = absurd (subst WaitsAt to k)
+  armed_waits Away other to k = absurd (subst WaitsAt to k)
+
+  -- whatever disks of it fail
+  all_waited_so : IsGiven x → (sent : Sent) (old now : MasterPlace D) (messages : List Message) → Lasts x.seen (as_left old) → MasterDoesAll x.seen x.armed sent old now messages → HeldAt (as_left old) → MadeAt x sent (as_left old) → WaitsAt (as_left now) → HasWaitedAt sent (as_left old) (as_left now)
+  all_waited_so given sent old now messages lasts (Does sound does) held made k = does_waited sent (as_left old) (as_left now) messages lasts does held made k
+  all_waited_so given sent old now messages lasts (Cuts m after heard caller t spot many said d first second at there was turn cut least within stand to kept counters told) held made k = absurd (subst WaitsAt to k)
+  all_waited_so given sent old now messages lasts (Keeps m after heard caller at there failed still same was answers) held made k = same_waits sent (as_left old) (as_left now) same k
+  all_waited_so given sent old now messages lasts (Arranges disk call is none) held made k = record {
+    before = λ copied. armed_waits (as_left old) (as_left (x.armed disk call old)) alike (subst (λ p. WaitsAt (as_left p)) is k);
+    goes_on = λ d e was has. ap (rolls_back d) (sym (has_one x (as_left old) d e was (armed_had x 0 (as_left old) (as_left (x.armed disk call old)) alike e (subst (λ p. HasDurable x.seen (as_left p) e) is has)))) ∙ never_back d.phase;
   }
     where
-      armed_waits : (spot other : MasterPlace D) → IsArmed x.seen spot other → WaitsAt other → WaitsAt spot
-      armed_waits (Standing m) other (j, to, alike) k = subst WaitsAt to k
-      armed_waits (Closed first second) other (one, two, to, same, alike) k = absurd (subst WaitsAt to k)
-      armed_waits Away other to k = absurd (subst WaitsAt to k)
+      alike : IsArmed x.seen (as_left old) (as_left (x.armed disk call old))
+      alike = armed_left x.seen old (x.armed disk call old) (given.armed disk call old)
 
-module _ (sizes : HaveSizes) (law : AreNumbered) {D : Type 0} (x : Setup D) (quiet : x.fails ≡ false) where
+module _ (sizes : HaveSizes) (law : AreNumbered) {D : Type 0} (x : Setup D) where
   -- ---- where nobody may number, all edits of a view are settled
   all_settled : (now : History D) (a : Account) (chunk : ℕ) (view : View) → IsReached x now a → view_at a chunk ≡ Some view → view.term ≡ None → settled_edits a chunk ≡ a.list chunk view.stamp
   all_settled now a chunk view r told unled =
-      let sees = each_is_seen sizes law x quiet now a r in
-      let living = living_told x sees.0 now a sees.2 chunk (row_there (fin.get a.durable.chunks chunk) view told) in
-      let seen = (seen_of x sees.0 now a sees.2 r.apart chunk living.0 living.1).0 in
+      let sees = each_is_seen_through sizes law x now a r in
+      let living = living_told x sees.0 (left_in now) a sees.2 chunk (row_there (fin.get a.durable.chunks chunk) view told) in
+      let seen = (seen_of x sees.0 (left_in now) a sees.2 r.apart chunk living.0 living.1).0 in
       let w = seen.alive.world in
-      let v = told_view x (bytes_in sees.0) chunk now a seen view told in
+      let v = told_view x (bytes_in sees.0) chunk (left_in now) a seen view told in
       ap (settled_in a chunk) told ∙ v.settled ∙ quiet_is_settled w (reached_world w seen.alive.reached) (v.shows.holder ∙ ap primary_of unled) ∙ sym v.list ∙ ap (a.list chunk) (sym v.shows.stamp)
 
   -- and over a step no more comes to them
   still_settled : (step : Step) (old new : History D) (a b : Account) → IsReached x old a → Moves x step old a new b → (chunk : ℕ) (view : View) → view_at a chunk ≡ Some view → view.term ≡ None → is_listed b.durable chunk ≡ true → rolls_back a.durable b.durable ≡ false
       → settled_edits b chunk ≡ settled_edits a chunk
   still_settled step old new a b r moves chunk view told unled listed goes_on =
-      sym (grows sizes law x quiet step old new a b r moves chunk listed goes_on) ∙ ap (λ (es : List Edit). settled_edits a chunk ++ es) (none_new sizes law x quiet step old new a b r moves chunk view told unled goes_on) ∙ append-nil (settled_edits a chunk)
+      sym (grows sizes law x step old new a b r moves chunk listed goes_on) ∙ ap (λ (es : List Edit). settled_edits a chunk ++ es) (none_new sizes law x step old new a b r moves chunk view told unled goes_on) ∙ append-nil (settled_edits a chunk)
 
   -- ---- a call that waits
 
   module _ (place : Place) (chunk : ℕ) where
     abbrev WaitsIt : History D → Type 0
-    WaitsIt now = WaitsAt x place chunk now.nodes.master
+    WaitsIt now = WaitsAt x place chunk (as_left now.nodes.master)
 
     -- the chunk at the place stands in a file, and nobody may write it
     pub record IsUnled (a : Account) : Type 0 where
@@ -222,46 +233,49 @@ module _ (sizes : HaveSizes) (law : AreNumbered) {D : Type 0} (x : Setup D) (qui
       pub unled : view.term ≡ None
 
     -- what is durable where the master stands is what the account has
-    pub unled_in : (now : History D) (a : Account) (m : MasterOf D) → IsReached x now a → now.nodes.master ≡ Standing m → WaitsStill place chunk m.state → IsUnled a
+    pub unled_in : (now : History D) (a : Account) (m : MasterOf D) → IsReached x now a → as_left now.nodes.master ≡ Standing m → WaitsStill place chunk m.state → IsUnled a
     unled_in now a m r at k =
-        let sees = each_is_seen sizes law x quiet now a r in
-        let same : m.state.durable ≡ a.durable = subst (λ p. HasDurable x.seen p a.durable) at (has_told x sees.0 now a sees.2) in
-        let kept = keeps_told x sees.0 now a sees.2 in
+        let sees = each_is_seen_through sizes law x now a r in
+        let same : m.state.durable ≡ a.durable = subst (λ p. HasDurable x.seen p a.durable) at (has_told x sees.0 (left_in now) a sees.2) in
+        let kept = keeps_told x sees.0 (left_in now) a sees.2 in
         let listed = is_listed_there a.durable.names kept.names place.chunk place.path place.index (ap (λ (d : Durable). slot d.names place.path place.index) (sym same) ∙ k.1) in
         let row = settled_there (fin.get a.durable.chunks place.chunk) (kept.settled place.chunk listed) in
         record {
           listed = listed;
           view = row.0.view;
           told = ap view_in row.1;
-          unled = (unleased place chunk m.state (places_held x quiet now a m r at) k).term.term row.0 (ap (λ (d : Durable). fin.get d.chunks place.chunk) same ∙ row.1);
+          unled = (unleased place chunk m.state (places_held x now a m r at) k).term.term row.0 (ap (λ (d : Durable). fin.get d.chunks place.chunk) same ∙ row.1);
         }
 
     unled_at : (now : History D) (a : Account) → IsReached x now a → WaitsIt now → IsUnled a
-    unled_at now a r k = by_spot now.nodes.master refl k
+    unled_at now a r k = by_spot (as_left now.nodes.master) refl k
       where
-        by_spot : (spot : MasterPlace D) → now.nodes.master ≡ spot → WaitsAt x place chunk spot → IsUnled a
+        by_spot : (spot : MasterPlace D) → as_left now.nodes.master ≡ spot → WaitsAt x place chunk spot → IsUnled a
         by_spot (Standing m) at waits_so = unled_in now a m r at waits_so
         by_spot (Closed first second) at waits_so = absurd waits_so
         by_spot Away at waits_so = absurd waits_so
 
     -- what is so at a step behind which it waits
-    step_waited : (step : Step) (old new : History D) (a b : Account) → IsReached x old a → Moves x step old a new b → WaitsIt new → HasWaitedAt x place chunk old.sent old.nodes.master new.nodes.master
-    step_waited step old new a b r moves k = by_kind (kind_of x.seen x.failures x.armed step old new moves.steps.goes (named x step old moves.steps.within sound.types))
+    step_waited : (step : Step) (old new : History D) (a b : Account) → IsReached x old a → Moves x step old a new b → WaitsIt new → HasWaitedAt x place chunk old.sent (as_left old.nodes.master) (as_left new.nodes.master)
+    step_waited step old new a b r moves k = by_kind (kind_of x.seen x.failures x.armed step old new moves.steps.goes (named x step old moves.steps.within well.types))
       where
-        sound : StaysSound x r.steps r.begun old
-        sound = reached_sound x quiet old a r
+        well : IsWell x old
+        well = reached_well x old a r
 
-        by_kind : Kind x.seen x.failures x.armed step old new → HasWaitedAt x place chunk old.sent old.nodes.master new.nodes.master
-        by_kind (OfServer id s after messages moment found goes met servers master posted) = same_waits x place chunk old.sent old.nodes.master new.nodes.master master k
-        by_kind (Elsewhere by messages moment are servers master posted) = same_waits x place chunk old.sent old.nodes.master new.nodes.master master k
+        lasts : Lasts x.seen (as_left new.nodes.master)
+        lasts = well_lasts x new (step_well x r.begins.given step old new well moves.steps)
+
+        by_kind : Kind x.seen x.failures x.armed step old new → HasWaitedAt x place chunk old.sent (as_left old.nodes.master) (as_left new.nodes.master)
+        by_kind (OfServer id s after messages moment found goes met servers master posted) = same_waits x place chunk old.sent (as_left old.nodes.master) (as_left new.nodes.master) (ap as_left master) k
+        by_kind (Elsewhere by messages moment are servers master posted) = same_waits x place chunk old.sent (as_left old.nodes.master) (as_left new.nodes.master) (ap as_left master) k
         by_kind (OfMaster spot messages moment goes servers master posted) =
-            subst (HasWaitedAt x place chunk old.sent old.nodes.master) (sym master)
-            (does_waited x place chunk r.begins.given old.sent old.nodes.master spot messages sound.lasts
-            (masters_do x.seen x.failures x.armed old.nodes.config old.sent old.nodes.master spot messages sound.lasts (sym (ap (failures_at x.failures) master) ∙ moves.steps.sound quiet) goes) (λ m at. places_held x quiet old a m r at)
-            (made_there x quiet sizes old a r) (subst (WaitsAt x place chunk) master k))
+            subst (λ p. HasWaitedAt x place chunk old.sent (as_left old.nodes.master) (as_left p)) (sym master)
+            (all_waited_so x place chunk r.begins.given old.sent old.nodes.master spot messages (well_lasts x old well)
+            (masters_do_all x.seen x.failures x.armed old.nodes.config old.sent old.nodes.master spot messages (well_lasts x old well) (subst (λ p. Lasts x.seen (as_left p)) master lasts) goes) (λ m at. places_held x old a m r at)
+            (made_there x sizes old a r) (subst (λ p. WaitsAt x place chunk (as_left p)) master k))
 
     goes_on : (step : Step) (old new : History D) (a b : Account) → IsReached x old a → Moves x step old a new b → WaitsIt new → rolls_back a.durable b.durable ≡ false
-    goes_on step old new a b r moves k = (step_waited step old new a b r moves k).goes_on a.durable b.durable (had sizes law x quiet step old new a b r moves) (has sizes law x quiet step old new a b r moves)
+    goes_on step old new a b r moves k = (step_waited step old new a b r moves k).goes_on a.durable b.durable (had sizes law x step old new a b r moves) (has sizes law x step old new a b r moves)
 
     -- who was told to be a copy was
     still_copied : (steps : List Step) (old new : History D) (a b : Account) → IsGiven x → Runs x steps old a new b → is_copied old.sent chunk ≡ true → is_copied new.sent chunk ≡ true
@@ -286,7 +300,7 @@ module _ (sizes : HaveSizes) (law : AreNumbered) {D : Type 0} (x : Setup D) (qui
       pub source_is : source ≡ place.chunk
       pub settled_is : settled_edits a place.chunk ≡ a.list place.chunk at
 
-    pub told_of_place : (now : History D) (a : Account) (m : MasterOf D) (source : ℕ) (at : Stamp) → IsReached x now a → now.nodes.master ≡ Standing m → WaitsStill place chunk m.state → copied_from now.sent chunk ≡ Some (source, at) → IsToldOfPlace now a source at
+    pub told_of_place : (now : History D) (a : Account) (m : MasterOf D) (source : ℕ) (at : Stamp) → IsReached x now a → as_left now.nodes.master ≡ Standing m → WaitsStill place chunk m.state → copied_from now.sent chunk ≡ Some (source, at) → IsToldOfPlace now a source at
     told_of_place now a m source at r stands k copied = record { source_is = source_is; settled_is = of_it at (copied ∙ ap (λ n. Some (n, at)) source_is) }
       where
         number_is : {p q : ℕ} → Some p ≡ Some q → q ≡ p
@@ -294,7 +308,7 @@ module _ (sizes : HaveSizes) (law : AreNumbered) {D : Type 0} (x : Setup D) (qui
 
         source_is : source ≡ place.chunk
         source_is =
-            let all = subst (MadeAt x now.sent) stands (made_there x quiet sizes now a r) in
+            let all = subst (MadeAt x now.sent) stands (made_there x sizes now a r) in
             let so = subst (OfNew (λ other n. (is_given m.state.durable.next_handle n ≡ true) × ToldSo now.sent other n)) k.0.2 (all_at (λ q. OfNew (λ other n. (is_given m.state.durable.next_handle n ≡ true) × ToldSo now.sent other n) q.waits) m.state.volatile.pending k.0.0 all.waiting k.0.1) in
             number_is (copied_so now.sent (Some place) chunk source at so.1 copied)
 
@@ -320,5 +334,5 @@ module _ (sizes : HaveSizes) (law : AreNumbered) {D : Type 0} (x : Setup D) (qui
                 ∙ sym (lists_same sizes law x was.0.old now was.0.before a (was.0.step ∷ was.0.steps) place.chunk under was.0.view was.0.reached (was.0.asked, was.0.behind, was.0.moves, was.0.runs) told was.0.under was.0.unled)
 
 pub copies_of_places : HaveSizes → AreNumbered → {D : Type 0} (x : Setup D) → CopiesAreOfPlaces x
-copies_of_places sizes law x quiet now a m p path index old new source at r stands here is there copied =
-    let told = told_of_place sizes law x quiet (record { path = path; index = index; chunk = old }) new now a m source at r stands ((p, here, is), there) copied in (told.source_is, told.settled_is)
+copies_of_places sizes law x now a m p path index old new source at r stands here is there copied =
+    let told = told_of_place sizes law x (record { path = path; index = index; chunk = old }) new now a m source at r stands ((p, here, is), there) copied in (told.source_is, told.settled_is)

@@ -1,6 +1,6 @@
 -- What is settled of a chunk that no file has yet.
 use Rattle.std.proofs.Common.{◌≡◌, ◌∙◌, ◌<◌, ◌≤◌, ◌++◌, inl, inr, ℕ, zero, suc, Bool, true, false, List, [], ◌∷◌, length, take, drop, append-nil, refl, sym, ap, subst, arith}
-use Rattle.std.specs.Prelude.{◌&&◌, is_some, not, if◌then◌else◌, Option, Some, None}
+use Rattle.std.specs.Prelude.{◌&&◌, is_some, map, not, if◌then◌else◌, Option, Some, None}
 use Rattle.std.specs.List.{AllByRecursion}
 use Rattle.std.proofs.lemmas.Bool.{false≢true, true≢false}
 use Rattle.std.specs.FinMap as fin
@@ -22,16 +22,24 @@ use Rattle.gs_master_record.specs.declared.checkpoint.Phase.{Phase}
 use Rattle.gs_master_record.specs.declared.checkpoint.Phase.TheVariants.{Ordinary, Rolling, Upgrade}
 use Rattle.gs_server_laws.specs.Following.{lengthened}
 use Rattle.gs_server_member.proofs.Stamps.{is_itself}
-use Rattle.gs_master_moves.proofs.Fitting.{mapped, once_chain}
-use Rattle.gs_master_moves.specs.Epochs.{EndsOnce, rolls_back}
+use Rattle.gs_master_moves.proofs.Asked.{scan_usual}
+use Rattle.gs_master_moves.proofs.Fitting.{chain_leaves, mapped, once_chain}
+use Rattle.gs_master_moves.proofs.Leaving.{leaves_view}
+use Rattle.gs_master_moves.proofs.Stands.{once_stands}
+use Rattle.gs_master_moves.specs.Epochs.{ByItself, Closes, EndsOnce, Within, closes, is_alone, rolls_back}
 use Rattle.gs_master_moves.specs.Guards.{Heard, IsMade}
 use Rattle.gs_master_moves.specs.Laws.{IsMadeWell}
-use Rattle.gs_master_moves.specs.Moves.{CommitsRollback, Finalizes, Move, Prepares, move_turn}
+use Rattle.gs_master_moves.specs.Moves.{CommitsRollback, Finalizes, Move, Moves as MovesOf, Prepares, move_turn}
+use Rattle.gs_master_laws.specs.Promises.{IsKept}
+use Rattle.gs_master_record.specs.Plain.{Edited, PlainEntry}
+use Rattle.gs_master_spec.specs.Settling.{own_request}
+use Rattle.gs_master_spec.specs.Working.{scan_edits}
+use Rattle.gs_msg.specs.declared.event.DiskId.{DiskId}
 use Rattle.gs_master_moves.specs.Shared.{HasNoTerm}
 use Rattle.gs_master_spec.specs.Applied.{replayed, view_in}
 use Rattle.gs_master_spec.specs.Durable.{Durable, Settled, is_listed, is_ordinary, is_rolling, start}
 use Rattle.gs_master_spec.specs.State.{State, Turn}
-use Rattle.gs_master_upgrade.proofs.Records.{Goes, Paced, Turns as Bounds, chain_within, is_bound, paced, turn_fits}
+use Rattle.gs_master_upgrade.proofs.Records.{Goes, Paced, Turns as Bounds, chain_within, is_bound, paced}
 use Rattle.gs_msg.specs.declared.message.Message.{Message}
 use Rattle.gs_nodes.specs.declared.place.MasterPlace.{MasterPlace}
 use Rattle.gs_nodes.specs.declared.place.MasterPlace.TheVariants.{Away, Closed, Standing}
@@ -48,11 +56,9 @@ use Rattle.gs_world_chunks.proofs.Holding.{copies_inherit, reach_more}
 use Rattle.gs_world_chunks.proofs.Once.{told_once}
 use Rattle.gs_world_chunks.proofs.Origins.{copied_same}
 use Rattle.gs_world_chunks.proofs.Runs.{blank_of, living_told, seen_of}
-use Rattle.gs_world_chunks.proofs.Told.{named, reached_sound}
 use Rattle.gs_world_chunks.specs.Accounts.{Account, settled_count, settled_edits, settled_in, view_at}
 use Rattle.gs_world_chunks.specs.Moving.{begun, continued, edit_under, edits_of, is_under, list_behind, numbered}
 use Rattle.gs_world_chunks.specs.Running.{IsArmed, IsGiven, IsNew, IsReached, Moves, Runs, Setup}
-use Rattle.gs_world_laws.proofs.Keeping.{begins_keeping}
 use Rattle.gs_world_lift.proofs.Beginning.{begins_told}
 use Rattle.gs_world_lift.specs.Accounts.{edits_copied}
 use Rattle.gs_world_lift.specs.Copying.{copied_from}
@@ -63,10 +69,14 @@ use Rattle.gs_world_lift.specs.Showing.{IsAlive, Life}
 use Rattle.gs_world_lift.specs.Unborn.{IsUnborn}
 use Rattle.gs_world_plain.proofs.Beginning.{opens_as_start}
 use Rattle.gs_world_plain.proofs.Onward.{asked, bytes, had, has, kept_before, kept_behind, next, no_more, none_new, sees, behind as sees_behind}
-use Rattle.gs_world_plain.proofs.Shapes.{finalize_ends, none_is_back, prepare_begins, same_phase_over}
-use Rattle.gs_world_plain.proofs.Unleased.{holds_over}
-use Rattle.gs_world_plain.proofs.Unlisted.{IsUnledUnlisted, chain_unled, commit_lists, turn_out}
-use Rattle.gs_world_plain.proofs.Writing.{Keeps, Turns, Writes, has_one, writes}
+use Rattle.gs_world_plain.proofs.Shapes.{finalize_ends, go_taken, none_is_back, prepare_begins, same_phase_over}
+use Rattle.gs_world_plain.proofs.Cut.{CutLeaves, Leads, Scanned, cut_leaves, taken, taken_all, tested}
+use Rattle.gs_world_plain.proofs.Unleased.{left_over, still_armed}
+use Rattle.gs_world_plain.proofs.Unlisted.{IsUnledUnlisted, chain_unled, commit_lists, linked_unled, part_out, part_unled, turn_out}
+use Rattle.gs_world_plain.proofs.Writing.{Keeps, Turns, Writes, writes}
+use Rattle.gs_world_chunks.proofs.SeeingThrough.{reached_well}
+use Rattle.gs_world_chunks.proofs.Well.{armed_left, begins_well, left_so}
+use Rattle.gs_world_lift.specs.Left.{Arranges, Cuts, Does as DoesSo, Keeps as KeepsSo, MasterDoesAll, as_left, left_in}
 use Rattle.gs_world_plain.specs.Fresh.{AddedAreAsMade, NewAreAsMade}
 use Rattle.gs_world_plain.specs.Settling.{newly_settled}
 use Rattle.gs_world_plain.specs.Written.{records_at}
@@ -91,26 +101,43 @@ module _ {D : Type 0} (x : Setup D) (chunk : ℕ) where
       subst (λ t. IsToldIn t d) (ap (λ s. standing s (x.seen two)) same ∙ ap (standing (x.seen first)) alike) (subst (λ p. HasDurable x.seen p d) to has)
   armed_had Away other to d has = subst (λ p. HasDurable x.seen p d) to has
 
-  unled_does : IsGiven x → (sent : Sent) (old new : MasterPlace D) (messages : List Message) → Lasts x.seen old → MasterDoes x.seen x.armed sent old new messages → IsUnledAt old → IsUnledAt new
-  unled_does given sent old new messages lasts (MovesAt m after heard t at to was turn state sends) k d has =
+  unled_does : (armed : DiskId → ℕ → MasterPlace D → MasterPlace D) → ((disk : DiskId) (call : ℕ) (place : MasterPlace D) → IsArmed x.seen place (armed disk call place)) → (sent : Sent) (old new : MasterPlace D) (messages : List Message) → MasterDoes x.seen armed sent old new messages → IsUnledAt old → IsUnledAt new
+  unled_does armed arming sent old new messages (MovesAt m after heard t at to was turn state sends) k d has =
       subst (IsUnledUnlisted chunk) (sym (ap (λ (s : State). s.durable) state) ∙ subst (λ p. HasDurable x.seen p d) to has)
       (unled_turn m.config heard m.state t turn (k m.state.durable (subst (λ p. HasDurable x.seen p m.state.durable) (sym at) refl)))
-  unled_does given sent old new messages lasts (Starts config d log after t had kept counters to turn state sends) k e has =
+  unled_does armed arming sent old new messages (Starts config d log after t had kept counters to turn state sends) k e has =
       subst (IsUnledUnlisted chunk) (sym (ap (λ (s : State). s.durable) state) ∙ subst (λ p. HasDurable x.seen p e) to has) (unled_turn config _ _ t turn (k d had))
-  unled_does given sent old new messages lasts (Waits d first second had kept counters to told sends) k e has =
+  unled_does armed arming sent old new messages (Waits d first second had kept counters to told sends) k e has =
       subst (IsUnledUnlisted chunk) (told_once (standing (x.seen first) (x.seen second)) d e told (subst (λ p. HasDurable x.seen p e) to has)) (k d had)
-  unled_does given sent old new messages lasts (Refuses caller same sends) k d has = k d (subst (λ p. HasDurable x.seen p d) same has)
-  unled_does given sent old new messages lasts (Arms disk call is sends) k d has = k d (armed_had old (x.armed disk call old) (given.armed disk call old) d (subst (λ p. HasDurable x.seen p d) is has))
+  unled_does armed arming sent old new messages (Refuses caller same sends) k d has = k d (subst (λ p. HasDurable x.seen p d) same has)
+  unled_does armed arming sent old new messages (Arms disk call is sends) k d has = k d (armed_had old (armed disk call old) (arming disk call old) d (subst (λ p. HasDurable x.seen p d) is has))
+
+  -- and so it is of what stands of a turn that is cut
+  unled_cut : (config : Config) (heard : Heard) (s : State) (records : List PlainEntry) (d : Durable) → CutLeaves config heard s records d → IsUnledUnlisted chunk s.durable → IsUnledUnlisted chunk d
+  unled_cut config heard s records d (Leads t more turn are silent fits links) k = linked_unled chunk t.after.durable d (links.rows chunk) links.names (unled_turn config heard s t turn k)
+  unled_cut config heard s records d (Scanned removed forgotten many well are fit) k =
+      let entries = map (Edited own_request) (scan_edits removed forgotten) in
+      part_unled chunk (take many entries) s.durable d (tested (leaves_view chunk) many entries (scan_usual chunk own_request (scan_edits removed forgotten))) (ap (replayed s.durable) (sym are) ∙ fit) k
+
+  unled_left : IsGiven x → (sent : Sent) (old new : MasterPlace D) (messages : List Message) → Lasts x.seen (as_left old) → MasterDoesAll x.seen x.armed sent old new messages → IsUnledAt (as_left old) → IsUnledAt (as_left new)
+  unled_left given sent old new messages lasts (DoesSo sound does) k d has = unled_does (λ disk call place. place) (λ disk call place. still_armed x.seen place) sent (as_left old) (as_left new) messages does k d has
+  unled_left given sent old new messages lasts (Cuts m after heard caller t place many said d first second at there was turn cut least within stand master kept counters told) k e has =
+      subst (IsUnledUnlisted chunk) (told_once (standing (x.seen first) (x.seen second)) d e told (subst (λ p. HasDurable x.seen p e) master has))
+      (unled_cut m.config heard m.state (take many t.records) d (cut_leaves m.config heard m.state t many d turn within stand) (k m.state.durable (subst (λ p. HasDurable x.seen p m.state.durable) (sym at) refl)))
+  unled_left given sent old new messages lasts (KeepsSo m after heard caller at there failed still same was answers) k d has = k d (subst (λ p. HasDurable x.seen p d) same has)
+  unled_left given sent old new messages lasts (Arranges disk call is none) k d has =
+      k d (armed_had (as_left old) (as_left (x.armed disk call old)) (armed_left x.seen old (x.armed disk call old) (given.armed disk call old)) d (subst (λ p. HasDurable x.seen (as_left p) d) is has))
 
   unled_first : (place : MasterPlace D) → OpensAs x.seen start place → IsUnledAt place
   unled_first place (after, is, state, firm) d has =
       subst (IsUnledUnlisted chunk) (sym (ap (λ (s : State). s.durable) state) ∙ subst (λ p. HasDurable x.seen p d) is has) (λ out. record { term = λ y there. absurd (false≢true (sym (ap is_some (fin.get-empty nat_cmp chunk)) ∙ ap is_some there)) })
 
-  pub unled_there : x.fails ≡ false → (now : History D) (a : Account) → IsReached x now a → HasDurable x.seen now.nodes.master a.durable → is_listed a.durable chunk ≡ false → HasNoTerm a.durable chunk
-  unled_there quiet now a r has =
+  pub unled_there : (now : History D) (a : Account) → IsReached x now a → HasDurable x.seen (as_left now.nodes.master) a.durable → is_listed a.durable chunk ≡ false → HasNoTerm a.durable chunk
+  unled_there now a r has =
       let given = r.begins.given in
-      holds_over x quiet IsUnledAt given (unled_does given) r.steps r.begun now r.first a r.runs (begins_firm x.seen x.failures x.armed x.config x.clients x.disks r.begun given.new r.begins.begins)
-      (begins_keeping x.seen x.failures x.armed x.config x.clients x.disks r.begun given.few r.begins.begins) (unled_first r.begun.nodes.master (begins_told x.seen x.failures x.armed x.config x.clients x.disks r.begun given.new r.begins.begins)) a.durable has
+      left_over x IsUnledAt given (unled_left given) r.steps r.begun now r.first a r.runs (begins_well x given r.begun r.begins.begins)
+      (subst IsUnledAt (sym (left_so x.seen r.begun.nodes.master (begins_firm x.seen x.failures x.armed x.config x.clients x.disks r.begun given.new r.begins.begins)))
+      (unled_first r.begun.nodes.master (begins_told x.seen x.failures x.armed x.config x.clients x.disks r.begun given.new r.begins.begins))) a.durable has
 
 -- ---- lists
 
@@ -155,40 +182,49 @@ never_back Rolling = refl
 
 -- ---- a step
 
-module _ (sizes : HaveSizes) (law : AreNumbered) {D : Type 0} (x : Setup D) (quiet : x.fails ≡ false) (step : Step) (old new : History D) (a b : Account) (r : IsReached x old a) (moves : Moves x step old a new b) (chunk : ℕ) where
+module _ (sizes : HaveSizes) (law : AreNumbered) {D : Type 0} (x : Setup D) (step : Step) (old new : History D) (a b : Account) (r : IsReached x old a) (moves : Moves x step old a new b) (chunk : ℕ) where
   -- what the master writes
-  written : Writes x.seen (records_at step old) old.nodes.master new.nodes.master
-  written =
-      let sound = reached_sound x quiet old a r in
-      writes x r.begins.given step old new moves.steps.goes (named x step old moves.steps.within sound.types) sound.lasts (moves.steps.sound quiet)
+  written : Writes (records_at step old) old.nodes.master a.durable b.durable
+  written = writes x r.begins.given step old new a.durable b.durable (reached_well x old a r) moves.steps (had sizes law x step old new a b r moves) (has sizes law x step old new a b r moves)
+
+  once_made : (config : Config) (heard : Heard) (s : State) (t : Turn) → EndsOnce config (IsMadeWell config heard) s t → EndsOnce config (IsMade config heard) s t
+  once_made config heard s t (Within u v chain) =
+      Within u v (mapped config (λ u move. IsMadeWell config heard u move × (is_alone move ≡ false)) (λ u move. IsMade config heard u move × (is_alone move ≡ false)) (λ u move both. (both.0.made, both.1)) u v chain)
+  once_made config heard s t (ByItself u move said well alone) = ByItself u move said well.made alone
+  once_made config heard s t (Closes u move said next well is chain) =
+      Closes u move said next well.made is (mapped config (λ u move. IsMadeWell config heard u move × (closes move ≡ true)) (λ u move. IsMade config heard u move × (closes move ≡ true)) (λ u move both. (both.0.made, both.1)) (move_turn config u move).after next chain)
 
   -- a chunk in no file that is settled behind the step was in none
   out_before : is_listed b.durable chunk ≡ false → is_some (fin.get b.durable.chunks chunk) ≡ true → is_listed a.durable chunk ≡ false
   out_before out some = by_writes written
     where
-      by_writes : Writes x.seen (records_at step old) old.nodes.master new.nodes.master → is_listed a.durable chunk ≡ false
-      by_writes (Keeps f) =
-          ap (λ (d : Durable). is_listed d chunk) (has_one x new.nodes.master a.durable b.durable (f a.durable (had sizes law x quiet step old new a b r moves)) (has sizes law x quiet step old new a b r moves)) ∙ out
-      by_writes (Turns m after heard t at to turn fits state many is) =
-          let first : m.state.durable ≡ a.durable = subst (λ p. HasDurable x.seen p a.durable) at (had sizes law x quiet step old new a b r moves) in
-          let last : after.state.durable ≡ b.durable = subst (λ p. HasDurable x.seen p b.durable) to (has sizes law x quiet step old new a b r moves) in
-          let same : t.after.durable ≡ b.durable = sym (ap (λ (s : State). s.durable) state) ∙ last in
+      by_cut : (config : Config) (heard : Heard) (s : State) (records : List PlainEntry) → CutLeaves config heard s records b.durable → is_listed s.durable chunk ≡ false
+      by_cut config heard s records (Leads t more turn are silent fits links) =
+          turn_out chunk config heard s t (once_made config heard s t turn) (sym (links.listed chunk) ∙ out) (ap is_some (sym (links.rows chunk)) ∙ some)
+      by_cut config heard s records (Scanned removed forgotten many well are fit) =
+          let entries = map (Edited own_request) (scan_edits removed forgotten) in
+          (part_out chunk (take many entries) s.durable b.durable (tested (leaves_view chunk) many entries (scan_usual chunk own_request (scan_edits removed forgotten))) (ap (replayed s.durable) (sym are) ∙ fit) out some).0
+
+      by_writes : Writes (records_at step old) old.nodes.master a.durable b.durable → is_listed a.durable chunk ≡ false
+      by_writes (Keeps same) = ap (λ (d : Durable). is_listed d chunk) (sym same) ∙ out
+      by_writes (Turns m heard t many all left first turn fits low stand are) =
+          let well = once_stands m.config heard m.state t turn fits (subst IsKept (sym first) (kept_before sizes law x step old new a b r moves)) in
           ap (λ (d : Durable). is_listed d chunk) (sym first)
-          ∙ turn_out chunk m.config heard m.state t turn (ap (λ (d : Durable). is_listed d chunk) same ∙ out) (ap (λ (d : Durable). is_some (fin.get d.chunks chunk)) same ∙ some)
+          ∙ by_cut m.config heard m.state (take many t.records) (cut_leaves m.config heard m.state t many b.durable well.turn low (ap (λ d. replayed d (take many t.records)) first ∙ stand))
 
   -- in its view nobody may number
   unled_view : (view : View) → view_at a chunk ≡ Some view → is_listed a.durable chunk ≡ false → view.term ≡ None
   unled_view view told out =
       let row = row_of (fin.get a.durable.chunks chunk) view told in
-      ap (λ (v : View). v.term) (sym row.2) ∙ (unled_there x chunk quiet old a r (had sizes law x quiet step old new a b r moves) out).term row.0 row.1
+      ap (λ (v : View). v.term) (sym row.2) ∙ (unled_there x chunk old a r (had sizes law x step old new a b r moves) out).term row.0 row.1
 
   -- one of which a view is told behind it lives then
   module _ (later : View) (told_then : view_at b chunk ≡ Some later) (goes_on : rolls_back a.durable b.durable ≡ false) where
-    living : (m : IsAlive x.seen x.config (bytes sizes law x quiet step old new a b r moves) chunk new) × ((next sizes law x quiet step old new a b r moves).goes.last.life chunk ≡ inr m)
-    living = living_told x (asked sizes law x quiet step old new a b r moves) new b (sees_behind sizes law x quiet step old new a b r moves) chunk (has_row (fin.get b.durable.chunks chunk) later told_then)
+    living : (m : IsAlive x.seen x.config (bytes sizes law x step old new a b r moves) chunk (left_in new)) × ((next sizes law x step old new a b r moves).goes.last.life chunk ≡ inr m)
+    living = living_told x (asked sizes law x step old new a b r moves) (left_in new) b (sees_behind sizes law x step old new a b r moves) chunk (has_row (fin.get b.durable.chunks chunk) later told_then)
 
     abbrev heard : Option ℕ
-    heard = heard_in x.seen x.failures x.armed (next sizes law x quiet step old new a b r moves).goes.kind
+    heard = heard_in x.seen x.failures x.armed (next sizes law x step old new a b r moves).goes.kind
 
     -- with what it was born
     abbrev origin : List Edit
@@ -196,20 +232,20 @@ module _ (sizes : HaveSizes) (law : AreNumbered) {D : Type 0} (x : Setup D) (qui
 
     origin_then : edits_of b (copied_from new.sent chunk) ≡ origin
     origin_then =
-        let seen = seen_of x (asked sizes law x quiet step old new a b r moves) new b (sees_behind sizes law x quiet step old new a b r moves) r.apart chunk living.0 living.1 in
-        copied_edits b (copied_from new.sent chunk) ∙ (seen.0.agrees).lists.origin ∙ ap (λ (z : IsAlive x.seen x.config (bytes sizes law x quiet step old new a b r moves) chunk new). z.reached.0.origin) seen.1
+        let seen = seen_of x (asked sizes law x step old new a b r moves) (left_in new) b (sees_behind sizes law x step old new a b r moves) r.apart chunk living.0 living.1 in
+        copied_edits b (copied_from new.sent chunk) ∙ (seen.0.agrees).lists.origin ∙ ap (λ (z : IsAlive x.seen x.config (bytes sizes law x step old new a b r moves) chunk (left_in new)). z.reached.0.origin) seen.1
 
     -- it isn't born at this step
-    module _ (unborn : IsUnborn x.seen chunk old) (is : (sees sizes law x quiet step old new a b r moves).first.lives.life chunk ≡ inl unborn) (comes : ComesAlive x.seen x.config (bytes sizes law x quiet step old new a b r moves) chunk old new living.0) where
+    module _ (unborn : IsUnborn x.seen chunk (left_in old)) (is : (sees sizes law x step old new a b r moves).first.lives.life chunk ≡ inl unborn) (comes : ComesAlive x.seen x.config (bytes sizes law x step old new a b r moves) chunk (left_in old) (left_in new) living.0) where
       before : comes.before ≡ a.durable
-      before = told_is_had x.seen old.nodes.master a.durable comes.before (sees sizes law x quiet step old new a b r moves).first.lives.lasts (sees sizes law x quiet step old new a b r moves).first.agrees.told comes.had
+      before = told_is_had x.seen (as_left old.nodes.master) a.durable comes.before (sees sizes law x step old new a b r moves).first.lives.lasts (sees sizes law x step old new a b r moves).first.agrees.told comes.had
 
       behind : comes.behind ≡ b.durable
-      behind = told_is_had x.seen new.nodes.master b.durable comes.behind (next sizes law x quiet step old new a b r moves).goes.last.lasts moves.told comes.has
+      behind = told_is_had x.seen (as_left new.nodes.master) b.durable comes.behind (next sizes law x step old new a b r moves).goes.last.lasts (next sizes law x step old new a b r moves).account.told comes.has
 
       up : (world_of living.0.reached.0).known.view < (living.0.world).known.view
       up =
-          let blank = blank_of x (asked sizes law x quiet step old new a b r moves) old a (sees sizes law x quiet step old new a b r moves).first chunk unborn is in
+          let blank = blank_of x (asked sizes law x step old new a b r moves) (left_in old) a (sees sizes law x step old new a b r moves).first chunk unborn is in
           let y = row_of (fin.get b.durable.chunks chunk) later told_then in
           comes.rows.appears y.0 (ap (λ (d : Durable). fin.get d.chunks chunk) before ∙ blank.none) (ap (λ (d : Durable). fin.get d.chunks chunk) behind ∙ y.1)
 
@@ -224,18 +260,18 @@ module _ (sizes : HaveSizes) (law : AreNumbered) {D : Type 0} (x : Setup D) (qui
     -- the account had of what it copies just that before
     origin_before : (edits_of a (copied_from new.sent chunk) ≡ origin) × (edits_of a (copied_from old.sent chunk) ≡ origin)
     origin_before =
-        by_life ((sees sizes law x quiet step old new a b r moves).first.lives.life chunk) refl
-        (subst (λ life. GoesOn x.seen x.config (bytes sizes law x quiet step old new a b r moves) chunk step heard old new ((sees sizes law x quiet step old new a b r moves).first.lives.life chunk) life) living.1 ((next sizes law x quiet step old new a b r moves).goes.goes chunk))
+        by_life ((sees sizes law x step old new a b r moves).first.lives.life chunk) refl
+        (subst (λ life. GoesOn x.seen x.config (bytes sizes law x step old new a b r moves) chunk step heard (left_in old) (left_in new) ((sees sizes law x step old new a b r moves).first.lives.life chunk) life) living.1 ((next sizes law x step old new a b r moves).goes.goes chunk))
       where
-        by_life : (life : Life x.seen x.config (bytes sizes law x quiet step old new a b r moves) chunk old) → (sees sizes law x quiet step old new a b r moves).first.lives.life chunk ≡ life
-            → GoesOn x.seen x.config (bytes sizes law x quiet step old new a b r moves) chunk step heard old new life (inr living.0) → (edits_of a (copied_from new.sent chunk) ≡ origin) × (edits_of a (copied_from old.sent chunk) ≡ origin)
+        by_life : (life : Life x.seen x.config (bytes sizes law x step old new a b r moves) chunk (left_in old)) → (sees sizes law x step old new a b r moves).first.lives.life chunk ≡ life
+            → GoesOn x.seen x.config (bytes sizes law x step old new a b r moves) chunk step heard (left_in old) (left_in new) life (inr living.0) → (edits_of a (copied_from new.sent chunk) ≡ origin) × (edits_of a (copied_from old.sent chunk) ≡ origin)
         by_life (inl unborn) is comes = absurd (not_born unborn is comes)
         by_life (inr l) is goes =
-            let seen = seen_of x (asked sizes law x quiet step old new a b r moves) old a (sees sizes law x quiet step old new a b r moves).first r.apart chunk l is in
-            let copied = copied_same x.seen x.config (bytes sizes law x quiet step old new a b r moves) l.reached.0.epoch chunk step old new l.world living.0.world goes.by in
+            let seen = seen_of x (asked sizes law x step old new a b r moves) (left_in old) a (sees sizes law x step old new a b r moves).first r.apart chunk l is in
+            let copied = copied_same x.seen x.config (bytes sizes law x step old new a b r moves) l.reached.0.epoch chunk step (left_in old) (left_in new) l.world living.0.world goes.by in
             let was : edits_of a (copied_from old.sent chunk) ≡ origin =
             copied_edits a (copied_from old.sent chunk) ∙ (seen.0.agrees).lists.origin
-            ∙ ap (λ (z : IsAlive x.seen x.config (bytes sizes law x quiet step old new a b r moves) chunk old). z.reached.0.origin) seen.1 ∙ ap (λ (birth : Birth). birth.origin) (sym goes.same) in
+            ∙ ap (λ (z : IsAlive x.seen x.config (bytes sizes law x step old new a b r moves) chunk (left_in old)). z.reached.0.origin) seen.1 ∙ ap (λ (birth : Birth). birth.origin) (sym goes.same) in
             (ap (edits_of a) copied ∙ was, was)
 
     -- it is a copy of what it was
@@ -267,7 +303,7 @@ module _ (sizes : HaveSizes) (law : AreNumbered) {D : Type 0} (x : Setup D) (qui
         by_view None none = (let short = first_list none in let is = made in omega arith)
         by_view (Some view) told =
             let none = unled_view view told out in
-            let less = no_more sizes law x quiet step old new a b r moves chunk view later told told_then goes_on none in
+            let less = no_more sizes law x step old new a b r moves chunk view later told told_then goes_on none in
             let was = before view told in
             let same = ap (λ (es : List Edit). length es) origin_before.1 in
             let is = made in
@@ -284,21 +320,33 @@ module _ (sizes : HaveSizes) (law : AreNumbered) {D : Type 0} (x : Setup D) (qui
           ap (λ (d : Durable). is_listed d chunk) (sym is) ∙ commit_lists chunk config said s req names made (ap (λ (d : Durable). is_some (fin.get d.chunks chunk)) is ∙ some)
       by_move config said s move bound made is replays = absurd (false≢true bound)
 
-      by_pace : (config : Config) (heard : Heard) (s : State) (t : Turn) → Paced config heard s t → s.durable ≡ a.durable → t.after.durable ≡ b.durable → AllByRecursion (IsEntry Two) t.records → replayed a.durable t.records ≡ Some b.durable → is_listed b.durable chunk ≡ true
-      by_pace config said s t (Goes u v chain) first last fits replays =
-          absurd (true≢false (sym back ∙ none_is_back a.durable b.durable (same_phase_over a.durable b.durable v.records (kept_before sizes law x quiet step old new a b r moves) fits (subst (λ d. GoWithin d v.records) first (chain_within config said u v chain fits).0) replays)))
-      by_pace config said s t (Bounds u move refused made bound) first last fits replays = by_move config said u move bound made last replays
+      none_back : a.durable ≡ b.durable → ⊥
+      none_back same = true≢false (sym back ∙ ap (λ (d : Durable). rolls_back a.durable d) (sym same) ∙ never_back a.durable.phase)
 
-      by_writes : Writes x.seen (records_at step old) old.nodes.master new.nodes.master → is_listed b.durable chunk ≡ true
-      by_writes (Keeps f) =
-          let same = has_one x new.nodes.master a.durable b.durable (f a.durable (had sizes law x quiet step old new a b r moves)) (has sizes law x quiet step old new a b r moves) in
-          absurd (true≢false (sym back ∙ ap (λ (d : Durable). rolls_back a.durable d) (sym same) ∙ never_back a.durable.phase))
-      by_writes (Turns m after heard t at to turn fits state many is) =
-          let first : m.state.durable ≡ a.durable = subst (λ p. HasDurable x.seen p a.durable) at (had sizes law x quiet step old new a b r moves) in
-          let last : after.state.durable ≡ b.durable = subst (λ p. HasDurable x.seen p b.durable) to (has sizes law x quiet step old new a b r moves) in
-          let same : t.after.durable ≡ b.durable = sym (ap (λ (s : State). s.durable) state) ∙ last in
-          let replays : replayed a.durable t.records ≡ Some b.durable = ap (λ d. replayed d t.records) (sym first) ∙ turn_fits m.config heard m.state t turn fits ∙ ap Some same in
-          by_pace m.config heard m.state t (paced m.config heard m.state t turn) first same fits replays
+      one_long : (config : Config) (s : State) (move : Move) → is_bound move ≡ true → length (move_turn config s move).records ≡ 1
+      one_long config s (Prepares req moment) bound = refl
+      one_long config s (Finalizes req) bound = refl
+      one_long config s (CommitsRollback req names) bound = refl
+      one_long config s move bound = absurd (false≢true bound)
+
+      by_pace : (config : Config) (heard : Heard) (s : State) (t : Turn) (many : ℕ) → Paced config heard s t → s.durable ≡ a.durable → AllByRecursion (IsEntry Two) t.records → many ≤ length t.records → replayed a.durable (take many t.records) ≡ Some b.durable → is_listed b.durable chunk ≡ true
+      by_pace config said s t many (Goes u v chain) first fits low stand =
+          absurd (true≢false (sym back ∙ none_is_back a.durable b.durable (same_phase_over a.durable b.durable (take many v.records) (kept_before sizes law x step old new a b r moves) (taken (IsEntry Two) many v.records fits)
+          (go_taken a.durable v.records many (subst (λ d. GoWithin d v.records) first (chain_within config said u v chain fits).0)) stand)))
+      by_pace config said s t many (Bounds u move refused made bound) first fits low stand = by_many many (one_long config u move bound) low stand
+        where
+          by_many : (n : ℕ) → length (move_turn config u move).records ≡ 1 → n ≤ length (move_turn config u move).records → replayed a.durable (take n (move_turn config u move).records) ≡ Some b.durable → is_listed b.durable chunk ≡ true
+          by_many zero long low stand = absurd (none_back (let same : a.durable ≡ b.durable = cc in same))
+          by_many (suc zero) long low stand =
+              let whole = ap (replayed a.durable) (sym (taken_all 1 (move_turn config u move).records (sym long))) ∙ stand in
+              let t = record (move_turn config u move) { said = refused } in
+              let last = chain_leaves config said (IsMade config said) (λ v m made. made.may) u t b.durable (MovesOf u move refused made) (ap (λ d. replayed d (move_turn config u move).records) first ∙ whole) in
+              by_move config said u move bound made last whole
+          by_many (suc (suc n)) long low stand = absurd (omega arith)
+
+      by_writes : Writes (records_at step old) old.nodes.master a.durable b.durable → is_listed b.durable chunk ≡ true
+      by_writes (Keeps same) = absurd (none_back (sym same))
+      by_writes (Turns m heard t many all left first turn fits low stand are) = by_pace m.config heard m.state t many (paced m.config heard m.state t turn) first fits low stand
 
   -- So it stays over a step.
   fresh_step : ((view : View) → is_listed a.durable chunk ≡ false → view_at a chunk ≡ Some view → length (settled_edits a chunk) ≤ length (edits_of a (copied_from old.sent chunk))) → (later : View) → is_listed b.durable chunk ≡ false → view_at b chunk ≡ Some later
@@ -318,10 +366,10 @@ module _ (sizes : HaveSizes) (law : AreNumbered) {D : Type 0} (x : Setup D) wher
   abbrev AreFresh : History D → Account → Type 0
   AreFresh now a = (chunk : ℕ) (view : View) → is_listed a.durable chunk ≡ false → view_at a chunk ≡ Some view → length (settled_edits a chunk) ≤ length (edits_of a (copied_from now.sent chunk))
 
-  fresh_over : x.fails ≡ false → (steps : List Step) (old new : History D) (a b : Account) → IsReached x old a → Runs x steps old a new b → AreFresh old a → AreFresh new b
-  fresh_over quiet [] old new a b r runs fresh = subst (λ h. AreFresh h b) (sym runs.0) (subst (AreFresh old) (sym runs.1) fresh)
-  fresh_over quiet (step ∷ steps) old new a b r (mid, c, one, rest) fresh =
-      fresh_over quiet steps mid new c b (reach_more x old mid a c (step ∷ []) r (mid, c, one, (refl, refl))) rest (λ chunk later out told. fresh_step sizes law x quiet step old mid a c r one chunk (λ view was there. fresh chunk view was there) later out told)
+  fresh_over : (steps : List Step) (old new : History D) (a b : Account) → IsReached x old a → Runs x steps old a new b → AreFresh old a → AreFresh new b
+  fresh_over [] old new a b r runs fresh = subst (λ h. AreFresh h b) (sym runs.0) (subst (AreFresh old) (sym runs.1) fresh)
+  fresh_over (step ∷ steps) old new a b r (mid, c, one, rest) fresh =
+      fresh_over steps mid new c b (reach_more x old mid a c (step ∷ []) r (mid, c, one, (refl, refl))) rest (λ chunk later out told. fresh_step sizes law x step old mid a c r one chunk (λ view was there. fresh chunk view was there) later out told)
 
   -- in a new store no view is told
   fresh_first : (begun : History D) (a : Account) → IsNew x begun a → AreFresh begun a
@@ -330,8 +378,8 @@ module _ (sizes : HaveSizes) (law : AreNumbered) {D : Type 0} (x : Setup D) wher
       from_start : a.durable ≡ start
       from_start = opens_as_start x.seen begun.nodes.master a.durable (begins_told x.seen x.failures x.armed x.config x.clients x.disks begun new.given.new new.begins) new.told
 
-  fresh_there : x.fails ≡ false → (now : History D) (a : Account) → IsReached x now a → AreFresh now a
-  fresh_there quiet now a r = fresh_over quiet r.steps r.begun now r.first a (reached_first r) r.runs (fresh_first r.begun r.first r.begins)
+  fresh_there : (now : History D) (a : Account) → IsReached x now a → AreFresh now a
+  fresh_there now a r = fresh_over r.steps r.begun now r.first a (reached_first r) r.runs (fresh_first r.begun r.first r.begins)
     where
       reached_first : IsReached x now a → IsReached x r.begun r.first
       reached_first k = record { apart = r.apart; begun = r.begun; first = r.first; steps = []; begins = r.begins; runs = (refl, refl) }
@@ -345,13 +393,13 @@ module _ (sizes : HaveSizes) (law : AreNumbered) {D : Type 0} (x : Setup D) wher
       by_copied (Some (source, at)) is few = just_these (settled_edits a chunk) (a.list source at) (copies_inherit sizes law x now now a a [] chunk source at view r is (refl, refl) told) few
 
   pub new_as_made : NewAreAsMade x
-  new_as_made quiet now a chunk view r out told = just_made now a chunk view r told (fresh_there quiet now a r chunk view out told)
+  new_as_made now a chunk view r out told = just_made now a chunk view r told (fresh_there now a r chunk view out told)
 
   pub added_as_made : AddedAreAsMade x
-  added_as_made quiet old new a b step chunk r moves goes_on out listed =
-      let there = view_there (fin.get b.durable.chunks chunk) ((kept_behind sizes law x quiet step old new a b r moves).settled chunk listed) in
+  added_as_made old new a b step chunk r moves goes_on out listed =
+      let there = view_there (fin.get b.durable.chunks chunk) ((kept_behind sizes law x step old new a b r moves).settled chunk listed) in
       let reached = reach_more x old new a b (step ∷ []) r (new, b, moves, (refl, refl)) in
-      let short = fresh_list sizes law x quiet step old new a b r moves chunk there.0 there.1 goes_on out (λ view told. fresh_there quiet old a r chunk view out told) in
+      let short = fresh_list sizes law x step old new a b r moves chunk there.0 there.1 goes_on out (λ view told. fresh_there old a r chunk view out told) in
       by_view there.0 there.1 (just_made new b chunk there.0 reached there.1 short) (view_at a chunk) refl
     where
       view_there : (o : Option Settled) → is_some o ≡ true → (view : View) × (view_in o ≡ Some view)
@@ -361,6 +409,6 @@ module _ (sizes : HaveSizes) (law : AreNumbered) {D : Type 0} (x : Setup D) wher
       by_view : (later : View) → view_at b chunk ≡ Some later → settled_edits b chunk ≡ edits_of b (copied_from new.sent chunk) → (o : Option View) → view_at a chunk ≡ o → settled_edits a chunk ++ newly_settled a b chunk ≡ edits_of b (copied_from new.sent chunk)
       by_view later told_then all None none = ap (λ es. es ++ drop (length es) (settled_edits b chunk)) (ap (settled_in a chunk) none) ∙ all
       by_view later told_then all (Some view) told =
-          let origin = origin_before sizes law x quiet step old new a b r moves chunk later told_then goes_on in
-          ap (λ es. settled_edits a chunk ++ es) (none_new sizes law x quiet step old new a b r moves chunk view told (unled_view sizes law x quiet step old new a b r moves chunk view told out) goes_on)
-          ∙ append-nil (settled_edits a chunk) ∙ new_as_made quiet old a chunk view r out told ∙ origin.1 ∙ sym (origin_then sizes law x quiet step old new a b r moves chunk later told_then goes_on)
+          let origin = origin_before sizes law x step old new a b r moves chunk later told_then goes_on in
+          ap (λ es. settled_edits a chunk ++ es) (none_new sizes law x step old new a b r moves chunk view told (unled_view sizes law x step old new a b r moves chunk view told out) goes_on)
+          ∙ append-nil (settled_edits a chunk) ∙ new_as_made old a chunk view r out told ∙ origin.1 ∙ sym (origin_then sizes law x step old new a b r moves chunk later told_then goes_on)

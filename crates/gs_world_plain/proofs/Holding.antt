@@ -1,5 +1,5 @@
 -- Calls hold the places that they copy in each world of a run.
-use Rattle.std.proofs.Common.{◌≡◌, false, List, refl, sym, subst}
+use Rattle.std.proofs.Common.{List, refl, sym, subst}
 use Rattle.gs_master_copies.proofs.Held.{none_held, turn_held}
 use Rattle.gs_master_copies.specs.Held.{AreHeld}
 use Rattle.gs_master_spec.specs.Durable.{start}
@@ -13,10 +13,11 @@ use Rattle.gs_world.specs.Lasting.{Lasts, OpensAs}
 use Rattle.gs_world.specs.Sent.{Sent}
 use Rattle.gs_world_chunks.specs.Accounts.{Account}
 use Rattle.gs_world_chunks.specs.Running.{IsArmed, IsGiven, IsReached, Setup}
-use Rattle.gs_world_laws.proofs.Keeping.{begins_keeping}
 use Rattle.gs_world_lift.proofs.Beginning.{begins_told}
 use Rattle.gs_world_lift.specs.Doing.{Arms, MasterDoes, Moves as MovesAt, Refuses, Starts, Waits}
-use Rattle.gs_world_plain.proofs.Unleased.{holds_over}
+use Rattle.gs_world_plain.proofs.Unleased.{left_over}
+use Rattle.gs_world_chunks.proofs.Well.{armed_left, begins_well, left_so}
+use Rattle.gs_world_lift.specs.Left.{Arranges, Cuts, Does, Keeps, MasterDoesAll, as_left}
 use Rattle.gs_world_plain.specs.Fresh.{PlacesAreHeld}
 
 module _ {D : Type 0} (x : Setup D) where
@@ -24,28 +25,37 @@ module _ {D : Type 0} (x : Setup D) where
   IsHeldAt (Standing m) = AreHeld m.state
   IsHeldAt place = Unit {0}
 
-  held_does : IsGiven x → (sent : Sent) (old new : MasterPlace D) (messages : List Message) → Lasts x.seen old → MasterDoes x.seen x.armed sent old new messages → IsHeldAt old → IsHeldAt new
-  held_does given sent old new messages lasts (MovesAt m after heard t at to was turn state sends) k =
+  armed_held : (place other : MasterPlace D) → IsArmed x.seen place other → IsHeldAt place → IsHeldAt other
+  armed_held (Standing m) other (j, to, alike) k = subst IsHeldAt (sym to) k
+  armed_held (Closed first second) other (one, two, to, same, alike) k = subst IsHeldAt (sym to) tt
+  armed_held Away other to k = subst IsHeldAt (sym to) tt
+
+  held_does : (sent : Sent) (old new : MasterPlace D) (messages : List Message) → Lasts x.seen old → MasterDoes x.seen (λ disk call place. place) sent old new messages → IsHeldAt old → IsHeldAt new
+  held_does sent old new messages lasts (MovesAt m after heard t at to was turn state sends) k =
       subst IsHeldAt (sym to) (subst AreHeld (sym state) (turn_held m.config heard m.state t turn (subst (Lasts x.seen) at lasts).firm.rolling (subst IsHeldAt at k)))
-  held_does given sent old new messages lasts (Starts config d log after t has kept counters to turn state sends) k =
+  held_does sent old new messages lasts (Starts config d log after t has kept counters to turn state sends) k =
       subst IsHeldAt (sym to) (subst AreHeld (sym state) (turn_held config _ (restarted d log) t turn (λ rolling. refl) (none_held (restarted d log) refl)))
-  held_does given sent old new messages lasts (Waits d first second has kept counters to told sends) k = subst IsHeldAt (sym to) tt
-  held_does given sent old new messages lasts (Refuses caller same sends) k = subst IsHeldAt (sym same) k
-  held_does given sent old new messages lasts (Arms disk call is sends) k = subst IsHeldAt (sym is) (armed_held old (x.armed disk call old) (given.armed disk call old) k)
-    where
-      armed_held : (place other : MasterPlace D) → IsArmed x.seen place other → IsHeldAt place → IsHeldAt other
-      armed_held (Standing m) other (j, to, alike) k = subst IsHeldAt (sym to) k
-      armed_held (Closed first second) other (one, two, to, same, alike) k = subst IsHeldAt (sym to) tt
-      armed_held Away other to k = subst IsHeldAt (sym to) tt
+  held_does sent old new messages lasts (Waits d first second has kept counters to told sends) k = subst IsHeldAt (sym to) tt
+  held_does sent old new messages lasts (Refuses caller same sends) k = subst IsHeldAt (sym same) k
+  held_does sent old new messages lasts (Arms disk call is sends) k = subst IsHeldAt (sym is) k
+
+  -- whatever disks of it fail
+  held_left : IsGiven x → (sent : Sent) (old new : MasterPlace D) (messages : List Message) → Lasts x.seen (as_left old) → MasterDoesAll x.seen x.armed sent old new messages → IsHeldAt (as_left old) → IsHeldAt (as_left new)
+  held_left given sent old new messages lasts (Does sound does) k = held_does sent (as_left old) (as_left new) messages lasts does k
+  held_left given sent old new messages lasts (Cuts m after heard caller t place many said d first second at there was turn cut least within stand to kept counters told) k = subst IsHeldAt (sym to) tt
+  held_left given sent old new messages lasts (Keeps m after heard caller at there failed still same was answers) k = subst IsHeldAt (sym same) k
+  held_left given sent old new messages lasts (Arranges disk call is none) k =
+      subst (λ p. IsHeldAt (as_left p)) (sym is) (armed_held (as_left old) (as_left (x.armed disk call old)) (armed_left x.seen old (x.armed disk call old) (given.armed disk call old)) k)
 
   held_first : (place : MasterPlace D) → OpensAs x.seen start place → IsHeldAt place
   held_first place (after, is, state, firm) = subst IsHeldAt (sym is) (subst AreHeld (sym state) (none_held (restarted start after.state.log) refl))
 
-  pub held_there : x.fails ≡ false → (now : History D) (a : Account) → IsReached x now a → IsHeldAt now.nodes.master
-  held_there quiet now a r =
+  held_there : (now : History D) (a : Account) → IsReached x now a → IsHeldAt (as_left now.nodes.master)
+  held_there now a r =
       let given = r.begins.given in
-      holds_over x quiet IsHeldAt given (held_does given) r.steps r.begun now r.first a r.runs (begins_firm x.seen x.failures x.armed x.config x.clients x.disks r.begun given.new r.begins.begins)
-      (begins_keeping x.seen x.failures x.armed x.config x.clients x.disks r.begun given.few r.begins.begins) (held_first r.begun.nodes.master (begins_told x.seen x.failures x.armed x.config x.clients x.disks r.begun given.new r.begins.begins))
+      left_over x IsHeldAt given (held_left given) r.steps r.begun now r.first a r.runs (begins_well x given r.begun r.begins.begins)
+      (subst IsHeldAt (sym (left_so x.seen r.begun.nodes.master (begins_firm x.seen x.failures x.armed x.config x.clients x.disks r.begun given.new r.begins.begins)))
+      (held_first r.begun.nodes.master (begins_told x.seen x.failures x.armed x.config x.clients x.disks r.begun given.new r.begins.begins)))
 
   pub places_held : PlacesAreHeld x
-  places_held quiet now a m r at = subst IsHeldAt at (held_there quiet now a r)
+  places_held now a m r at = subst IsHeldAt at (held_there now a r)

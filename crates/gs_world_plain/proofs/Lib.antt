@@ -21,6 +21,8 @@ mod Brought
 mod Unmade
 mod Peopled
 mod Told
+mod Cut
+mod Scans
 mod Copying
 mod Ends
 mod Back

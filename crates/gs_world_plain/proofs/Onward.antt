@@ -1,4 +1,4 @@
--- What is settled of a chunk at a step of a store.
+-- What is settled of a chunk at a step of a store, whatever disks of the master fail.
 use Rattle.std.proofs.Common.{◌≡◌, ◌∙◌, ◌≤◌, ◌<◌, ◌++◌, inl, inr, ℕ, zero, suc, true, false, List, [], ◌∷◌, length, drop, Option, Some, None, refl, sym, ap, subst, arith}
 use Rattle.std.specs.Prelude.{is_some}
 use Rattle.std.proofs.lemmas.Bool.{false≢true}
@@ -25,13 +25,15 @@ use Rattle.gs_world_chunks.proofs.Durables.{told_is_had}
 use Rattle.gs_world_chunks.proofs.Edits.{AreNumbered}
 use Rattle.gs_world_chunks.proofs.Intact.{told_same}
 use Rattle.gs_world_chunks.proofs.Runs.{has_told, keeps_told, living_told, seen_of}
-use Rattle.gs_world_chunks.proofs.Seeing.{SeesNext, each_sees_on, lives_on_sound, sees_step}
-use Rattle.gs_world_chunks.proofs.Told.{reached_sound}
+use Rattle.gs_world_chunks.proofs.Holding.{lives_on}
+use Rattle.gs_world_chunks.proofs.SeeingThrough.{SeesNextThrough, each_sees_on_through, reached_well, sees_step_through}
 use Rattle.gs_world_chunks.proofs.Viewing.{IsToldView, told_view}
 use Rattle.gs_world_chunks.specs.Accounts.{Account, settled_edits, settled_in, view_at}
 use Rattle.gs_world_chunks.specs.Joined.{IsSeen}
-use Rattle.gs_world_chunks.specs.Running.{IsGiven, IsReached, Moves, Setup, accounted}
-use Rattle.gs_world_chunks.specs.Seeing.{Sees, SeesBoth}
+use Rattle.gs_world_chunks.specs.Running.{IsGiven, IsReached, Moves, Setup}
+use Rattle.gs_world_chunks.specs.Seeing.{Sees}
+use Rattle.gs_world_chunks.specs.SeenThrough.{SeesBothThrough}
+use Rattle.gs_world_lift.specs.Left.{left_in}
 use Rattle.gs_world_lift.proofs.AskingRuns.{of_one_edit, pushes_right}
 use Rattle.gs_world_lift.specs.Doing.{HasDurable}
 use Rattle.gs_world_lift.specs.Going.{AllSent, heard_in}
@@ -63,9 +65,16 @@ view_of : (o : Option Settled) → is_some o ≡ true → (view : View) × (view
 view_of None some = absurd (false≢true some)
 view_of (Some y) some = (y.view, refl)
 
-module _ (sizes : HaveSizes) (law : AreNumbered) {D : Type 0} (x : Setup D) (quiet : x.fails ≡ false) (step : Step) (old new : History D) (a b : Account) (r : IsReached x old a) (moves : Moves x step old a new b) where
-  pub sees : SeesBoth x old a new b
-  sees = each_sees_on sizes law x quiet old new a b (step ∷ []) r (new, b, moves, (refl, refl))
+module _ (sizes : HaveSizes) (law : AreNumbered) {D : Type 0} (x : Setup D) (step : Step) (old new : History D) (a b : Account) (r : IsReached x old a) (moves : Moves x step old a new b) where
+  -- what is left of the master is all that is seen of it
+  abbrev pub O : History D
+  O = left_in old
+
+  abbrev pub N : History D
+  N = left_in new
+
+  pub sees : SeesBothThrough x old a new b
+  sees = each_sees_on_through sizes law x old new a b (step ∷ []) r (new, b, moves, (refl, refl))
 
   abbrev pub asked : ℕ → Asked
   asked = sees.asked
@@ -82,51 +91,51 @@ module _ (sizes : HaveSizes) (law : AreNumbered) {D : Type 0} (x : Setup D) (qui
   one_edit : AllSent (IsOfOneEdit asked) new.sent
   one_edit = of_one_edit asked new sees.are
 
-  pub next : SeesNext x asked given quiet law step old new a b sees.first
-  next = sees_step x asked given quiet law r.apart step old new a b sees.first (reached_sound x quiet old a r).types moves right one_edit
+  pub next : SeesNextThrough x asked given law step old new a b sees.first
+  next = sees_step_through x asked given law r.apart step old new a b sees.first (reached_well x old a r) moves right one_edit
 
-  abbrev pub behind : Sees x asked new b
+  abbrev pub behind : Sees x asked N b
   behind = record { lives = next.goes.last; tells = next.tells; agrees = next.agrees; intact = next.intact }
 
   pub kept_before : IsKept a.durable
-  kept_before = keeps_told x asked old a sees.first
+  kept_before = keeps_told x asked O a sees.first
 
   pub kept_behind : IsKept b.durable
-  kept_behind = keeps_told x asked new b behind
+  kept_behind = keeps_told x asked N b behind
 
-  pub had : HasDurable x.seen old.nodes.master a.durable
-  had = has_told x asked old a sees.first
+  pub had : HasDurable x.seen O.nodes.master a.durable
+  had = has_told x asked O a sees.first
 
-  pub has : HasDurable x.seen new.nodes.master b.durable
-  has = has_told x asked new b behind
+  pub has : HasDurable x.seen N.nodes.master b.durable
+  has = has_told x asked N b behind
 
   -- ---- a chunk of which a view is told before the step and behind it
 
   module _ (chunk : ℕ) (view later : View) (told : view_at a chunk ≡ Some view) (told_then : view_at b chunk ≡ Some later) where
-    pub living : (l : IsAlive x.seen x.config bytes chunk old) × (sees.first.lives.life chunk ≡ inr l)
-    living = living_told x asked old a sees.first chunk (row_of (fin.get a.durable.chunks chunk) view told)
+    pub living : (l : IsAlive x.seen x.config bytes chunk O) × (sees.first.lives.life chunk ≡ inr l)
+    living = living_told x asked O a sees.first chunk (row_of (fin.get a.durable.chunks chunk) view told)
 
-    abbrev l : IsAlive x.seen x.config bytes chunk old
+    abbrev l : IsAlive x.seen x.config bytes chunk O
     l = living.0
 
-    pub lived : (m : IsAlive x.seen x.config bytes chunk new) × (next.goes.last.life chunk ≡ inr m)
-    lived = lives_on_sound x asked given quiet law step old new a b sees.first next chunk l living.1
+    pub lived : (m : IsAlive x.seen x.config bytes chunk N) × (next.goes.last.life chunk ≡ inr m)
+    lived = lives_on law x asked given step old new a b moves sees.first next chunk l living.1
 
-    abbrev m : IsAlive x.seen x.config bytes chunk new
+    abbrev m : IsAlive x.seen x.config bytes chunk N
     m = lived.0
 
     abbrev heard : Option ℕ
     heard = heard_in x.seen x.failures x.armed next.goes.kind
 
-    pub goes : LivesOn x.seen x.config bytes chunk step heard old new l m
-    goes = subst (λ life. GoesOn x.seen x.config bytes chunk step heard old new (inr l) life) lived.1
-        (subst (λ life. GoesOn x.seen x.config bytes chunk step heard old new life (next.goes.last.life chunk)) living.1 (next.goes.goes chunk))
+    pub goes : LivesOn x.seen x.config bytes chunk step heard O N l m
+    goes = subst (λ life. GoesOn x.seen x.config bytes chunk step heard O N (inr l) life) lived.1
+        (subst (λ life. GoesOn x.seen x.config bytes chunk step heard O N life (next.goes.last.life chunk)) living.1 (next.goes.goes chunk))
 
-    pub here : (seen : IsSeen x bytes chunk old a) × (seen.alive ≡ l)
-    here = seen_of x asked old a sees.first r.apart chunk l living.1
+    pub here : (seen : IsSeen x bytes chunk O a) × (seen.alive ≡ l)
+    here = seen_of x asked O a sees.first r.apart chunk l living.1
 
-    pub there : (seen : IsSeen x bytes chunk new b) × (seen.alive ≡ m)
-    there = seen_of x asked new b behind r.apart chunk m lived.1
+    pub there : (seen : IsSeen x bytes chunk N b) × (seen.alive ≡ m)
+    there = seen_of x asked N b behind r.apart chunk m lived.1
 
     abbrev w : ChunkWorld
     w = here.0.alive.world
@@ -134,8 +143,8 @@ module _ (sizes : HaveSizes) (law : AreNumbered) {D : Type 0} (x : Setup D) (qui
     abbrev v : ChunkWorld
     v = there.0.alive.world
 
-    goes_so : LivesOn x.seen x.config bytes chunk step heard old new here.0.alive there.0.alive
-    goes_so = subst (λ z. LivesOn x.seen x.config bytes chunk step heard old new z there.0.alive) (sym here.1) (subst (λ z. LivesOn x.seen x.config bytes chunk step heard old new l z) (sym there.1) goes)
+    goes_so : LivesOn x.seen x.config bytes chunk step heard O N here.0.alive there.0.alive
+    goes_so = subst (λ z. LivesOn x.seen x.config bytes chunk step heard O N z there.0.alive) (sym here.1) (subst (λ z. LivesOn x.seen x.config bytes chunk step heard O N l z) (sym there.1) goes)
 
     pub ok : WorldOk w
     ok = reached_world w here.0.alive.reached
@@ -144,10 +153,10 @@ module _ (sizes : HaveSizes) (law : AreNumbered) {D : Type 0} (x : Setup D) (qui
     okv = reached_world v there.0.alive.reached
 
     first : IsToldView a chunk w view
-    first = told_view x bytes chunk old a here.0 view told
+    first = told_view x bytes chunk O a here.0 view told
 
     last : IsToldView b chunk v later
-    last = told_view x bytes chunk new b there.0 later told_then
+    last = told_view x bytes chunk N b there.0 later told_then
 
     pub settled_first : settled_edits a chunk ≡ settled w
     settled_first = ap (settled_in a chunk) told ∙ first.settled
@@ -159,9 +168,9 @@ module _ (sizes : HaveSizes) (law : AreNumbered) {D : Type 0} (x : Setup D) (qui
     one_view : {p q : View} → Some p ≡ Some q → p ≡ q
     one_view is = cc
 
-    same_view : new.nodes.master ≡ old.nodes.master → v.known.view ≡ w.known.view
+    same_view : N.nodes.master ≡ O.nodes.master → v.known.view ≡ w.known.view
     same_view master =
-        let same = told_same x bytes chunk step old new a b (accounted x step old a new b moves) sees.first.lives sees.first.agrees.told next.goes.last master in
+        let same = told_same x bytes chunk step O N a b next.account sees.first.lives sees.first.agrees.told next.goes.last master in
         let views : view ≡ later = one_view (sym told ∙ ap (λ (d : Durable). view_in (fin.get d.chunks chunk)) same ∙ told_then) in
         (agrees v okv).view ∙ stamp_number v.entry.view.stamp w.entry.view.stamp (sym last.shows.stamp ∙ ap (λ (z : View). z.stamp) (sym views) ∙ first.shows.stamp) ∙ sym (agrees w ok).view
 
@@ -169,14 +178,14 @@ module _ (sizes : HaveSizes) (law : AreNumbered) {D : Type 0} (x : Setup D) (qui
     still same above = let most = (ok.known).viewtop in omega arith
 
     abbrev By : Type 0
-    By = GoesBy x.seen x.config bytes here.0.alive.reached.0.epoch chunk step old new w v
+    By = GoesBy x.seen x.config bytes here.0.alive.reached.0.epoch chunk step O N w v
 
     -- a view that is later than all that were proposed is that of a rollback which is committed
     beyond : rolls_back a.durable b.durable ≡ false → By → w.known.top < v.known.view → ⊥
     beyond goes_on (AtServer by) above = still (same_view by.master) above
     beyond goes_on (AtMaster by) above =
-        let before : by.before ≡ a.durable = told_is_had x.seen old.nodes.master a.durable by.before sees.first.lives.lasts sees.first.agrees.told by.had in
-        let later_on : by.behind ≡ b.durable = told_is_had x.seen new.nodes.master b.durable by.behind next.goes.last.lasts moves.told by.has in
+        let before : by.before ≡ a.durable = told_is_had x.seen O.nodes.master a.durable by.before sees.first.lives.lasts sees.first.agrees.told by.had in
+        let later_on : by.behind ≡ b.durable = told_is_had x.seen N.nodes.master b.durable by.behind next.goes.last.lasts next.account.told by.has in
         false≢true (sym goes_on ∙ ap (λ (d : Durable). rolls_back d b.durable) (sym before) ∙ ap (rolls_back by.before) (sym later_on) ∙ (by.rows.back above).0)
     beyond goes_on (Elsewhere same servers master node messages moment are posted) above = still (ap (λ (z : ChunkWorld). z.known.view) same) above
 

@@ -10,10 +10,10 @@ use Rattle.gs_world_plain.specs.Views.{plain_view}
 
 module _ {D : Type 0} (x : Setup D) where
   pub runs_plain : StepsArePlain x → RunsArePlain x
-  runs_plain plain quiet old new a b [] reached runs = record { commands = []; go = refl; leads = ap (λ (k : Account). Ok (plain_view x.config.chunk k)) (sym runs.1) }
-  runs_plain plain quiet old new a b (step ∷ steps) reached (mid, c, one, rest) =
-      let first = plain quiet old mid a c step reached one in
-      let more = runs_plain plain quiet mid new c b steps (reach_more x old mid a c (step ∷ []) reached (mid, c, one, (refl, refl))) rest in
+  runs_plain plain old new a b [] reached runs = record { commands = []; go = refl; leads = ap (λ (k : Account). Ok (plain_view x.config.chunk k)) (sym runs.1) }
+  runs_plain plain old new a b (step ∷ steps) reached (mid, c, one, rest) =
+      let first = plain old mid a c step reached one in
+      let more = runs_plain plain mid new c b steps (reach_more x old mid a c (step ∷ []) reached (mid, c, one, (refl, refl))) rest in
       record {
         commands = first.commands ++ more.commands;
         go = (first, more.commands, refl, more.go);

@@ -1,6 +1,6 @@
 -- Which records a turn of the master has: those of an upgrade that stands or doesn't, or the one by which it begins or ends.
-use Rattle.std.proofs.Common.{◌≡◌, ◌∙◌, inl, inr, ◌⊎◌, ◌&&◌, ◌||◌, ℕ, Bool, true, false, List, [], ◌∷◌, refl, ap, sym, subst}
-use Rattle.std.specs.Prelude.{◌==◌, is_some, option_and_then, Option, Some, None}
+use Rattle.std.proofs.Common.{◌≡◌, ◌∙◌, inl, inr, ◌⊎◌, ◌&&◌, ◌||◌, ℕ, zero, suc, Bool, true, false, List, [], ◌∷◌, refl, ap, sym, subst}
+use Rattle.std.specs.Prelude.{◌==◌, is_some, option_and_then, take, Option, Some, None}
 use Rattle.std.specs.FinMap as fin
 use Rattle.std.specs.List.{AllByRecursion, list_all}
 use Rattle.std.proofs.lemmas.Bool.{and_parts, false≢true}
@@ -74,6 +74,12 @@ all_within d next [] within is = refl
 all_within d next (entry ∷ records) within is =
     let first = then_replays d next entry records is in
     ap (λ b. b && list_all is_within records) (within_so d entry within.0) ∙ all_within first.0 next records (within.1 first.0 first.1) first.2
+
+-- so it is of the first of them
+pub go_taken : (d : Durable) (records : List PlainEntry) (many : ℕ) → GoWithin d records → GoWithin d (take many records)
+go_taken d records zero within = tt
+go_taken d [] (suc many) within = tt
+go_taken d (entry ∷ records) (suc many) within = (within.0, λ next is. go_taken next records many (within.1 next is))
 
 pub all_keep_texts : (t : Telling) (d : Durable) (records : List PlainEntry) → GoWithin d records → AllByRecursion (KeepsTexts t) records → KeepTexts records t d
 all_keep_texts t d [] within keep = tt

@@ -44,7 +44,7 @@ alone_where_shared_stay names more kept none chunk p q index place some here the
     by_tests false path c at = shared (λ both. absurd (false≢true (sym path ∙ ap (same_path q) (sym both.0) ∙ same_itself q)))
     by_tests true path false at = shared (λ both. absurd (false≢true (sym at ∙ ap (λ n. place == n) (sym both.1) ∙ itself place)))
 
-module _ (sizes : HaveSizes) (law : AreNumbered) {D : Type 0} (x : Setup D) (quiet : x.fails ≡ false) (step : Step) (old new : History D) (a b : Account) (r : IsReached x old a) (moves : Moves x step old a new b) where
+module _ (sizes : HaveSizes) (law : AreNumbered) {D : Type 0} (x : Setup D) (step : Step) (old new : History D) (a b : Account) (r : IsReached x old a) (moves : Moves x step old a new b) where
   view_there : (o : Option Settled) → is_some o ≡ true → (y : Settled) × (o ≡ Some y)
   view_there None some = absurd (false≢true some)
   view_there (Some y) some = (y, refl)
@@ -52,10 +52,10 @@ module _ (sizes : HaveSizes) (law : AreNumbered) {D : Type 0} (x : Setup D) (qui
   -- a chunk that is shared has nothing more
   pub none_of_shared : rolls_back a.durable b.durable ≡ false → (chunk : ℕ) → is_some (fin.get a.durable.names.refs chunk) ≡ true → is_shared a.durable.names chunk ≡ true → newly_settled a b chunk ≡ []
   none_of_shared goes_on chunk listed more =
-      let kept = kept_before sizes law x quiet step old new a b r moves in
+      let kept = kept_before sizes law x step old new a b r moves in
       let row = view_there (fin.get a.durable.chunks chunk) (kept.settled chunk listed) in
-      let none : HasNoTerm a.durable chunk = no_lease_where_shared x chunk quiet old a r (had sizes law x quiet step old new a b r moves) more in
-      none_new sizes law x quiet step old new a b r moves chunk row.0.view (ap view_in row.1) (none.term row.0 row.1) goes_on
+      let none : HasNoTerm a.durable chunk = no_lease_where_shared x chunk old a r (had sizes law x step old new a b r moves) more in
+      none_new sizes law x step old new a b r moves chunk row.0.view (ap view_in row.1) (none.term row.0 row.1) goes_on
 
   pub alone_within : rolls_back a.durable b.durable ≡ false → AreAlone a.durable.names (newly_settled a b)
-  alone_within goes_on = alone_where_shared_stay a.durable.names (newly_settled a b) (kept_before sizes law x quiet step old new a b r moves).names (none_of_shared goes_on)
+  alone_within goes_on = alone_where_shared_stay a.durable.names (newly_settled a b) (kept_before sizes law x step old new a b r moves).names (none_of_shared goes_on)

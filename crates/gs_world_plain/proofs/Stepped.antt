@@ -1,8 +1,8 @@
 -- Each step of a run is commands of the plain machine, where chunks that are put into files have their texts.
-use Rattle.std.proofs.Common.{◌≡◌, ◌∙◌, ◌++◌, inl, inr, ℕ, zero, suc, Bool, true, false, List, [], ◌∷◌, append-nil, take, refl, sym, ap, subst}
+use Rattle.std.proofs.Common.{◌≡◌, ◌∙◌, ◌++◌, ◌≤◌, inl, inr, ℕ, zero, suc, Bool, true, false, List, [], ◌∷◌, append-nil, length, map, take, refl, sym, ap, subst}
 use Rattle.std.specs.Prelude.{None, is_some, Option, Some, if◌then◌else◌}
 use Rattle.std.specs.FinMap as fin
-use Rattle.std.specs.List.{AllByRecursion}
+use Rattle.std.specs.List.{AllByRecursion, list_all}
 use Rattle.std.proofs.lemmas.Bool.{and_parts, false≢true}
 use Rattle.gs_journal.specs.declared.version.Version.TheVariants.{Two}
 use Rattle.gs_master_laws.specs.Promises.{IsKept}
@@ -20,7 +20,7 @@ use Rattle.gs_master_plain.proofs.Places.{all_weaker}
 use Rattle.gs_master_plain.specs.OnePlace.{standing_at}
 use Rattle.gs_master_plain.specs.Records.{KeepsTexts, kept_in}
 use Rattle.gs_master_plain.specs.Places.{AreAlone, Place, places_in}
-use Rattle.gs_master_record.specs.Plain.{AddChunk, Cow, Edited, PlainEdit, Finalize, PlainEntry, Prepare, RollbackCommit}
+use Rattle.gs_master_record.specs.Plain.{AddChunk, Cow, Edited, PlainEdit, Finalize, Forget, Holder, PlainEntry, Prepare, Remove, RollbackCommit}
 use Rattle.gs_master_record.specs.Writable.{IsEntry}
 use Rattle.gs_master_record.specs.declared.checkpoint.Phase.{Phase}
 use Rattle.gs_master_record.specs.declared.checkpoint.Phase.TheVariants.{Rolling}
@@ -29,25 +29,30 @@ use Rattle.gs_master_spec.specs.Applied.{applied, replayed}
 use Rattle.gs_master_spec.specs.Durable.{Durable, is_listed, is_ordinary, is_rolling}
 use Rattle.gs_master_spec.specs.State.{State, Turn}
 use Rattle.gs_master_spec.specs.Undoing.{all_undone}
-use Rattle.gs_master_upgrade.proofs.Records.{Goes, Paced, Turns as Bounds, chain_within, is_bound, paced, turn_fits}
+use Rattle.gs_master_upgrade.proofs.Records.{Goes, Paced, Turns as Bounds, chain_within, is_bound, paced}
 use Rattle.gs_world.proofs.Reaching.{HaveSizes}
 use Rattle.gs_world.specs.Histories.{History}
 use Rattle.gs_world.specs.Runs.{Step}
 use Rattle.gs_world_chunks.proofs.Edits.{AreNumbered}
-use Rattle.gs_world_chunks.proofs.Told.{named, reached_sound}
+use Rattle.gs_world_chunks.proofs.SeeingThrough.{reached_well}
 use Rattle.gs_world_chunks.specs.Accounts.{Account, edits_in, settled_edits, text_of, view_at}
 use Rattle.gs_world_chunks.specs.Back.{EachIsOfAPrepare, GivesNoOtherBack, GivesSettledBack}
 use Rattle.gs_world_chunks.specs.Running.{IsReached, Moves, Setup}
 use Rattle.gs_world_chunks.specs.Upgrading.{IsUpgrading}
-use Rattle.gs_world_lift.specs.Doing.{HasDurable}
 use Rattle.gs_world_plain.proofs.Committed.{alone_back, before_is_settled, settled_is_before}
 use Rattle.gs_master_copies.proofs.Counted.{is_listed_there}
 use Rattle.gs_world_plain.proofs.Ends.{commit_ends, finalize_ends_as, prepare_ends, within_ends}
 use Rattle.gs_world_plain.proofs.Ending.{commits_lead, committed_is, committed_names, finalizes_lead, growing_lead, prepared_is, prepares_lead}
 use Rattle.gs_world_plain.proofs.Onward.{grows, had, has, kept_before, kept_behind, none_new}
-use Rattle.gs_world_plain.proofs.Shapes.{all_keep_texts, all_within, commit_is_back, finalize_ends, none_begins, none_is_back, prepare_begins, same_phase_over, then_replays}
+use Rattle.gs_world_plain.proofs.Shapes.{all_keep_texts, all_within, commit_is_back, finalize_ends, go_taken, none_begins, none_is_back, prepare_begins, same_phase_over, then_replays}
 use Rattle.gs_world_plain.proofs.Shared.{alone_within}
-use Rattle.gs_world_plain.proofs.Writing.{Keeps, Turns, Writes, has_one, writes}
+use Rattle.gs_world_plain.proofs.Writing.{Keeps, Turns, Writes, writes}
+use Rattle.gs_world_plain.proofs.Cut.{CutLeaves, Leads, Scanned, cut_leaves, taken, taken_of}
+use Rattle.gs_world_plain.proofs.Scans.{OfScan, of_scan}
+use Rattle.gs_world_lift.proofs.CutRows.{is_silent}
+use Rattle.gs_world_lift.specs.Left.{as_left}
+use Rattle.gs_master_spec.specs.Settling.{own_request}
+use Rattle.gs_master_spec.specs.Working.{scan_edits}
 use Rattle.gs_base.specs.declared.numbers.ReqId.{ReqId}
 use Rattle.gs_master.specs.Masters.{MasterOf}
 use Rattle.gs_nodes.specs.declared.place.MasterPlace.TheVariants.{Standing}
@@ -85,15 +90,15 @@ durable_is h = cc
 one_applies : (d next : Durable) (entry : PlainEntry) → replayed d (entry ∷ []) ≡ Some next → applied d entry ≡ Some next
 one_applies d next entry is = let first = then_replays d next entry [] is in first.1 ∙ first.2
 
-module _ (sizes : HaveSizes) (law : AreNumbered) {D : Type 0} (x : Setup D) (quiet : x.fails ≡ false) (of_prepare : EachIsOfAPrepare x) (settled_back : GivesSettledBack x) (no_other : GivesNoOtherBack x) (step : Step) (old new : History D) (a b : Account) (r : IsReached x old a) (moves : Moves x step old a new b) (were_told : PutWereTold x) where
+module _ (sizes : HaveSizes) (law : AreNumbered) {D : Type 0} (x : Setup D) (of_prepare : EachIsOfAPrepare x) (settled_back : GivesSettledBack x) (no_other : GivesNoOtherBack x) (step : Step) (old new : History D) (a b : Account) (r : IsReached x old a) (moves : Moves x step old a new b) (were_told : PutWereTold x) where
   abbrev size : ℕ
   size = x.config.chunk
 
   first_kept : IsKept a.durable
-  first_kept = kept_before sizes law x quiet step old new a b r moves
+  first_kept = kept_before sizes law x step old new a b r moves
 
   last_kept : IsKept b.durable
-  last_kept = kept_behind sizes law x quiet step old new a b r moves
+  last_kept = kept_behind sizes law x step old new a b r moves
 
   before_same : prepares a.durable b.durable ≡ false → b.before ≡ a.before
   before_same none = ap (λ (c : Account). c.before) moves.account ∙ ap (λ q. (λ (chunk : ℕ). if q then edits_in a chunk (view_at a chunk) else a.before chunk)) none
@@ -107,7 +112,7 @@ module _ (sizes : HaveSizes) (law : AreNumbered) {D : Type 0} (x : Setup D) (qui
     others = c.others;
     edits = c.edits;
     ends = ends;
-    grows = λ chunk goes_on listed. grows sizes law x quiet step old new a b r moves chunk listed goes_on;
+    grows = λ chunk goes_on listed. grows sizes law x step old new a b r moves chunk listed goes_on;
   }
 
   -- ---- within an epoch
@@ -123,7 +128,7 @@ module _ (sizes : HaveSizes) (law : AreNumbered) {D : Type 0} (x : Setup D) (qui
   added_text : rolls_back a.durable b.durable ≡ false → (chunk : ℕ) → copied_from old.sent chunk ≡ None → is_listed a.durable chunk ≡ false → is_listed b.durable chunk ≡ true → HasNoText chunk
   added_text goes_on chunk none out listed =
       let there = view_of (fin.get b.durable.chunks chunk) (last_kept.settled chunk listed) in
-      ap (text_of size) (added_as_made sizes law x quiet old new a b step chunk r moves goes_on out listed ∙ same_made sizes law x quiet step old new a b r moves chunk there.0 there.1 goes_on ∙ ap (edits_of a) none) ∙ no_edits_no_text
+      ap (text_of size) (added_as_made sizes law x old new a b step chunk r moves goes_on out listed ∙ same_made sizes law x step old new a b r moves chunk there.0 there.1 goes_on ∙ ap (edits_of a) none) ∙ no_edits_no_text
 
   -- one that takes the place of another has the text of that
   abbrev HasTextOf : Option Place → ℕ → Type 0
@@ -155,11 +160,11 @@ module _ (sizes : HaveSizes) (law : AreNumbered) {D : Type 0} (x : Setup D) (qui
       let leads : AreCommandsOf size a b records = growing_lead size a b records (record {
         stands = first_kept;
         within = all;
-        alone = alone_within sizes law x quiet step old new a b r moves goes_on;
+        alone = alone_within sizes law x step old new a b r moves goes_on;
         written = written;
         keep = all_keep_texts (texts_between size a b) a.durable records go (keep_texts records (puts goes_on));
         replays = replays;
-        grows = of_places b last_kept (λ chunk. settled_edits a chunk ++ newly_settled a b chunk ≡ settled_edits b chunk) (λ chunk listed. grows sizes law x quiet step old new a b r moves chunk listed goes_on);
+        grows = of_places b last_kept (λ chunk. settled_edits a chunk ++ newly_settled a b chunk ≡ settled_edits b chunk) (λ chunk listed. grows sizes law x step old new a b r moves chunk listed goes_on);
         before = before_same (none_begins a.durable b.durable phase);
       }) in
       plain_by many replays leads (within_ends size a b leads.commands phase records all leads.others)
@@ -174,10 +179,10 @@ module _ (sizes : HaveSizes) (law : AreNumbered) {D : Type 0} (x : Setup D) (qui
       let begins = prepare_begins a.durable b.durable epoch moment chunks applies in
       let up : IsUpgrading x new b new b = record { old = old; first = a; reached = r; step = step; moves = moves; accepted = begins.0; steps = []; runs = (refl, refl) } in
       let listed_then : (chunk : ℕ) → is_listed a.durable chunk ≡ true → is_listed b.durable chunk ≡ true = λ chunk listed. ap (λ names. is_some (fin.get names.refs chunk)) begins.2 ∙ listed in
-      prepares_lead size a b epoch moment chunks (ends_by (Prepare epoch moment chunks) (alone_within sizes law x quiet step old new a b r moves begins.1) written applies)
-      (of_places b last_kept (λ chunk. settled_edits a chunk ++ newly_settled a b chunk ≡ settled_edits b chunk) (λ chunk listed. grows sizes law x quiet step old new a b r moves chunk listed begins.1))
+      prepares_lead size a b epoch moment chunks (ends_by (Prepare epoch moment chunks) (alone_within sizes law x step old new a b r moves begins.1) written applies)
+      (of_places b last_kept (λ chunk. settled_edits a chunk ++ newly_settled a b chunk ≡ settled_edits b chunk) (λ chunk listed. grows sizes law x step old new a b r moves chunk listed begins.1))
       (of_places a first_kept (λ chunk. text_of size (settled_edits a chunk ++ newly_settled a b chunk) ≡ text_of size (b.before chunk))
-      (λ chunk listed. ap (text_of size) (grows sizes law x quiet step old new a b r moves chunk (listed_then chunk listed) begins.1 ∙ sym (before_is_settled sizes law x quiet new new b b up chunk (listed_then chunk listed) last_kept))))
+      (λ chunk listed. ap (text_of size) (grows sizes law x step old new a b r moves chunk (listed_then chunk listed) begins.1 ∙ sym (before_is_settled sizes law x new new b b up chunk (listed_then chunk listed) last_kept))))
 
   -- right behind it the tree that stands is kept
   kept_then : (epoch moment chunks : ℕ) → applied a.durable (Prepare epoch moment chunks) ≡ Some b.durable → (plain_view size b).kept ≡ Some (plain_view size b).tree
@@ -187,19 +192,19 @@ module _ (sizes : HaveSizes) (law : AreNumbered) {D : Type 0} (x : Setup D) (qui
       prepared_is (texts_of size b).before a.durable b.durable epoch moment chunks applies ∙ ap (λ (names : NamesView). Some (mapped_rows (texts_of size b).before (fin.entries names.tree))) (sym begins.2)
       ∙ ap (λ (rows : Texts). Some rows)
       (same_rows (texts_of size b).before (texts_of size b).now (fin.entries b.durable.names.tree)
-      (of_places b last_kept (λ chunk. text_of size (b.before chunk) ≡ text_of size (settled_edits b chunk)) (λ chunk listed. ap (text_of size) (before_is_settled sizes law x quiet new new b b up chunk listed last_kept))))
+      (of_places b last_kept (λ chunk. text_of size (b.before chunk) ≡ text_of size (settled_edits b chunk)) (λ chunk listed. ap (text_of size) (before_is_settled sizes law x new new b b up chunk listed last_kept))))
 
   finalized : (epoch : ℕ) → IsEntry Two (Finalize epoch) → applied a.durable (Finalize epoch) ≡ Some b.durable → AreCommandsOf size a b (Finalize epoch ∷ [])
   finalized epoch written applies =
       let goes_on = finalize_ends a.durable b.durable epoch applies in
-      finalizes_lead size a b epoch (ends_by (Finalize epoch) (alone_within sizes law x quiet step old new a b r moves goes_on) written applies)
-      (of_places b last_kept (λ chunk. settled_edits a chunk ++ newly_settled a b chunk ≡ settled_edits b chunk) (λ chunk listed. grows sizes law x quiet step old new a b r moves chunk listed goes_on))
+      finalizes_lead size a b epoch (ends_by (Finalize epoch) (alone_within sizes law x step old new a b r moves goes_on) written applies)
+      (of_places b last_kept (λ chunk. settled_edits a chunk ++ newly_settled a b chunk ≡ settled_edits b chunk) (λ chunk listed. grows sizes law x step old new a b r moves chunk listed goes_on))
 
   rolled_back : (epoch : ℕ) (answers : List Answered) → IsEntry Two (RollbackCommit epoch answers) → applied a.durable (RollbackCommit epoch answers) ≡ Some b.durable → AreCommandsOf size a b (RollbackCommit epoch answers ∷ [])
   rolled_back epoch answers written applies =
       let committed = commit_is_back a.durable b.durable epoch answers first_kept applies in
-      commits_lead size a b epoch answers (ends_by (RollbackCommit epoch answers) (alone_back sizes law x quiet of_prepare settled_back no_other step old new a b r moves committed) written applies)
-      (of_places b last_kept (λ chunk. text_of size (a.before chunk) ≡ text_of size (settled_edits b chunk)) (λ chunk listed. ap (text_of size) (settled_is_before sizes law x quiet of_prepare settled_back no_other step old new a b r moves committed chunk listed)))
+      commits_lead size a b epoch answers (ends_by (RollbackCommit epoch answers) (alone_back sizes law x of_prepare settled_back no_other step old new a b r moves committed) written applies)
+      (of_places b last_kept (λ chunk. text_of size (a.before chunk) ≡ text_of size (settled_edits b chunk)) (λ chunk listed. ap (text_of size) (settled_is_before sizes law x of_prepare settled_back no_other step old new a b r moves committed chunk listed)))
 
   -- what was kept stands behind it
   restored_then : (epoch : ℕ) (answers : List Answered) → applied a.durable (RollbackCommit epoch answers) ≡ Some b.durable → (kept : Texts) × ((plain_view size a).kept ≡ Some kept) × (plain_view size b ≡ restored (plain_view size a) kept)
@@ -220,7 +225,7 @@ module _ (sizes : HaveSizes) (law : AreNumbered) {D : Type 0} (x : Setup D) (qui
       stands =
           same_rows (texts_of size b).now (texts_of size a).before (fin.entries b.durable.names.tree)
           (of_places b last_kept (λ chunk. text_of size (settled_edits b chunk) ≡ text_of size (a.before chunk))
-          (λ chunk listed. ap (text_of size) (sym (settled_is_before sizes law x quiet of_prepare settled_back no_other step old new a b r moves committed chunk listed))))
+          (λ chunk listed. ap (text_of size) (sym (settled_is_before sizes law x of_prepare settled_back no_other step old new a b r moves committed chunk listed))))
           ∙ ap (λ (n : NamesView). mapped_rows (texts_of size a).before (fin.entries n.tree)) (committed_names a.durable b.durable epoch answers names first_kept.back.1 applies)
 
       none : (plain_view size b).kept ≡ None
@@ -233,26 +238,42 @@ module _ (sizes : HaveSizes) (law : AreNumbered) {D : Type 0} (x : Setup D) (qui
       let by_records = subst (λ records. (c : AreCommandsOf size a b records) × EndsAs size a b c.commands) is (leads (one_applies a.durable b.durable entry replays)) in
       plain_by many (ap (replayed a.durable) (sym is) ∙ replays) by_records.0 by_records.1
 
-  by_move : (many : ℕ) (config : _) (s : State) (move : Move) → is_bound move ≡ true → (move_turn config s move).records ≡ take many (records_at step old) → AllByRecursion (IsEntry Two) (move_turn config s move).records → replayed a.durable (move_turn config s move).records ≡ Some b.durable → IsPlainStep size step old a b
-  by_move many config s (Prepares req moment) bound is written replays = by_one many _ is replays (λ applies. (let c = prepared _ _ _ written.0 applies in (c, prepare_ends size a b c.commands _ _ _ applies c.others (kept_then _ _ _ applies))))
-  by_move many config s (Finalizes req) bound is written replays = by_one many _ is replays (λ applies. (let c = finalized _ written.0 applies in (c, finalize_ends_as size a b c.commands _ applies)))
-  by_move many config s (CommitsRollback req names) bound is written replays = by_one many _ is replays (λ applies. (let c = rolled_back _ _ written.0 applies in (c, commit_ends size a b c.commands _ _ first_kept applies c.others (restored_then _ _ applies))))
-  by_move many config s move bound is written replays = absurd (false≢true bound)
+  -- nothing stands
+  none_stands : a.durable ≡ b.durable → IsPlainStep size step old a b
+  none_stands same = within 0 (λ goes_on. tt) tt tt (ap Some same)
 
-  by_pace : (many : ℕ) (config : _) (heard : Heard) (s : State) (t : Turn) → PutTexts t.records → Paced config heard s t → s.durable ≡ a.durable → t.records ≡ take many (records_at step old) → AllByRecursion (IsEntry Two) t.records → replayed a.durable t.records ≡ Some b.durable → IsPlainStep size step old a b
-  by_pace many config heard s t puts (Goes u v chain) first is written replays =
-      within many (subst PutTexts is puts) (subst (AllByRecursion (IsEntry Two)) is written) (subst (GoWithin a.durable) is (subst (λ d. GoWithin d v.records) first (chain_within config heard u v chain written).0)) (ap (replayed a.durable) (sym is) ∙ replays)
-  by_pace many config heard s t puts (Bounds u move said made bound) first is written replays = by_move many config u move bound is written replays
+  -- so many records stand of one
+  one_or_none : (many all : ℕ) (entry : PlainEntry) → entry ∷ [] ≡ take all (records_at step old) → replayed a.durable (take many (entry ∷ [])) ≡ Some b.durable → (applied a.durable entry ≡ Some b.durable → (c : AreCommandsOf size a b (entry ∷ [])) × EndsAs size a b c.commands) → IsPlainStep size step old a b
+  one_or_none zero all entry is stands leads = none_stands (durable_is stands)
+  one_or_none (suc zero) all entry is stands leads = by_one all entry is stands leads
+  one_or_none (suc (suc many)) all entry is stands leads = by_one all entry is stands leads
+
+  by_move : (many all : ℕ) (config : _) (s : State) (move : Move) → is_bound move ≡ true → (move_turn config s move).records ≡ take all (records_at step old) → AllByRecursion (IsEntry Two) (move_turn config s move).records → replayed a.durable (take many (move_turn config s move).records) ≡ Some b.durable → IsPlainStep size step old a b
+  by_move many all config s (Prepares req moment) bound is written stands =
+      one_or_none many all _ is stands (λ applies. (let c = prepared _ _ _ written.0 applies in (c, prepare_ends size a b c.commands _ _ _ applies c.others (kept_then _ _ _ applies))))
+  by_move many all config s (Finalizes req) bound is written stands = one_or_none many all _ is stands (λ applies. (let c = finalized _ written.0 applies in (c, finalize_ends_as size a b c.commands _ applies)))
+  by_move many all config s (CommitsRollback req names) bound is written stands =
+      one_or_none many all _ is stands (λ applies. (let c = rolled_back _ _ written.0 applies in (c, commit_ends size a b c.commands _ _ first_kept applies c.others (restored_then _ _ applies))))
+  by_move many all config s move bound is written stands = absurd (false≢true bound)
+
+  -- of a turn so many records stand
+  by_pace : (many all : ℕ) (config : _) (heard : Heard) (s : State) (t : Turn) → PutTexts (take many t.records) → Paced config heard s t → s.durable ≡ a.durable → t.records ≡ take all (records_at step old) → AllByRecursion (IsEntry Two) t.records → many ≤ length t.records
+      → replayed a.durable (take many t.records) ≡ Some b.durable → IsPlainStep size step old a b
+  by_pace many all config heard s t puts (Goes u v chain) first is written low stands =
+      let same : take many v.records ≡ take many (records_at step old) = taken_of many all v.records (records_at step old) is low in
+      within many (subst PutTexts same puts) (subst (AllByRecursion (IsEntry Two)) same (taken (IsEntry Two) many v.records written))
+      (subst (GoWithin a.durable) same (go_taken a.durable v.records many (subst (λ d. GoWithin d v.records) first (chain_within config heard u v chain written).0))) (ap (replayed a.durable) (sym same) ∙ stands)
+  by_pace many all config heard s t puts (Bounds u move said made bound) first is written low stands = by_move many all config u move bound is written stands
 
   -- ---- a copy that takes the place of a chunk
 
-  module _ (goes_on : rolls_back a.durable b.durable ≡ false) (m : MasterOf D) (stands : old.nodes.master ≡ Standing m) (same : m.state.durable ≡ a.durable) (place : Place) (chunk : ℕ) (listed : is_listed b.durable chunk ≡ true) where
+  module _ (goes_on : rolls_back a.durable b.durable ≡ false) (m : MasterOf D) (stands : as_left old.nodes.master ≡ Standing m) (same : m.state.durable ≡ a.durable) (place : Place) (chunk : ℕ) (listed : is_listed b.durable chunk ≡ true) where
     held : AreHeld m.state
-    held = places_held x quiet old a m r stands
+    held = places_held x old a m r stands
 
     -- it was waited for before the turn
     waited : is_copied old.sent chunk ≡ true → Waited m.state (Some place) chunk → WaitsIn m.state (for_copy place chunk)
-    waited copied (inl out) = absurd (false≢true (sym out ∙ copied_given old.sent m.state chunk (subst (MadeAt x old.sent) stands (made_there x quiet sizes old a r)) copied))
+    waited copied (inl out) = absurd (false≢true (sym out ∙ copied_given old.sent m.state chunk (subst (MadeAt x old.sent) stands (made_there x sizes old a r)) copied))
     waited copied (inr waits_so) = waits_so
 
     -- where it hasn't come, the chunk that is copied stands there
@@ -269,12 +290,12 @@ module _ (sizes : HaveSizes) (law : AreNumbered) {D : Type 0} (x : Setup D) (qui
     replaced_text out copied waits_so =
         let k = waits_still out (waited copied waits_so) in
         let from = some_copied (copied_from old.sent chunk) copied in
-        let told = told_of_place sizes law x quiet place chunk old a m from.0.0 from.0.1 r stands k from.1 in
-        let un = unled_in sizes law x quiet place chunk old a m r stands k in
+        let told = told_of_place sizes law x place chunk old a m from.0.0 from.0.1 r stands k from.1 in
+        let un = unled_in sizes law x place chunk old a m r stands k in
         let later = view_of (fin.get b.durable.chunks chunk) (last_kept.settled chunk listed) in
         ap (text_of size)
-        (added_as_made sizes law x quiet old new a b step chunk r moves goes_on out listed ∙ same_made sizes law x quiet step old new a b r moves chunk later.0 later.1 goes_on ∙ ap (edits_of a) from.1 ∙ ap (λ n. a.list n from.0.1) told.source_is
-        ∙ sym told.settled_is ∙ sym (append-nil (settled_edits a place.chunk)) ∙ ap (λ es. settled_edits a place.chunk ++ es) (sym (none_new sizes law x quiet step old new a b r moves place.chunk un.view un.told un.unled goes_on)))
+        (added_as_made sizes law x old new a b step chunk r moves goes_on out listed ∙ same_made sizes law x step old new a b r moves chunk later.0 later.1 goes_on ∙ ap (edits_of a) from.1 ∙ ap (λ n. a.list n from.0.1) told.source_is
+        ∙ sym told.settled_is ∙ sym (append-nil (settled_edits a place.chunk)) ∙ ap (λ es. settled_edits a place.chunk ++ es) (sym (none_new sizes law x step old new a b r moves place.chunk un.view un.told un.unled goes_on)))
 
   -- ---- what the master writes
 
@@ -305,50 +326,71 @@ module _ (sizes : HaveSizes) (law : AreNumbered) {D : Type 0} (x : Setup D) (qui
   take_told (suc many) [] all = tt
   take_told (suc many) (entry ∷ records) all = (all.0, take_told many records all.1)
 
-  same_there : Writes x.seen (records_at step old) old.nodes.master new.nodes.master → IsPlainStep size step old a b
-  same_there (Keeps f) =
-      let same = has_one x new.nodes.master a.durable b.durable (f a.durable (had sizes law x quiet step old new a b r moves)) (has sizes law x quiet step old new a b r moves) in
-      within 0 (λ goes_on. tt) tt tt (ap Some same)
-  same_there (Turns m after heard t at to turn written state many is) = by_pace many m.config heard m.state t puts (paced m.config heard m.state t turn) first is written replays
+  told_more : (xs ys : List PlainEntry) → AllByRecursion ToldPut (xs ++ ys) → AllByRecursion ToldPut xs
+  told_more [] ys all = tt
+  told_more (x ∷ xs) ys all = (all.0, told_more xs ys all.1)
+
+  -- records that tell who took an image put no chunk into a file, and those of a scan neither
+  silent_put : (P : Option Place → ℕ → Type 0) (records : List PlainEntry) → list_all is_silent records ≡ true → AllByRecursion (OfPut P) records
+  silent_put P [] silent = tt
+  silent_put P (entry ∷ records) silent = (let parts = and_parts (is_silent entry) (list_all is_silent records) silent in (by_entry entry parts.0, silent_put P records parts.1))
     where
-      first : m.state.durable ≡ a.durable
-      first = subst (λ p. HasDurable x.seen p a.durable) at (had sizes law x quiet step old new a b r moves)
+      by_entry : (entry : PlainEntry) → is_silent entry ≡ true → OfPut P entry
+      by_entry (Holder q server) silent = tt
+      by_entry entry silent = absurd (false≢true silent)
 
-      last : t.after.durable ≡ b.durable
-      last = sym (ap (λ (s : State). s.durable) state) ∙ subst (λ p. HasDurable x.seen p b.durable) to (has sizes law x quiet step old new a b r moves)
+  scan_put : (P : Option Place → ℕ → Type 0) (edits : List PlainEdit) → AllByRecursion OfScan edits → AllByRecursion (OfPut P) (map (Edited own_request) edits)
+  scan_put P [] of = tt
+  scan_put P (edit ∷ edits) of = (by_edit edit of.0, scan_put P edits of.1)
+    where
+      by_edit : (edit : PlainEdit) → OfScan edit → OfPut P (Edited own_request edit)
+      by_edit (Remove p) of = tt
+      by_edit (Forget chunks) of = tt
+      by_edit edit of = absurd of
 
-      replays : replayed a.durable t.records ≡ Some b.durable
-      replays = ap (λ d. replayed d t.records) (sym first) ∙ turn_fits m.config heard m.state t turn written ∙ ap Some last
+  both_put : (P : Option Place → ℕ → Type 0) (xs ys : List PlainEntry) → AllByRecursion (OfPut P) xs → AllByRecursion (OfPut P) ys → AllByRecursion (OfPut P) (xs ++ ys)
+  both_put P [] ys first more = more
+  both_put P (x ∷ xs) ys first more = (first.0, both_put P xs ys first.1 more)
 
+  -- what stands of a turn puts chunks with their texts
+  cut_puts : (m : MasterOf D) (heard : Heard) (records : List PlainEntry) → as_left old.nodes.master ≡ Standing m → m.state.durable ≡ a.durable → AllByRecursion ToldPut records → CutLeaves m.config heard m.state records b.durable → PutTexts records
+  cut_puts m heard records at first told (Leads t more turn are silent fits links) goes_on =
+      subst (AllByRecursion (OfPut HasTextOf)) (sym are)
+      (both_put HasTextOf t.records more
+      (put_texts m.state t.after (λ chunk o. added_text goes_on chunk (no_copy old.sent chunk o.0.0) (out chunk o.1.0) (in_file chunk o.1.1))
+      (λ place chunk was o. replaced_text goes_on m at first place chunk (in_file chunk o.1.1) (out chunk o.1.0) (was (last_kept.settled chunk (in_file chunk o.1.1))) o.0.1) t.records put (told_more t.records more (subst (AllByRecursion ToldPut) are told)))
+      (silent_put HasTextOf more silent))
+    where
       put : AllByRecursion (OfPut (Put m.state t.after)) t.records
-      put =
-          let well = once_stands m.config heard m.state t turn written (subst IsKept (sym first) first_kept) in
-          once_over m.config heard (AndWaited (ToldSo old.sent) m.state) m.state t well.turn (all_waited (ToldSo old.sent) m.state (subst (MadeAt x old.sent) at (made_there x quiet sizes old a r)))
+      put = once_over m.config heard (AndWaited (ToldSo old.sent) m.state) m.state t turn (all_waited (ToldSo old.sent) m.state (subst (MadeAt x old.sent) at (made_there x sizes old a r)))
 
       out : (chunk : ℕ) → is_listed m.state.durable chunk ≡ false → is_listed a.durable chunk ≡ false
       out chunk none = ap (λ (d : Durable). is_listed d chunk) (sym first) ∙ none
 
       in_file : (chunk : ℕ) → is_listed t.after.durable chunk ≡ true → is_listed b.durable chunk ≡ true
-      in_file chunk some = ap (λ (d : Durable). is_listed d chunk) (sym last) ∙ some
+      in_file chunk some = links.listed chunk ∙ some
+  cut_puts m heard records at first told (Scanned removed forgotten many well are fit) goes_on =
+      subst (AllByRecursion (OfPut HasTextOf)) (sym are) (taken (OfPut HasTextOf) many (map (Edited own_request) (scan_edits removed forgotten)) (scan_put HasTextOf (scan_edits removed forgotten) (of_scan removed forgotten)))
 
-      puts : PutTexts t.records
-      puts goes_on =
-          put_texts m.state t.after (λ chunk o. added_text goes_on chunk (no_copy old.sent chunk o.0.0) (out chunk o.1.0) (in_file chunk o.1.1))
-          (λ place chunk told o. replaced_text goes_on m at first place chunk (in_file chunk o.1.1) (out chunk o.1.0) (told (last_kept.settled chunk (in_file chunk o.1.1))) o.0.1) t.records put
-          (subst (AllByRecursion ToldPut) (sym is) (take_told many (records_at step old) (were_told old new a b step r moves)))
+  same_there : Writes (records_at step old) old.nodes.master a.durable b.durable → IsPlainStep size step old a b
+  same_there (Keeps same) = none_stands (sym same)
+  same_there (Turns m heard t many all at first turn written low stands are) =
+      let well = once_stands m.config heard m.state t turn written (subst IsKept (sym first) first_kept) in
+      let cut = cut_leaves m.config heard m.state t many b.durable well.turn low (ap (λ d. replayed d (take many t.records)) first ∙ stands) in
+      let told = subst (AllByRecursion ToldPut) (sym (taken_of many all t.records (records_at step old) are low)) (take_told many (records_at step old) (were_told old new a b step r moves)) in
+      by_pace many all m.config heard m.state t (cut_puts m heard (take many t.records) at first told cut) (paced m.config heard m.state t turn) first are written low stands
 
   pub step_plain : IsPlainStep size step old a b
   step_plain =
-      let sound = reached_sound x quiet old a r in
-      same_there (writes x r.begins.given step old new moves.steps.goes (named x step old moves.steps.within sound.types) sound.lasts (moves.steps.sound quiet))
+      same_there (writes x r.begins.given step old new a.durable b.durable (reached_well x old a r) moves.steps (had sizes law x step old new a b r moves) (has sizes law x step old new a b r moves))
 
 pub steps_plain : HaveSizes → AreNumbered → {D : Type 0} (x : Setup D) → EachIsOfAPrepare x → GivesSettledBack x → GivesNoOtherBack x → PutWereTold x → StepsArePlain x
-steps_plain sizes law x of_prepare settled_back no_other were_told quiet old new a b step r moves = step_plain sizes law x quiet of_prepare settled_back no_other step old new a b r moves were_told
+steps_plain sizes law x of_prepare settled_back no_other were_told old new a b step r moves = step_plain sizes law x of_prepare settled_back no_other step old new a b r moves were_told
 
 -- edits come to chunks at one place each
 pub edits_one_place : HaveSizes → AreNumbered → {D : Type 0} (x : Setup D) → EachIsOfAPrepare x → GivesSettledBack x → GivesNoOtherBack x → EditsOnePlace x
-edits_one_place sizes law x of_prepare settled_back no_other quiet old new a b step r moves = by_phase (rolls_back a.durable b.durable) refl
+edits_one_place sizes law x of_prepare settled_back no_other old new a b step r moves = by_phase (rolls_back a.durable b.durable) refl
   where
     by_phase : (back : Bool) → rolls_back a.durable b.durable ≡ back → AreAlone a.durable.names (newly_settled a b)
-    by_phase false goes_on = alone_within sizes law x quiet step old new a b r moves goes_on
-    by_phase true committed = alone_back sizes law x quiet of_prepare settled_back no_other step old new a b r moves committed
+    by_phase false goes_on = alone_within sizes law x step old new a b r moves goes_on
+    by_phase true committed = alone_back sizes law x of_prepare settled_back no_other step old new a b r moves committed

@@ -32,7 +32,7 @@ use Rattle.gs_master_moves.specs.Shared.{HasNoTerm}
 use Rattle.gs_master_record.specs.Plain.{Edited, Finalize, Holder, PlainEdit, PlainEntry, Prepare, Propose, RollbackBegin, RollbackCommit, Said, Settle, Whole}
 use Rattle.gs_master_record.specs.declared.checkpoint.Phase.TheVariants.{Ordinary, Rolling, Upgrade}
 use Rattle.gs_master_record.specs.declared.entry.Answered.{Answered}
-use Rattle.gs_master_spec.specs.Applied.{after_edit, after_undoing, applied, are_answers, are_at_rest, forgotten_by, held_by, is_next_epoch, may_be_settled, may_edit, may_propose, proposed, restored_chunk, restored_view, rolled_back, with_edit, with_epoch, with_reply, with_view, without_prepared}
+use Rattle.gs_master_spec.specs.Applied.{after_edit, after_undoing, applied, replayed, are_answers, are_at_rest, forgotten_by, held_by, is_next_epoch, may_be_settled, may_edit, may_propose, proposed, restored_chunk, restored_view, rolled_back, with_edit, with_epoch, with_reply, with_view, without_prepared}
 use Rattle.gs_master_spec.specs.Beginning.{begin_at, copy_plan, next_stamp}
 use Rattle.gs_master_spec.specs.Chunks.{holder_records, is_holder, target_of}
 use Rattle.gs_master_spec.specs.Durable.{Durable, Settled, is_listed, is_ordinary, is_rolling, is_upgrade, prepared_view, with_prepared}
@@ -116,6 +116,14 @@ module _ (chunk : ℕ) where
 
   record_unled : (d e : Durable) (entry : PlainEntry) → leaves_view chunk entry ≡ true → applied d entry ≡ Some e → IsUnledUnlisted d → IsUnledUnlisted e
   record_unled d e entry usual fit k out = record { term = λ y has. (let p = record_view chunk d e entry usual fit y has in let was = was_unlisted d e entry usual fit out (ap is_some has) in ap (λ (v : View). v.term) (sym p.2) ∙ (k was).term p.0 p.1) }
+
+  -- over such records
+  pub part_unled : (entries : List PlainEntry) (d e : Durable) → list_all (leaves_view chunk) entries ≡ true → replayed d entries ≡ Some e → IsUnledUnlisted d → IsUnledUnlisted e
+  part_unled entries d e usual fit k = over_records (λ d e. IsUnledUnlisted d → IsUnledUnlisted e) (λ d h. h) (λ d n e a b h. b (a h)) (leaves_view chunk) record_unled entries d e usual fit k
+
+  -- where rows and names are the same
+  pub linked_unled : (d e : Durable) → fin.get e.chunks chunk ≡ fin.get d.chunks chunk → e.names ≡ d.names → IsUnledUnlisted d → IsUnledUnlisted e
+  linked_unled d e row names = from_names d e (λ y has. (y, sym row ∙ has, refl)) names
 
   -- ---- moves
 
@@ -211,6 +219,9 @@ module _ (chunk : ℕ) where
 
   over_out : (d n e : Durable) → IsOutFrom d n → IsOutFrom n e → IsOutFrom d e
   over_out d n e a b out some = let later = b out some in a later.0 later.1
+
+  pub part_out : (entries : List PlainEntry) (d e : Durable) → list_all (leaves_view chunk) entries ≡ true → replayed d entries ≡ Some e → IsOutFrom d e
+  part_out entries d e usual fit = over_records IsOutFrom (λ d out some. (out, some)) over_out (leaves_view chunk) record_out entries d e usual fit
 
   module _ (config : Config) (heard : Heard) (s : State) where
     out_records : (move : Move) → IsMade config heard s move → list_all (leaves_view chunk) (move_turn config s move).records ≡ true → IsOutFrom s.durable (move_turn config s move).after.durable

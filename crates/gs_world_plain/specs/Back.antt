@@ -1,5 +1,5 @@
 -- An upgrade that is rolled back, in the words of the plain machine.
-use Rattle.std.specs.Prelude.{[], ◌++◌, ◌∷◌, ◌≡◌, List, Ok, Some, codes, false, filter_map, refl, true, ℕ}
+use Rattle.std.specs.Prelude.{[], ◌++◌, ◌∷◌, ◌≡◌, List, Ok, Some, codes, filter_map, refl, true, ℕ}
 use Rattle.std.specs.List.{list_all}
 use Rattle.gs_block.specs.Chunk.{written}
 use Rattle.gs_edit.specs.Machine.{Plain, first, restored}
@@ -38,9 +38,9 @@ module _ {D : Type 0} (x : Setup D) where
     pub gives : shown last ≡ restored (shown after) (shown before).tree
     pub others : filter_map but_edit (begins.commands ++ (within.commands ++ ends.commands)) ≡ Prepare ∷ filter_map but_edit within.commands ++ Rollback ∷ []
 
-  -- So it is of each rollback that is done in a run in which no disk fails, with the last prepare that was accepted before it.
+  -- So it is of each rollback that is done in a run, whatever disks of the master fail, with the last prepare that was accepted before it.
   abbrev pub RollbacksGoBackPlainly : Type 0
-  RollbacksGoBackPlainly = x.fails ≡ false → (prepared now back : History D) (before after last : Account) (rolled : HasRolledBack x prepared before now after back last) → GoesBackPlainly prepared before now after back last rolled
+  RollbacksGoBackPlainly = (prepared now back : History D) (before after last : Account) (rolled : HasRolledBack x prepared before now after back last) → GoesBackPlainly prepared before now after back last rolled
 
 -- ---- Worked, with chunks of 4 bytes: a file is made and written, an upgrade begins, the file is edited and moved, and all is as it was
 

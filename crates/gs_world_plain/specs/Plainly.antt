@@ -35,9 +35,9 @@ module _ {D : Type 0} (x : Setup D) where
   abbrev pub BeginsPlain : Type 0
   BeginsPlain = (begun : History D) (a : Account) → IsNew x begun a → plain_view x.config.chunk a ≡ first
 
-  -- each step of each run in which no disk fails is such;
+  -- each step of each run is such, whatever disks of the master fail at it, or have failed: of a turn that is cut those of its records stand that were written;
   abbrev pub StepsArePlain : Type 0
-  StepsArePlain = x.fails ≡ false → (old new : History D) (a b : Account) (step : Step) → IsReached x old a → Moves x step old a new b → IsPlainStep x.config.chunk step old a b
+  StepsArePlain = (old new : History D) (a b : Account) (step : Step) → IsReached x old a → Moves x step old a new b → IsPlainStep x.config.chunk step old a b
 
   -- and so a run is: at each of its steps commands by what it is, one after the other.
   abbrev pub ArePlainSteps : (steps : List Step) (old : History D) (a : Account) (new : History D) (b : Account) → Runs x steps old a new b → List Command → Type 0
@@ -51,13 +51,13 @@ module _ {D : Type 0} (x : Setup D) where
     pub leads : all_commanded x.config.chunk commands (plain_view x.config.chunk a) ≡ Ok (plain_view x.config.chunk b)
 
   abbrev pub RunsArePlain : Type 0
-  RunsArePlain = x.fails ≡ false → (old new : History D) (a b : Account) (steps : List Step) → IsReached x old a → (runs : Runs x steps old a new b) → IsPlainRun steps old a new b runs
+  RunsArePlain = (old new : History D) (a b : Account) (steps : List Step) → IsReached x old a → (runs : Runs x steps old a new b) → IsPlainRun steps old a new b runs
 
   -- ---- what it rests on
 
   -- An edit is settled only of a chunk that stands at one place: no other text changes with it.
   abbrev pub EditsOnePlace : Type 0
-  EditsOnePlace = x.fails ≡ false → (old new : History D) (a b : Account) (step : Step) → IsReached x old a → Moves x step old a new b → AreAlone a.durable.names (newly_settled a b)
+  EditsOnePlace = (old new : History D) (a b : Account) (step : Step) → IsReached x old a → Moves x step old a new b → AreAlone a.durable.names (newly_settled a b)
 
 -- ---- Worked: no steps are no commands
 no_steps : {D : Type 0} (x : Setup D) (old : History D) (a : Account) → IsPlainRun x [] old a old a (refl, refl)

@@ -1,6 +1,6 @@
-//! A run of a store in which no disk fails, all that is asked is within its types, and different blocks have different digests, is a run of the plain machine: what a store shows is a tree of texts, those that are settled
-//! by the account of the run, and while an upgrade stands the tree of its prepare; each step is commands that lead from what was shown to what is. So an upgrade that is rolled back leads back to what was shown right
-//! behind its prepare, and replicas of members have those texts.
+//! A run of a store, whatever disks of its master fail, where all that is asked is within its types and different blocks have different digests, is a run of the plain machine: what a store shows is a tree of texts, those
+//! that are settled by the account of the run, and while an upgrade stands the tree of its prepare; each step is commands that lead from what was shown to what is. So an upgrade that is rolled back leads back to what was
+//! shown right behind its prepare, and replicas of members have those texts. Once a disk has failed, what is shown goes by what the disks tell.
 #![tactic(auto)]
 
 ghost use Rattle.gs_world_chunks.specs.Back.{GivesReplicasBack, NoOtherText};
@@ -56,8 +56,8 @@ pub fn new_chunks_are_as_they_were_made<D>()
     a_message_edits_a_replica_by_what_it_says();
 }
 
-/// A call that waits to copy a chunk at a place of a file, or for that copy, holds the place in each world of a run: no other call waits so at that file; and while one waits for its copy, nobody may write the chunk until
-/// the copy has come there.
+/// A call that waits, at a master of which no disk has failed, to copy a chunk at a place of a file, or for that copy, holds the place in each world of a run: no other call waits so at that file; and while one waits for its
+/// copy, nobody may write the chunk until the copy has come there.
 pub fn places_that_are_copied_are_held<D>()
     ensures { (x : Setup D) → PlacesAreHeld x }
 {}
@@ -81,8 +81,9 @@ pub fn copies_are_of_what_stands_at_their_places<D>()
     a_message_edits_a_replica_by_what_it_says();
 }
 
-/// A new store shows the machine that has done nothing. In a run in which no disk fails each step is commands of the plain machine, by its records and by the edits that are settled at it: at a prepare one of them keeps
-/// the tree that stands behind the step, and at the commit of a rollback one puts back what was kept. So is each run of such steps, and commands lead from what was shown to what is.
+/// A new store shows the machine that has done nothing. Whatever disks of the master fail in a run, each step is commands of the plain machine, by its records and by the edits that are settled at it: at a prepare one of
+/// them keeps the tree that stands behind the step, and at the commit of a rollback one puts back what was kept. Where a disk fails at a turn, those of its records are commands that stand: the first ones, perhaps none, or
+/// all. A master of which one has failed commands nothing more, and neither does a restart. So is each run of such steps, and commands lead from what was shown to what is.
 pub fn a_run_is_a_run_of_the_plain_machine<D>()
     ensures begins { (x : Setup D) → BeginsPlain x }
     ensures steps { (x : Setup D) → StepsArePlain x }
