@@ -229,6 +229,10 @@ told_is d out req = ap (λ o. not (is_later (later (fin.get d.replies req.client
 told_on : (d e : Durable) (req : ReqId) → AnsweredOver d e → was_told d req ≡ true → was_told e req ≡ true
 told_on d e req on told = sym (told_is e [] req) ∙ on (behind_restart []) req (told_is d [] req ∙ told)
 
+-- records of which none is a checkpoint leave it told
+pub records_told : (entries : List PlainEntry) (d e : Durable) (req : ReqId) → list_all plain entries ≡ true → replayed d entries ≡ Some e → was_told d req ≡ true → was_told e req ≡ true
+records_told entries d e req usual fit = told_on d e req (over_records AnsweredOver (λ d v req was. was) (λ d n e a b v req was. b v req (a v req was)) plain record_over entries d e usual fit)
+
 -- ---- which edits are told
 
 any_both : {A : Type 0} (p : A → Bool) (xs ys : List A) → list_any p xs ≡ false → list_any p ys ≡ false → list_any p (xs ++ ys) ≡ false

@@ -53,7 +53,7 @@ use Rattle.gs_world.proofs.Lasting.{begins_firm}
 
 module _ {D : Type 0} (x : Setup D) (Holds : MasterPlace D → Type 0) (given : IsGiven x)
     (on : (sent : Sent) (old new : MasterPlace D) (messages : List Message) → Lasts x.seen (as_left old) → MasterDoesAll x.seen x.armed sent old new messages → Holds (as_left old) → Holds (as_left new)) where
-  left_on : (step : Step) (old mid : History D) → IsWell x old → StepsWithin x step old mid → Holds (as_left old.nodes.master) → Holds (as_left mid.nodes.master)
+  pub left_on : (step : Step) (old mid : History D) → IsWell x old → StepsWithin x step old mid → Holds (as_left old.nodes.master) → Holds (as_left mid.nodes.master)
   left_on step old mid well one h = by_kind (kind_of x.seen x.failures x.armed step old mid one.goes (named x step old one.within well.types))
     where
       by_kind : Kind x.seen x.failures x.armed step old mid → Holds (as_left mid.nodes.master)

@@ -12,6 +12,7 @@ use Rattle.gs_world.specs.Histories.{History}
 use Rattle.gs_world.specs.Runs.{Step, Takes}
 use Rattle.gs_world_chunks.specs.Accounts.{Account}
 use Rattle.gs_world_chunks.specs.Running.{IsReached, Runs, Setup}
+use Rattle.gs_world_lift.specs.Left.{as_left}
 use Rattle.gs_world_plain.specs.Written.{records_at}
 
 -- so many of the records of a step are written, and none of these tells an edit of the request
@@ -26,9 +27,9 @@ module _ {D : Type 0} (x : Setup D) where
   EachWritesNoEdit req [] old a new b runs = Unit {0}
   EachWritesNoEdit req (step ∷ steps) old a new b (mid, c, one, rest) = WritesNoEdit req step old a c × EachWritesNoEdit req steps mid c new b rest
 
-  -- In a run in which no disk fails, and whatever else happens, restarts of the master among it: once a request is over, and a record has told so, no step makes an edit for it.
+  -- Whatever happens, restarts of the master and failures of its disks among it: once a request is over at a master of which no disk has failed, and a record has told so, no step makes an edit for it.
   abbrev pub OverMakesNoEdits : Type 0
-  OverMakesNoEdits = x.fails ≡ false → (old new : History D) (a b : Account) (steps : List Step) (m : MasterOf D) (req : ReqId) → IsReached x old a → old.nodes.master ≡ Standing m →
+  OverMakesNoEdits = (old new : History D) (a b : Account) (steps : List Step) (m : MasterOf D) (req : ReqId) → IsReached x old a → as_left old.nodes.master ≡ Standing m →
       IsOver m.state.durable m.state.volatile req → was_told m.state.durable req ≡ true → (runs : Runs x steps old a new b) → EachWritesNoEdit req steps old a new b runs
 
 -- ---- Worked: where a client takes its answer nothing is written

@@ -109,8 +109,8 @@ pub fn a_rollback_shows_what_its_prepare_showed<D>()
     a_rollback_gives_back_what_was_settled::<D>();
 }
 
-/// Once a request is over at the master, and a record has told its answer, as one tells a refusal wherever there is room, no step of the run makes an edit for it, whatever comes: its own call once more, deliveries of any
-/// message ever sent, ticks, and restarts.
+/// Once a request is over at a master of which no disk has failed, and a record has told its answer, as one tells a refusal wherever there is room, no step of the run makes an edit for it, whatever comes: its own call once
+/// more, deliveries of any message ever sent, ticks, restarts, and failing disks.
 pub fn a_request_that_is_over_makes_no_edit_in_a_run<D>()
     ensures { (x : Setup D) → OverMakesNoEdits x }
 {

@@ -2,4 +2,4 @@ use Rattle.gs_world_plain.proofs.Over.{over_makes_no_edits}
 use Rattle.gs_world_plain.proofs.a_request_that_is_over_makes_no_edit_in_a_run.Goals as goal
 
 pub returns : goal.returns
-returns g c x quiet old new a b steps m req r at over told runs = over_makes_no_edits c.configurations_have_sizes.ensures c.a_message_edits_a_replica_by_what_it_says.ensures.edit x quiet req old new a b steps m r at over told runs
+returns g c x old new a b steps m req r at over told runs = over_makes_no_edits c.configurations_have_sizes.ensures c.a_message_edits_a_replica_by_what_it_says.ensures.edit x req old new a b steps m r at over told runs
