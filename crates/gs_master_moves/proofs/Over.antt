@@ -17,7 +17,7 @@ use Rattle.gs_base.specs.declared.epoch.EpochEnd.TheVariants as ends
 use Rattle.gs_master_record.specs.Plain.{AddChunk, Edited, Finalize, Holder, PlainEdit, PlainEntry, Prepare, Propose, Remove, RollbackBegin, RollbackCommit, Said, Settle, Snapshot, Whole}
 use Rattle.gs_master_record.specs.declared.checkpoint.Phase.TheVariants.{Ordinary, Upgrade, Rolling}
 use Rattle.gs_master_record.specs.declared.entry.Answered.{Answered}
-use Rattle.gs_master_spec.specs.Applied.{after_edit, after_undoing, applied, are_answers, are_at_rest, held_by, is_next_epoch, may_be_settled, may_edit, may_propose, proposed, rolled_back, with_edit, with_epoch, with_reply, with_view, without_prepared, view_for, chunk_of_edit, with_answer}
+use Rattle.gs_master_spec.specs.Applied.{after_edit, after_undoing, applied, are_answers, are_at_rest, held_by, is_next_epoch, may_be_settled, may_edit, may_propose, proposed, rolled_back, with_edit, with_epoch, with_reply, with_view, without_prepared, view_for, chunk_of_edit, with_answer, replayed}
 use Rattle.gs_master_spec.specs.Chunks.{holder_records, is_holder, target_of}
 use Rattle.gs_master_spec.specs.Durable.{Durable, is_ordinary, is_rolling, is_upgrade, prepared_view, with_prepared}
 use Rattle.gs_master_spec.specs.Handling.{call_turn, unlisted}
@@ -33,8 +33,6 @@ use Rattle.gs_master_spec.specs.declared.change.Change.TheVariants as changes
 use Rattle.gs_master_spec.specs.declared.pending.Pending.{Pending}
 use Rattle.gs_master_spec.specs.declared.reply.KeptReply.{KeptReply}
 use Rattle.gs_master_laws.proofs.Beginnings.{fits_gives}
-use Rattle.gs_base.specs.declared.numbers.Moment.{Moment}
-use Rattle.gs_msg.specs.declared.call.Call.{Call}
 use Rattle.gs_master_laws.proofs.Refusing.{refused_leaves_all}
 use Rattle.gs_master_laws.specs.Promises.{with_kept, with_said}
 use Rattle.gs_master_laws.proofs.Standing.{StaysAnswered, changed_more, kept_answers, now_answered, same_parts, told_answers}

@@ -41,10 +41,11 @@ use Rattle.gs_world_chunks.specs.Accounts.{Account}
 use Rattle.gs_world_chunks.specs.Running.{IsArmed, IsGiven, IsReached, Moves as MovesTo, Runs, Setup}
 use Rattle.gs_world_lift.specs.Doing.{Arms, HasDurable, MasterDoes, Moves as MovesAt, Refuses, Starts, Waits}
 use Rattle.gs_world_lift.specs.Left.{Arranges, Cuts, Does, Keeps as KeepsAll, MasterDoesAll, as_left}
-use Rattle.gs_world_plain.proofs.Cut.{CutLeaves, Leads, Scanned, cut_leaves, tested}
-use Rattle.gs_world_plain.proofs.Onward.{had, has, kept_before}
-use Rattle.gs_world_plain.proofs.Unleased.{armed_left, left_on, still_armed}
-use Rattle.gs_world_plain.proofs.Writing.{Keeps, Turns, Writes, taken_of, writes}
+use Rattle.gs_world_plain.proofs.Cut.{CutLeaves, Leads, Scanned, cut_leaves, taken_of, tested}
+use Rattle.gs_world_plain.proofs.Onward.{had, has}
+use Rattle.gs_world_chunks.proofs.Well.{armed_left}
+use Rattle.gs_world_plain.proofs.Unleased.{left_on, still_armed}
+use Rattle.gs_world_plain.proofs.Writing.{Keeps, Turns, Writes, writes}
 use Rattle.gs_world_plain.specs.Over.{EachWritesNoEdit, OverMakesNoEdits, WritesNoEdit}
 use Rattle.gs_world_plain.specs.Written.{records_at}
 
@@ -141,11 +142,10 @@ module _ (sizes : HaveSizes) (law : AreNumbered) {D : Type 0} (x : Setup D) (req
   runs_write_none [] old new a b r over runs = tt
   runs_write_none (step ∷ steps) old new a b r over (mid, c, one, rest) =
       let given = r.begins.given in
-      let well = reached_well x old a r in
-      (
+      let well = reached_well x old a r in (
         writes_none step old mid a c r one over (writes x given step old mid a.durable c.durable well one.steps (had sizes law x step old mid a c r one) (has sizes law x step old mid a c r one)),
         runs_write_none steps mid new c b (reach_more x old mid a c (step ∷ []) r (mid, c, one, (refl, refl)))
-        (left_on x (IsOverAt x req) given (over_left x req given) step old mid well one.steps over) rest,
+            (left_on x (IsOverAt x req) given (over_left x req given) step old mid well one.steps over) rest,
       )
 
   pub over_makes_no_edits : (old new : History D) (a b : Account) (steps : List Step) (m : _) → IsReached x old a → as_left old.nodes.master ≡ Standing m → IsOver m.state.durable m.state.volatile req → was_told m.state.durable req ≡ true
