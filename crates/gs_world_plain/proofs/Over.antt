@@ -1,5 +1,5 @@
 -- What is over stays over in a run, and makes no edit.
-use Rattle.std.proofs.Common.{◌≡◌, ◌∙◌, ◌∷◌, ◌||◌, Bool, suc, zero, true, false, List, [], map, take, refl, sym, ap, subst, ℕ}
+use Rattle.std.proofs.Common.{◌≡◌, ◌∙◌, ◌∷◌, ◌||◌, Bool, suc, zero, true, false, List, [], map, not, take, refl, sym, ap, subst, ℕ}
 use Rattle.std.specs.Prelude.{Some}
 use Rattle.std.specs.FinMap as fin
 use Rattle.std.specs.List.{list_all, list_any}
@@ -7,11 +7,11 @@ use Rattle.std.proofs.lemmas.Bool.{true≢false}
 use Rattle.gs_base.specs.declared.config.Config.{Config}
 use Rattle.gs_base.specs.declared.numbers.ReqId.{ReqId}
 use Rattle.gs_journal.specs.Records.{standing}
-use Rattle.gs_master_laws.specs.Promises.{IsKept}
 use Rattle.gs_master_laws.specs.Standing.{IsOver}
 use Rattle.gs_master_moves.proofs.Fitting.{once_chain}
 use Rattle.gs_master_moves.proofs.Over.{chained_over, records_told, told_is}
-use Rattle.gs_master_moves.proofs.Stands.{once_stands, plain}
+use Rattle.gs_master_moves.proofs.Stands.{plain}
+use Rattle.gs_master_moves.specs.Epochs.{EndsOnce}
 use Rattle.gs_master_moves.specs.Guards.{Heard, IsMade}
 use Rattle.gs_master_moves.specs.Laws.{IsMadeWell}
 use Rattle.gs_master_moves.specs.Moves.{Chain, Moves, Rests, Then}
@@ -46,7 +46,7 @@ use Rattle.gs_world_plain.proofs.Onward.{had, has}
 use Rattle.gs_world_chunks.proofs.Well.{armed_left}
 use Rattle.gs_world_plain.proofs.Unleased.{left_on, still_armed}
 use Rattle.gs_world_plain.proofs.Writing.{Keeps, Turns, Writes, writes}
-use Rattle.gs_world_plain.specs.Over.{EachWritesNoEdit, OverMakesNoEdits, WritesNoEdit}
+use Rattle.gs_world_plain.specs.Over.{EachWritesNoEdit, WritesNoEdit}
 use Rattle.gs_world_plain.specs.Written.{records_at}
 
 plainly : (config : Config) (heard : Heard) (s : State) (t : Turn) → Chain config (IsMadeWell config heard) s t → Chain config (IsMade config heard) s t
@@ -71,7 +71,7 @@ module _ (req : ReqId) where
   abbrev IsOverIn : State → Type 0
   IsOverIn s = IsOver s.durable s.volatile req × (was_told s.durable req ≡ true)
 
-  turn_over : (config : Config) (heard : Heard) (s : State) (t : Turn) → _ → IsOverIn s → IsOverBy req s t
+  turn_over : (config : Config) (heard : Heard) (s : State) (t : Turn) → EndsOnce config (IsMadeWell config heard) s t → IsOverIn s → IsOverBy req s t
   turn_over config heard s t turn k = chained_over req config heard s t (plainly config heard s t (once_chain config (IsMadeWell config heard) s t turn)) k.0
 
   behind_turn : (s : State) (t : Turn) → IsOverBy req s t → was_told s.durable req ≡ true → IsOverIn t.after

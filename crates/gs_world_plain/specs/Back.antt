@@ -22,7 +22,7 @@ module _ {D : Type 0} (x : Setup D) where
   shown a = plain_view x.config.chunk a
 
   -- a run from a prepare on that isn't ended is a run
-  pub as_run : (steps : List Step) (old : History D) (a : Account) (new : History D) (b : Account) → RunsUpgraded x steps old a new b → Runs x steps old a new b
+  abbrev pub as_run : (steps : List Step) (old : History D) (a : Account) (new : History D) (b : Account) → RunsUpgraded x steps old a new b → Runs x steps old a new b
   as_run [] old a new b runs = runs
   as_run (step ∷ steps) old a new b (mid, c, one, still, rest) = (mid, c, one, as_run steps mid c new b rest)
 
