@@ -15,7 +15,7 @@ use std::path::Path;
 use std::rt::Files;
 
 /// The bytes of the file that are read at a time.
-const FILE_BYTES: usize = 1_048_576;
+const FILE_BYTES: usize = 65_536;
 
 /// A file that a store is kept in.
 #[derive(Drop)]

@@ -1,7 +1,9 @@
 //! How much of a log is whole lines.
 #![tactic(auto)]
 
-ghost use Rattle.std.specs.Prelude.{◌≡◌, ◌++◌, ◌∷◌, [], List, ℕ, IfOk, IfSome, MatchOption};
+ghost use Rattle.std.specs.Prelude.{◌≡◌, ◌≤◌, ◌==◌, ◌++◌, [], List, ℕ, false, length, take, drop, IfOk, IfSome, MatchOption};
+ghost use Rattle.std.specs.List.{list_any};
+ghost use Rattle.gs_keep.specs.Replaying.{EndsLine};
 ghost use Rattle.std.specs.Io.KnownBytes.{Consumes};
 ghost use Rattle.gs_keep_measure.specs.Measure.{Measures};
 
@@ -16,34 +18,36 @@ pub struct Measure {
     pub rest: u64,
 }
 
-/// The measure of a text with one byte more.
-fn with_byte(measure: Measure, byte: u8) -> Option<Measure>
-    ensures { IfSome result (λ more. (text : List ℕ) → Measures text measure → Measures (text ++ byte ∷ []) more) }
+/// The length up to and with the last `\n`, or 0 where there is none.
+fn whole_len(bytes: &[u8]) -> usize
+    ensures bound { result ≤ length bytes.now }
+    ensures ends { EndsLine (take result bytes.now) }
+    ensures none { list_any (λ x. x == 10) (drop result bytes.now) ≡ false }
 {
-    let rest = measure.rest.checked_add(1)?;
-    if byte != b'\n' {
-        return Some(Measure {
-            whole: measure.whole,
-            rest,
-        });
+    let mut end = bytes.len();
+    while end > 0 && bytes[end - 1] != b'\n' {
+        end -= 1;
     }
-    Some(Measure {
-        whole: measure.whole.checked_add(rest)?,
-        rest: 0,
-    })
+    end
 }
 
 /// The measure of a text with some bytes more.
 fn measure_more(measure: Measure, bytes: &[u8]) -> Option<Measure>
     ensures { IfSome result (λ more. (text : List ℕ) → Measures text measure → Measures (text ++ bytes.now) more) }
 {
-    let mut now = measure;
-    let mut i = 0;
-    while i < bytes.len() {
-        now = with_byte(now, bytes[i])?;
-        i += 1;
+    let whole = whole_len(bytes);
+    let all = measure.rest.checked_add(bytes.len() as u64)?;
+    if whole == 0 {
+        return Some(Measure {
+            whole: measure.whole,
+            rest: all,
+        });
     }
-    Some(now)
+    let rest = (bytes.len() - whole) as u64;
+    Some(Measure {
+        whole: measure.whole.checked_add(all - rest)?,
+        rest,
+    })
 }
 
 /// Measures what the reader shows next. Nothing where it has ended.
