@@ -220,11 +220,11 @@ def limited(program, plain_program, path, chance):
         signal.signal(signal.SIGXFSZ, signal.SIG_IGN)
         resource.setrlimit(resource.RLIMIT_FSIZE, (most, most))
 
-    with tempfile.TemporaryFile() as errors:
-        run = subprocess.Popen([program, path, *SIZES], stdin=subprocess.PIPE, stdout=subprocess.PIPE, stderr=errors, preexec_fn=limit)
-        told = talked(run, lines, chance, LINES + 1)
-        errors.seek(0)
-        status, said = run.returncode, errors.read().decode()
+    # The limit is one of every file that the program writes: standard error goes through a pipe.
+    run = subprocess.Popen([program, path, *SIZES], stdin=subprocess.PIPE, stdout=subprocess.PIPE, stderr=subprocess.PIPE, preexec_fn=limit)
+    told = talked(run, lines, chance, LINES + 1)
+    said, status = run.stderr.read().decode(), run.wait()
+    run.stderr.close()
     stood = len(logged(path)[0])
     if status != 1 or "it can't be written" not in said:
         return f"a write fails, and the status is {status}: {said}", stood

@@ -101,7 +101,13 @@ fn made(
     ensures { IfOk result (λ kept. is_some kept.log.fault ≡ false) }
 {
     let next = next_line(alloc, &mut lines).map_err(Fault::Read)?;
-    let config = sizes.config().map_err(|_| Fault::NoStore)?;
+    let Ok(config) = sizes.config() else {
+        return Err(match next.line {
+            Line::End => Fault::NoStore,
+            Line::NoMemory => Fault::Memory,
+            _ => Fault::Other,
+        });
+    };
     let text = head_line(alloc, &config).map_err(|_| Fault::Memory)?;
     match next.line {
         Line::End => {}
