@@ -9,7 +9,7 @@ use thiserror::Error;
 pub(crate) enum Fault {
     #[error("the store that is kept here has --{name} {size}")]
     Differs { name: &'static str, size: u64 },
-    #[error("no store stands there, and there is none of these sizes to be made")]
+    #[error("nothing stands there, and no store of these sizes can be made")]
     NoStore,
     #[error("another process has it")]
     InUse,
