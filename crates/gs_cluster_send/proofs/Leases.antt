@@ -58,13 +58,13 @@ pub lock_table : IsSend (LockTable.the_field).row
 lock_table = search (sendable, crosses, maps.BTreeMap-send, lock, tally, path, req_id) depth 200 fits 100000
 
 pub kept_outcome : IsSend (KeptOutcome.the_field).row
-kept_outcome = search (sendable, crosses, maps.BTreeMap-send, refusal) depth 200 fits 100000
+kept_outcome = search (sendable, crosses, refusal) depth 200 fits 100000
 
 pub record_reply : IsSend (Reply.the_field).row
-record_reply = search (sendable, crosses, maps.BTreeMap-send, kept_outcome, req_id) depth 200 fits 100000
+record_reply = search (sendable, crosses, kept_outcome, req_id) depth 200 fits 100000
 
 pub checkpoint : IsSend (Checkpoint.the_field).row
-checkpoint = search (sendable, crosses, maps.BTreeMap-send, tree_entry, record_reply, listed_inverse, view) depth 200 fits 100000
+checkpoint = search (sendable, crosses, tree_entry, record_reply, listed_inverse, view) depth 200 fits 100000
 
 pub entry : IsSend (Entry.the_field).row
-entry = search (sendable, crosses, maps.BTreeMap-send, req_id, edit, refusal, checkpoint, handle) depth 200 fits 100000
+entry = search (sendable, crosses, req_id, edit, refusal, checkpoint, handle) depth 200 fits 100000
