@@ -1,0 +1,4 @@
+-- What the crate's own functions say of one another's work. No clause of a public call cites this file.
+pub mod Berths
+pub mod Placed
+pub mod Settling

@@ -1,0 +1,14 @@
+//! Nodes on threads: each stands behind a lock that two threads share, the nodes of clients are their callers' own, and messages go
+//! through channels under a rule. When the threads have ended, the histories that were kept match.
+#![tactic(auto)]
+
+mod gathering;
+mod hosts;
+mod placing;
+mod settling;
+mod wiring;
+mod work;
+
+pub use gathering::Member;
+pub use hosts::Hosts;
+pub use wiring::{Seed, wire};
