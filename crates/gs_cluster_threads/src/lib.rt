@@ -12,3 +12,4 @@ mod work;
 pub use gathering::Member;
 pub use hosts::Hosts;
 pub use wiring::{Seed, wire};
+pub use work::{LOOKS, rest};

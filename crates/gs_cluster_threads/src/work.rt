@@ -10,7 +10,7 @@ use std::thread::Threads;
 use std::time::{Clock, Duration};
 
 /// So often a thread looks for a message before it lets the clock of its node tick, if something waits there.
-const LOOKS: u32 = 100_000;
+pub const LOOKS: u32 = 100_000;
 
 /// So often it looks without a rest.
 const EAGER: u32 = 2_000;
@@ -63,7 +63,7 @@ fn make_step<N: Plan, C: Core + Drop, R: Wait, G: Gate>(
 }
 
 /// Rests a little behind so many looks.
-pub(crate) fn rest<R: Clock>(rt: &R, looks: u32) {
+pub fn rest<R: Clock>(rt: &R, looks: u32) {
     if looks < EAGER {
         thread::yield_now();
     } else {

@@ -1,0 +1,4 @@
+pub mod Calling
+pub mod Finished
+pub mod Opened
+pub mod inner
