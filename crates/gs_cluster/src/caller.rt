@@ -1,5 +1,5 @@
-ghost use Rattle.std.specs.Prelude.{◌≡◌, IfOk, IfSome, option_copied};
-ghost use Rattle.gs_cluster.specs.Calling.{Carries, HearsAll, Replied, reply_of};
+ghost use Rattle.std.specs.Prelude.{◌≡◌};
+ghost use Rattle.gs_cluster.specs.Calling.{HearsAll, Replied};
 
 use gs_base::{Moment, Refusal, ReqId};
 use gs_client::{Link, Reply};
@@ -78,9 +78,9 @@ impl<N: Plan, D: Disk + Drop, R: Wait + Clock + Drop> Caller<N, D, R> {
 }
 
 impl<N: Plan, D: Disk + Drop, R: Wait + Clock + Drop> Link for Caller<N, D, R> {
-    ghost use Rattle.gs_cluster.specs.Calling.{Carries};
+    ghost use Rattle.gs_cluster.specs.Linked.{carried};
 
-    ghost Carries = { λ old req request reply new. Carries D.seen D.failures old.moment req request old.node reply new.node × (new.moment ≡ old.moment) };
+    ghost Carries = { carried D.seen D.failures };
 
     fn request(&mut self, req: ReqId, request: Request) -> Reply {
         let event = Event {

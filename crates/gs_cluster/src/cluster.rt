@@ -1,4 +1,4 @@
-ghost use Rattle.std.specs.Prelude.{◌≡◌, ◌+◌, ◌++◌, IfOk, length, map, vec_len};
+ghost use Rattle.std.specs.Prelude.{◌≡◌, ◌+◌, ◌++◌, ◌≤◌, IfOk, length, map, vec_len};
 ghost use Rattle.gs_cluster.specs.Finished.{Finished};
 ghost use Rattle.gs_cluster.specs.Opened.{names_of, setting_of};
 ghost use Rattle.gs_cluster.specs.Calling.{fresh_clients};
@@ -31,6 +31,28 @@ where
     pub hosts: Hosts<N, Role<D>>,
     ghost sizes: { config ≡ N.setting.config },
     pub ghost many: { vec_len hosts.handles + N.setting.clients ≡ length (all_ids N.setting) },
+}
+
+/// So many first nodes, and those behind them.
+fn parted<N: Plan, D: Disk + Drop>(
+    alloc: Global,
+    many: usize,
+    nodes: Vec<Node<N, Role<D>>>,
+) -> Result<(Vec<Node<N, Role<D>>>, Vec<Node<N, Role<D>>>), AllocError>
+    requires { many ≤ vec_len nodes }
+    ensures all { IfOk result (λ p. p.0.items ++ p.1.items ≡ nodes.items) }
+    ensures many { IfOk result (λ p. vec_len p.0 ≡ many) }
+{
+    let mut first = Vec::new(alloc);
+    let mut rest = Vec::new(alloc);
+    for node in nodes {
+        if first.len() < many {
+            first.push(node)?;
+        } else {
+            rest.push(node)?;
+        }
+    }
+    Ok((first, rest))
 }
 
 /// The nodes of clients, which stand behind the others, go to callers at moment 0.
@@ -94,10 +116,10 @@ impl<N: Plan + Send + Sync + 'static, D: Disk + Drop + Send + 'static> Cluster<N
             seeds,
         } = opened;
         let many = seeds.len();
-        let mut nodes = wire(rt, alloc, seeds)?;
-        let of_callers = nodes.split_off(config.servers as usize + 1)?;
-        let callers = callers_of(rt, alloc, of_callers)?;
-        let hosts = Hosts::start(rt, alloc, gate, many, nodes)?;
+        let nodes = wire(rt, alloc, seeds)?;
+        let (keepers, clients) = parted(alloc, config.servers as usize + 1, nodes)?;
+        let callers = callers_of(rt, alloc, clients)?;
+        let hosts = Hosts::start(rt, alloc, gate, many, keepers)?;
         let cluster = Cluster {
             alloc,
             config,

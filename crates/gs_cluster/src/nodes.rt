@@ -1,6 +1,6 @@
 // What the nodes of a cluster have come to, as the nodes of a store.
-ghost use Rattle.std.specs.Prelude.{◌≡◌, ◌≢◌, [], IfOk, filter_map};
-ghost use Rattle.gs_cluster.specs.inner.Members.{AreOf, as_client, as_master, as_server};
+ghost use Rattle.std.specs.Prelude.{◌≡◌, ◌≢◌, [], IfOk};
+ghost use Rattle.gs_cluster.specs.inner.Members.{AreOf, cores_of, masters_in};
 ghost use Rattle.gs_nodes.specs.Nodes.{Nodes as TheNodes, nodes_of};
 
 use gs_base::Config;
@@ -16,8 +16,8 @@ pub(crate) fn nodes_from<D: Disk + Drop>(
     config: Config,
     members: Vec<Member<Role<D>>>,
 ) -> Result<Nodes<D>, AllocError>
-    requires { filter_map as_master members.items ≢ [] }
-    ensures { IfOk result (λ nodes. (n : TheNodes D) → n.config ≡ config → AreOf n members.items → nodes_of nodes ≡ n) }
+    requires { masters_in (cores_of members.items) ≢ [] }
+    ensures { IfOk result (λ nodes. (n : TheNodes D) → n.config ≡ config → AreOf n (cores_of members.items) → nodes_of nodes ≡ n) }
 {
     let mut masters = Vec::new(alloc);
     let mut servers = Vec::new(alloc);

@@ -1,5 +1,5 @@
 mod Happening
-mod Placing
+pub mod Placing
 mod Running
-mod Sending
+pub mod Sending
 mod Starting
