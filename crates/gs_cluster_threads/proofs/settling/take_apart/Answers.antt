@@ -12,7 +12,16 @@ loop-node-init g c =
 
 pub loop-node-preserved : goal.loop-node-preserved
 loop-node-preserved g c =
-    let a = c.into_parts.ensures in let b = c.new.ensures in let d = c.in_ok-push.ensures.items in let e = c.in_ok-push-2.ensures.items in let f = c.in_ok-push-3.ensures.items in ?
+    let starts = g.C.Core.Starts g.N.Plan.setting in
+    let all = all_ids g.N.Plan.setting in
+    let rest = c.next.new.self.rest.items in
+    let parts = c.into_parts-me.result in
+    let members = c.loop-node.members.items in
+    let rows = c.loop-node.rows.items in
+    let ears = c.loop-node.ears.items in
+    let before = subst (λ (l : List (Kept g.row.C.Denot)). TakenApart g.C.Core.Does starts all c.args.nodes.items l members rows ears) c.in-Some.ensures.steps.0 c.loop-node.invariant in
+    one_apart g.C.Core.Does starts all c.args.nodes.items rest members _ rows _ ears _ c.in-Some.node _ parts.ways.items c.new.result parts.ear before
+    c.into_parts-me.ensures.sound c.into_parts-me.ensures.me c.into_parts-me.ensures.core c.new.ensures c.in_ok-push.ensures.items c.in_ok-push-2.ensures.items c.in_ok-push-3.ensures.items
 
 pub returns-clause-apart : goal.returns-clause-apart
 returns-clause-apart g c =
