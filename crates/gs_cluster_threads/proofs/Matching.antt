@@ -1,6 +1,5 @@
 -- Histories of nodes match whose ears are settled.
 use Rattle.std.proofs.Common.{◌≡◌, ℕ, zero, suc, ◌+◌, List, [], ◌∷◌, map, length, Some, refl, sym, ap, ◌∙◌, subst}
-use Rattle.std.specs.Prelude.{slice_get}
 use Rattle.std.proofs.lemmas.List.{length-map}
 use Rattle.std.proofs.lemmas.Option.{none-some, same_Some}
 use Rattle.gs_msg.specs.declared.message.Message.{Message}
@@ -9,9 +8,9 @@ use Rattle.gs_msg.specs.declared.sent.Sent.{Sent}
 use Rattle.gs_cluster_channel.specs.Settled.{Hearing, Putting}
 use Rattle.gs_cluster_history.specs.declared.took.Took.{Took}
 use Rattle.gs_cluster_history.specs.declared.took.Took.TheVariants.{Heard, Did}
-use Rattle.gs_cluster_history.specs.Histories.{Among, Entry, Kept, Line, Upshot, line_of}
+use Rattle.gs_cluster_history.specs.Histories.{Among, Entry, Kept, Upshot, line_of}
 use Rattle.gs_cluster_history.specs.Merging.{Matches, Stands, lines_of}
-use Rattle.gs_cluster_node.specs.Nodes.{IsSound, heard_in, heard_of, leads_of}
+use Rattle.gs_cluster_node.specs.Nodes.{IsSound, heard_in, heard_of}
 use Rattle.gs_cluster_threads.specs.declared.gathering.Member.{Member}
 use Rattle.gs_cluster_threads.specs.Gathered.{IsWhole, member_of}
 use Rattle.gs_cluster_threads.specs.inner.Placed.{InOrder}

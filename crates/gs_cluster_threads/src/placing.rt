@@ -66,9 +66,7 @@ fn filled<N: Plan, C: Core + Drop>(
 {
     let mut nodes = Vec::new(alloc);
     for place in places {
-        let Some(node) = place else {
-            unreachable!()
-        };
+        let Some(node) = place else { unreachable!() };
         nodes.push(node)?;
     }
     Ok(nodes)

@@ -20,7 +20,8 @@ loop-node-preserved g c =
     let rows = c.loop-node.rows.items in
     let ears = c.loop-node.ears.items in
     let before = subst (λ (l : List (Kept g.row.C.Denot)). TakenApart g.C.Core.Does starts all c.args.nodes.items l members rows ears) c.in-Some.ensures.steps.0 c.loop-node.invariant in
-    one_apart g.C.Core.Does starts all c.args.nodes.items rest members _ rows _ ears _ c.in-Some.node _ parts.ways.items c.new.result parts.ear before
+    one_apart g.C.Core.Does starts all c.args.nodes.items rest members c.push.new.self.items rows c.push-in-loop-node.new.self.items ears c.push-in-loop-node-2.new.self.items
+    c.in-Some.node (record { me = parts.me; core = parts.core }) parts.ways.items c.new.result parts.ear before
     c.into_parts-me.ensures.sound c.into_parts-me.ensures.me c.into_parts-me.ensures.core c.new.ensures c.in_ok-push.ensures.items c.in_ok-push-2.ensures.items c.in_ok-push-3.ensures.items
 
 pub returns-clause-apart : goal.returns-clause-apart
