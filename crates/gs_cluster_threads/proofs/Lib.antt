@@ -1,0 +1,3 @@
+mod Ears
+mod Matching
+mod Places

@@ -1,8 +1,8 @@
 // Nodes in the order of their numbers.
-ghost use Rattle.std.specs.Prelude.{◌≡◌, IfOk, Some, length, map, vec_len};
+ghost use Rattle.std.specs.Prelude.{◌≡◌, IfOk, None, Some, length, map, replicate, vec_len};
 ghost use Rattle.gs_cluster_history.specs.Histories.{Kept};
 ghost use Rattle.gs_cluster_history.specs.Setting.{all_ids};
-ghost use Rattle.gs_cluster_threads.specs.inner.Placed.{Holds, InOrder, Takes, holes, nones};
+ghost use Rattle.gs_cluster_threads.specs.inner.Placed.{Holds, InOrder, Takes, holes};
 
 use gs_cluster_channel::two_ears;
 use gs_cluster_history::Core;
@@ -33,7 +33,7 @@ fn empty_places<N: Plan, C: Core + Drop>(
     alloc: Global,
     many: usize,
 ) -> Result<Vec<Option<Node<N, C>>>, AllocError>
-    ensures { IfOk result (λ v. v.items ≡ nones many) }
+    ensures { IfOk result (λ v. v.items ≡ replicate many None) }
 {
     let mut places = Vec::new(alloc);
     for _ in 0..many {
@@ -66,9 +66,7 @@ fn filled<N: Plan, C: Core + Drop>(
 {
     let mut nodes = Vec::new(alloc);
     for place in places {
-        let Some(node) = place else {
-            unreachable!()
-        };
+        let Some(node) = place else { unreachable!() };
         nodes.push(node)?;
     }
     Ok(nodes)

@@ -76,7 +76,7 @@ pub(crate) fn settle_all<N: Plan>(
     ears: Vec<Ear<N>>,
     rows: Vec<Row<N>>,
 ) -> Result<(), AllocError>
-    requires { AreAll (all_ids N.setting) ears.items rows.items }
+    requires { AreAll ears.items rows.items }
     ensures { OnOk result ((e : Hearing) → Among ears.items e → IsPutBy rows.items e) }
 {
     let mut ears = ears;

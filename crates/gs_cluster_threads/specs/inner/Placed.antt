@@ -1,11 +1,7 @@
 -- Places for nodes, one for each number.
-use Rattle.std.specs.Prelude.{◌≡◌, ◌+◌, ℕ, zero, suc, List, [], ◌∷◌, Option, Some, None, length, map, slice_get}
+use Rattle.std.specs.Prelude.{◌≡◌, ◌+◌, ℕ, suc, List, [], ◌∷◌, Option, Some, None, length, map, slice_get}
 use Rattle.gs_msg.specs.declared.node.NodeId.{NodeId}
 use Rattle.gs_cluster_history.specs.Histories.{Among, Kept}
-
-abbrev pub nones : {X : Type 0} → ℕ → List (Option X)
-nones zero = []
-nones (suc many) = None ∷ nones many
 
 -- how many are empty
 abbrev pub holes : {X : Type 0} → List (Option X) → ℕ
