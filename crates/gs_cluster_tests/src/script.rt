@@ -85,7 +85,7 @@ const SCRIPTS: [(&'static [u8], &'static str); 6] = [
     ),
     (
         b"mkdir /a/b\ncreate /a/f\nwrite /a/f 0 61\nrollingUpgrade prepare\nwrite /a/f 0 62\nmv /a /c\nrm -r /c\nls /\nrollingUpgrade rollback\nls /a\nread /a/f 0 2\n",
-        "ok\nok\nok\nok 1\nok\nok\nok /.deleted.00000000000000000001.c\nok\nok 2\nok b/ f\nok 61\n",
+        "ok\nok\nok\nok 1\nok\nok\nok /.deleted.00000000000000000000.00000000000000000001.c\nok\nok 2\nok b/ f\nok 61\n",
     ),
     (
         b"frob\nmkdir\nwrite /f 0 6\nrm /x\nrm /\nread /x 0 1\nundelete /x\nmkdir /a/b\nrm /a\nhold on forward\nbeat 0\nrestart master\nlose 0 1\n",
