@@ -42,11 +42,11 @@ found_in_map f (x ∷ xs) (suc i) y h = found_in_map f xs i y h
 
 no_server : {D : Type 0} (o : Option Server) → as_server {D = D} o ≡ None → o ≡ None
 no_server None h = refl
-no_server {D} (Some s) h = absurd (none-some (AServer {D = D} s) (sym h))
+no_server (Some s) h = absurd (none-some (AServer s) (sym h))
 
 no_client : {D : Type 0} (o : Option Node) → as_client {D = D} o ≡ None → o ≡ None
 no_client None h = refl
-no_client {D} (Some c) h = absurd (none-some (Client {D = D} c) (sym h))
+no_client (Some c) h = absurd (none-some (Client c) (sym h))
 
 -- the client of a number stands at the place before it
 counted : (cs : List Node) (i : ℕ) → client_in cs (record { 0 = i + 1 }) ≡ slice_get cs i
@@ -54,6 +54,11 @@ counted cs i =
     let some : i + 1 ≡ 0 → ⊥ = λ e. absurd (omega arith) in
     let before : i + 1 - 1 ≡ i = omega arith in
     ap (λ b. if b then None else slice_get cs (i + 1 - 1)) (nonzero (i + 1) some) ∙ ap (slice_get cs) before
+
+abbrev number : NodeId → ℕ
+number ids.Master = 0
+number (ids.Server id) = id
+number (ids.Client id) = id.0
 
 long_enough : {X : Type 0} (xs : List X) (n : ℕ) → ((i : ℕ) → i < n → (x : X) × (slice_get xs i ≡ Some x)) → n ≤ length xs
 long_enough xs zero all = omega arith
@@ -101,7 +106,7 @@ module _ {D : Type 0} (seen : D → List ℕ) (failures : D → ℕ) (armed : Di
   other_server : Among (map (λ (k : Kept (Role D)). k.me) ks) (ids.Server many) → ⊥
   other_server (k, at) = elim (stands setting k (ids.Server many) (ap (λ l. slice_get l k) (sym numbers) ∙ at)) [
     | AMaster first is ↦ absurd (cc)
-    | IsServer i below place is ↦ let same : many ≡ i = cc in absurd (omega arith)
+    | IsServer i below place is ↦ let same = ap number is in absurd (omega arith)
     | AClient i below place is ↦ absurd (cc)
   ]
 
@@ -109,7 +114,7 @@ module _ {D : Type 0} (seen : D → List ℕ) (failures : D → ℕ) (armed : Di
   other_client (k, at) = elim (stands setting k (ids.Client (record { 0 = setting.clients + 1 })) (ap (λ l. slice_get l k) (sym numbers) ∙ at)) [
     | AMaster first is ↦ absurd (cc)
     | IsServer i below place is ↦ absurd (cc)
-    | AClient i below place is ↦ let same : setting.clients + 1 ≡ i + 1 = cc in absurd (omega arith)
+    | AClient i below place is ↦ let same = ap number is in absurd (omega arith)
   ]
 
   servers_many : length n.servers ≡ many
@@ -134,24 +139,30 @@ module _ {D : Type 0} (seen : D → List ℕ) (failures : D → ℕ) (armed : Di
 
   -- ---- one after the other
 
+  abbrev server_role : Server → Role D
+  server_role s = AServer s
+
+  abbrev client_role : Node → Role D
+  client_role c = Client c
+
   abbrev as_servers : List (Role D)
-  as_servers = map (λ (s : Server). AServer s) n.servers
+  as_servers = map server_role n.servers
 
   abbrev as_clients : List (Role D)
-  as_clients = map (λ (c : Node). Client c) n.clients
+  as_clients = map client_role n.clients
 
   at_server : (i : ℕ) → i < many → slice_get cores (suc i) ≡ slice_get (as_servers ++ as_clients) i
   at_server i inside =
       let here = server_found i inside in
       let long = servers_many in
-      let same = length_map (λ (s : Server). AServer {D = D} s) n.servers in
-      here.2 ∙ sym (at_before as_servers as_clients i (omega arith) ∙ at_map (λ (s : Server). AServer {D = D} s) n.servers i ∙ ap (option_map (λ (s : Server). AServer {D = D} s)) here.1)
+      let same = length_map server_role n.servers in
+      here.2 ∙ sym (at_before as_servers as_clients i (omega arith) ∙ at_map server_role n.servers i ∙ ap (option_map server_role) here.1)
 
   at_client : (i : ℕ) → i < setting.clients → slice_get cores (suc (many + i)) ≡ slice_get (as_servers ++ as_clients) (many + i)
   at_client i inside =
       let here = client_found i inside in
-      let long : many ≡ length as_servers = sym (length_map (λ (s : Server). AServer {D = D} s) n.servers ∙ servers_many) in
-      here.2 ∙ sym (ap (λ k. slice_get (as_servers ++ as_clients) (k + i)) long ∙ at_behind as_servers as_clients i ∙ at_map (λ (c : Node). Client {D = D} c) n.clients i ∙ ap (option_map (λ (c : Node). Client {D = D} c)) here.1)
+      let long : many ≡ length as_servers = sym (length_map server_role n.servers ∙ servers_many) in
+      here.2 ∙ sym (ap (λ k. slice_get (as_servers ++ as_clients) (k + i)) long ∙ at_behind as_servers as_clients i ∙ at_map client_role n.clients i ∙ ap (option_map client_role) here.1)
 
   cores_long : length cores ≡ suc (many + setting.clients)
   cores_long =
@@ -164,8 +175,8 @@ module _ {D : Type 0} (seen : D → List ℕ) (failures : D → ℕ) (armed : Di
   at_nothing : (j : ℕ) → many + setting.clients ≤ j → slice_get cores (suc j) ≡ slice_get (as_servers ++ as_clients) j
   at_nothing j past =
       let long = cores_long in
-      let ss = length_map (λ (s : Server). AServer {D = D} s) n.servers ∙ servers_many in
-      let cs = length_map (λ (c : Node). Client {D = D} c) n.clients ∙ clients_many in
+      let ss = length_map server_role n.servers ∙ servers_many in
+      let cs = length_map client_role n.clients ∙ clients_many in
       slice_get_past cores (suc j) (omega arith) ∙ sym (slice_get_past (as_servers ++ as_clients) j (omega (arith, length-append as_servers as_clients)))
 
   at_each : (k : ℕ) → slice_get cores k ≡ slice_get (Master n.master ∷ (as_servers ++ as_clients)) k

@@ -7,7 +7,7 @@ use Rattle.gs_cluster_core.specs.declared.role.Role.{Role}
 use Rattle.gs_cluster_core.specs.declared.role.Role.TheVariants.{Master, Server as AServer, Client}
 use Rattle.gs_cluster.specs.inner.Members.{clients_in, masters_in, servers_in}
 
-module _ {D : Type 0} where
+module _ (D : Type 0) where
   abbrev as_servers : List Server → List (Role D)
   as_servers ss = map (λ (s : Server). AServer s) ss
 

@@ -31,7 +31,7 @@ use Rattle.gs_cluster.proofs.Numbers.{AClient, AMaster, AServer as IsServer, Sta
 
 -- ---- one after the other
 
-module _ {D : Type 0} (config : Config) where
+module _ (D : Type 0) (config : Config) where
   abbrev server_row : ℕ → Row D
   server_row i = (ids.Server i, (AServer (servers.new i config.block config.chunk), []))
 
@@ -64,39 +64,39 @@ numbers_are (s ∷ ss) = ap (λ ns. s.line.me ∷ ns) (numbers_are ss)
 
 module _ {D : Type 0} (seen : D → List ℕ) (failures : D → ℕ) (config : Config) (clients : ℕ) (disks : D × D) (first : Seed (Role D)) (begins : BeginsSo seen failures config disks first)
     (seeds : List (Seed (Role D))) (rows : rows_of seeds ≡ row_of first ∷ (server_rows config config.servers ++ client_rows clients)) where
-  abbrev setting : Setting
+  abbrev pub setting : Setting
   setting = record { config = config; clients = clients; texts = (seen disks.0, seen disks.1) }
 
-  all : numbers_of seeds ≡ all_ids setting
+  pub all : numbers_of seeds ≡ all_ids setting
   all =
       numbers_are seeds ∙ ap (λ (rs : List (Row D)). map (λ (r : Row D). r.0) rs) rows
-      ∙ ap (λ ns. first.line.me ∷ ns) (map-append (λ (r : Row D). r.0) (server_rows config config.servers) (client_rows clients) ∙ ap (λ ns. ns ++ map (λ (r : Row D). r.0) (client_rows {D} clients)) (server_numbers {D} config config.servers) ∙ ap (λ ns. server_ids config.servers ++ ns) (client_numbers {D} config clients))
+      ∙ ap (λ ns. first.line.me ∷ ns) (map-append (λ (r : Row D). r.0) (server_rows config config.servers) (client_rows clients) ∙ ap (λ ns. ns ++ map (λ (r : Row D). r.0) (client_rows clients)) (server_numbers D config config.servers) ∙ ap (λ ns. server_ids config.servers ++ ns) (client_numbers D config clients))
       ∙ ap (λ n. n ∷ (server_ids config.servers ++ client_ids clients)) (ap (λ (r : Row D). r.0) begins.row)
 
-  StartsRow : Row D → Type 0
+  abbrev pub StartsRow : Row D → Type 0
   StartsRow r = StartsAs seen failures setting r.0 r.1.0 r.1.1
 
-  servers_long : length (server_rows {D} config config.servers) ≡ config.servers
-  servers_long = ap (λ (rs : List (Row D)). length rs) (servers_counted config config.servers) ∙ counted_long (server_row {D} config) config.servers
+  servers_long : length (server_rows {D = D} config config.servers) ≡ config.servers
+  servers_long = ap (λ (rs : List (Row D)). length rs) (servers_counted D config config.servers) ∙ counted_long (server_row D config) config.servers
 
-  server_here : (i : ℕ) → i < config.servers → slice_get (rows_of seeds) (suc i) ≡ Some (server_row config i)
+  server_here : (i : ℕ) → i < config.servers → slice_get (rows_of seeds) (suc i) ≡ Some (server_row D config i)
   server_here i inside =
       let long = servers_long in
       ap (λ (rs : List (Row D)). slice_get rs (suc i)) rows ∙ at_before (server_rows config config.servers) (client_rows clients) i (omega arith)
-      ∙ ap (λ (rs : List (Row D)). slice_get rs i) (servers_counted config config.servers) ∙ counted_at (server_row config) config.servers i inside
+      ∙ ap (λ (rs : List (Row D)). slice_get rs i) (servers_counted D config config.servers) ∙ counted_at (server_row D config) config.servers i inside
 
-  client_here : (i : ℕ) → i < clients → slice_get (rows_of seeds) (suc (config.servers + i)) ≡ Some (client_row config i)
+  client_here : (i : ℕ) → i < clients → slice_get (rows_of seeds) (suc (config.servers + i)) ≡ Some (client_row D config i)
   client_here i inside =
-      ap (λ (rs : List (Row D)). slice_get rs (suc (config.servers + i))) rows ∙ ap (λ n. slice_get (server_rows {D} config config.servers ++ client_rows clients) (n + i)) (sym servers_long)
-      ∙ at_behind (server_rows config config.servers) (client_rows clients) i ∙ ap (λ (rs : List (Row D)). slice_get rs i) (clients_counted config clients) ∙ counted_at (client_row config) clients i inside
+      ap (λ (rs : List (Row D)). slice_get rs (suc (config.servers + i))) rows ∙ ap (λ n. slice_get (server_rows config config.servers ++ client_rows clients) (n + i)) (sym servers_long)
+      ∙ at_behind (server_rows config config.servers) (client_rows clients) i ∙ ap (λ (rs : List (Row D)). slice_get rs i) (clients_counted D config clients) ∙ counted_at (client_row D config) clients i inside
 
-  server_starts : (i : ℕ) → i < config.servers → StartsRow (server_row config i)
-  server_starts i inside = (ap (λ (ss : List Server). slice_get ss i) (silent_counted {D} config config.servers) ∙ counted_at (λ j. servers.new j config.block config.chunk) config.servers i inside, refl)
+  server_starts : (i : ℕ) → i < config.servers → StartsRow (server_row D config i)
+  server_starts i inside = (ap (λ (ss : List Server). slice_get ss i) (silent_counted D config config.servers) ∙ counted_at (λ j. servers.new j config.block config.chunk) config.servers i inside, refl)
 
-  client_starts : (i : ℕ) → i < clients → StartsRow (client_row config i)
+  client_starts : (i : ℕ) → i < clients → StartsRow (client_row D config i)
   client_starts i inside = (omega arith, omega arith, refl, refl)
 
-  starts : (s : Seed (Role D)) → Among seeds s → StartsRow (row_of s)
+  pub starts : (s : Seed (Role D)) → Among seeds s → StartsRow (row_of s)
   starts s (k, at) =
       let here = at_map row_of seeds k ∙ ap (option_map row_of) at in
       let number = sym (ap (λ (ns : List NodeId). slice_get ns k) all) ∙ at_map (λ (x : Seed (Role D)). x.line.me) seeds k ∙ ap (option_map (λ (x : Seed (Role D)). x.line.me)) at in
@@ -105,10 +105,10 @@ module _ {D : Type 0} (seen : D → List ℕ) (failures : D → ℕ) (config : C
             let same = same_Some (row_of first) (row_of s) (sym (ap (λ (rs : List (Row D)). slice_get rs 0) rows) ∙ ap (slice_get (rows_of seeds)) (sym place) ∙ here) in
             subst StartsRow (sym begins.row ∙ same) (disks, begins.turn, refl, begins.opens, refl)
         | IsServer i below place is ↦
-            let same = same_Some (server_row config i) (row_of s) (sym (server_here i below) ∙ ap (slice_get (rows_of seeds)) (sym place) ∙ here) in
+            let same = same_Some (server_row D config i) (row_of s) (sym (server_here i below) ∙ ap (slice_get (rows_of seeds)) (sym place) ∙ here) in
             subst StartsRow same (server_starts i below)
         | AClient i below place is ↦
-            let same = same_Some (client_row config i) (row_of s) (sym (client_here i below) ∙ ap (slice_get (rows_of seeds)) (sym place) ∙ here) in
+            let same = same_Some (client_row D config i) (row_of s) (sym (client_here i below) ∙ ap (slice_get (rows_of seeds)) (sym place) ∙ here) in
             subst StartsRow same (client_starts i below)
       ]
 
@@ -168,13 +168,13 @@ module _ {D : Type 0} (seen : D → List ℕ) (failures : D → ℕ) (setting : 
         let number = same_Some (there.0).line.me (ids.Client (record { 0 = i + 1 })) (sym (number_at (suc (setting.config.servers + i)) there.0 there.1) ∙ client_stands setting i inside) in
         rest_at i ∙ ap (option_map fresh) there.1 ∙ ap (λ (k : Kept (Role D)). Some k) (is_client i there.0 number (starts there.0 (suc (setting.config.servers + i), there.1)))
 
-    client_each : (i : ℕ) → slice_get rest i ≡ slice_get (fresh_clients {D} setting.clients) i
+    client_each : (i : ℕ) → slice_get rest i ≡ slice_get (fresh_clients setting.clients) i
     client_each i = elim (below_or i setting.clients) [
       | inl inside ↦ client_inside i inside ∙ sym (ap (λ (l : List (Kept (Role D))). slice_get l i) (fresh_counted setting.clients) ∙ counted_at client setting.clients i inside)
       | inr past ↦
           let long = seeds_long in
           let same = ap (λ (l : List (Kept (Role D))). length l) (fresh_counted setting.clients) ∙ counted_long client setting.clients in
-          rest_at i ∙ ap (option_map fresh) (slice_get_past seeds (suc (setting.config.servers + i)) (omega arith)) ∙ sym (slice_get_past (fresh_clients {D} setting.clients) i (omega arith))
+          rest_at i ∙ ap (option_map fresh) (slice_get_past seeds (suc (setting.config.servers + i)) (omega arith)) ∙ sym (slice_get_past (fresh_clients setting.clients) i (omega arith))
     ]
 
     pub are_fresh : rest ≡ fresh_clients setting.clients
