@@ -184,9 +184,9 @@ module _ {D : Type 0} (seen : D → List ℕ) (failures : D → ℕ) (armed : Di
   at_each (suc j) = ⊎_elim
       (λ inside. at_server j inside)
       (λ (past : many ≤ j). ⊎_elim
-        (λ (inside : j - many < setting.clients). let is : many + (j - many) ≡ j = omega arith in subst (λ k. slice_get cores (suc k) ≡ slice_get (as_servers ++ as_clients) k) is (at_client (j - many) inside))
-        (λ (out : setting.clients ≤ j - many). at_nothing j (omega arith))
-        (below_or (j - many) setting.clients))
+      (λ (inside : j - many < setting.clients). let is : many + (j - many) ≡ j = omega arith in subst (λ k. slice_get cores (suc k) ≡ slice_get (as_servers ++ as_clients) k) is (at_client (j - many) inside))
+      (λ (out : setting.clients ≤ j - many). at_nothing j (omega arith))
+      (below_or (j - many) setting.clients))
       (below_or j many)
 
   pub are_of : AreOf n cores

@@ -90,7 +90,8 @@ impl<N: Plan, D: Disk + Drop, R: Wait + Clock + Drop> Link for Caller<N, D, R> {
         let asked = self.node.step(&self.rt, self.alloc, &Open, event);
         match asked {
             Ok(Ok(())) => self.wait(),
-            Ok(Err(refusal)) | Err(refusal) => Reply::Refused(refusal),
+            Ok(Err(refusal)) => Reply::Refused(refusal),
+            Err(refusal) => Reply::Refused(refusal),
         }
     }
 }

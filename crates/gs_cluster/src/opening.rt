@@ -35,7 +35,7 @@ pub struct Opened<D: Disk + Drop> {
 }
 
 /// A node with a new channel into it.
-fn seed<D: Disk + Drop>(
+fn seed_of<D: Disk + Drop>(
     alloc: Global,
     me: NodeId,
     core: Role<D>,
@@ -62,7 +62,7 @@ fn seed_master<D: Disk + Drop>(
         Err(unopened) => return Err(unopened.refusal),
     };
     let core = Role::Master(MasterPlace::Standing(master));
-    Ok(seed(alloc, NodeId::Master, core, sent)?)
+    Ok(seed_of(alloc, NodeId::Master, core, sent)?)
 }
 
 /// As many servers as there are, which have heard nothing.
@@ -76,7 +76,7 @@ fn seed_servers<D: Disk + Drop>(
     for number in 0..config.servers {
         let id = ServerId::new(number).unwrap();
         let core = Role::Server(Server::new(alloc, config, id)?);
-        seeds.push(seed(alloc, NodeId::Server(id), core, Vec::new(alloc))?)?;
+        seeds.push(seed_of(alloc, NodeId::Server(id), core, Vec::new(alloc))?)?;
     }
     Ok(())
 }
@@ -92,7 +92,7 @@ fn seed_clients<D: Disk + Drop>(
     for before in 0..many {
         let id = ClientId(before + 1);
         let core = Role::Client(ClientNode::new(id));
-        seeds.push(seed(alloc, NodeId::Client(id), core, Vec::new(alloc))?)?;
+        seeds.push(seed_of(alloc, NodeId::Client(id), core, Vec::new(alloc))?)?;
     }
     Ok(())
 }
