@@ -85,9 +85,10 @@ fn work<N: Plan, C: Core + Drop, R: Wait + Clock, G: Gate>(
             return;
         }
         let may_tick = looks >= LOOKS;
-        match make_step(rt, alloc, gate, &mut *seat.lock(rt), may_tick) {
-            Some(made) => {
-                gate.leave(made.node, made.step);
+        let made = make_step(rt, alloc, gate, &mut *seat.lock(rt), may_tick);
+        match made {
+            Some(Made { node, step }) => {
+                gate.leave(node, step);
                 looks = 0;
             }
             None => {
@@ -104,13 +105,7 @@ pub(crate) fn host<
     C: Core + Drop + Send,
     R: Threads + Wait + Clock + Sync,
     G: Gate + Sync,
->(
-    rt: &R,
-    alloc: Global,
-    gate: &G,
-    end: &AtomicBool,
-    node: Node<N, C>,
-) -> Node<N, C> {
+>(rt: &R, alloc: Global, gate: &G, end: &AtomicBool, node: Node<N, C>) -> Node<N, C> {
     let seat = Mutex::new(node);
     thread::join(
         rt,
