@@ -1,1 +1,2 @@
+mod Hosting
 mod Joining
