@@ -1,3 +1,5 @@
 mod Ears
+mod Hosting
+mod Joining
 mod Matching
 mod Places

@@ -1,4 +1,4 @@
-ghost use Rattle.std.specs.Prelude.{◌≡◌, IfOk, length, vec_len};
+ghost use Rattle.std.specs.Prelude.{◌≡◌, ◌+◌, ◌≤◌, IfOk, OnOk, length, vec_capacity, vec_len};
 ghost use Rattle.gs_cluster_history.specs.Setting.{all_ids};
 ghost use Rattle.gs_cluster_threads.specs.Gathered.{Finished};
 
@@ -45,6 +45,42 @@ fn host_of<
     Ok(handle)
 }
 
+/// Starts a thread for each node, behind those that are there. Where memory or a thread is wanting, no more are started.
+fn host_all<
+    N: Plan + Send + Sync + 'static,
+    C: Core + Drop + Send + 'static,
+    R: Threads + Wait + Clock + Copy + Send + Sync + 'static,
+    G: Gate + Send + Sync + Drop + 'static,
+>(
+    rt: &R,
+    alloc: Global,
+    gate: &Arc<G, Global>,
+    end: &Arc<AtomicBool, Global>,
+    nodes: Vec<Node<N, C>>,
+    handles: &mut Vec<JoinHandle<Node<N, C>>>,
+) -> Result<(), AllocError>
+    requires room { vec_len handles.old + vec_len nodes ≤ vec_capacity handles.old }
+    ensures { OnOk result (vec_len handles.new ≡ vec_len handles.old + vec_len nodes) }
+{
+    for node in nodes {
+        let handle = host_of(rt, alloc, gate, end, node)?;
+        handles.push_reserved(handle);
+    }
+    Ok(())
+}
+
+/// Ends threads, and drops their nodes.
+fn end_all<N: Plan, C: Core + Drop, R: Threads>(
+    rt: &R,
+    end: &AtomicBool,
+    handles: Vec<JoinHandle<Node<N, C>>>,
+) {
+    end.store(true, Ordering::SeqCst);
+    for handle in handles {
+        drop(handle.join(rt));
+    }
+}
+
 impl<N: Plan + Send + Sync + 'static, C: Core + Drop + Send + 'static> Hosts<N, C> {
     /// Starts the threads of nodes. There are this many nodes, with those that stay with their callers. Where memory or a thread is
     /// wanting, those that were started end.
@@ -64,21 +100,18 @@ impl<N: Plan + Send + Sync + 'static, C: Core + Drop + Send + 'static> Hosts<N, 
         let gate = Arc::new(alloc, gate)?;
         let end = Arc::new(alloc, AtomicBool::new(false))?;
         let mut handles = Vec::with_capacity(alloc, nodes.len())?;
-        for node in nodes {
-            match host_of(rt, alloc, &gate, &end, node) {
-                Ok(handle) => handles.push(handle)?,
-                Err(refused) => {
-                    end.store(true, Ordering::SeqCst);
-                    return Err(refused);
-                }
+        match host_all(rt, alloc, &gate, &end, nodes, &mut handles) {
+            Ok(()) => Ok(Hosts {
+                alloc,
+                end,
+                many,
+                handles,
+            }),
+            Err(refused) => {
+                end_all(rt, &end, handles);
+                Err(refused)
             }
         }
-        Ok(Hosts {
-            alloc,
-            end,
-            many,
-            handles,
-        })
     }
 
     /// Ends the threads, and gives what all nodes have come to, those of the callers among them. `Stray` where a caller is missing.
@@ -95,10 +128,14 @@ impl<N: Plan + Send + Sync + 'static, C: Core + Drop + Send + 'static> Hosts<N, 
             many,
             handles,
         } = self;
-        end.store(true, Ordering::SeqCst);
         let mut nodes = callers;
+        let Ok(()) = nodes.reserve(handles.len()) else {
+            end_all(rt, &end, handles);
+            return Err(Refusal::Memory);
+        };
+        end.store(true, Ordering::SeqCst);
         for handle in handles {
-            nodes.push(handle.join(rt))?;
+            nodes.push_reserved(handle.join(rt));
         }
         if nodes.len() != many {
             return Err(Refusal::Stray);

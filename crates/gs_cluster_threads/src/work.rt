@@ -105,13 +105,7 @@ pub(crate) fn host<
     C: Core + Drop + Send,
     R: Threads + Wait + Clock + Sync,
     G: Gate + Sync,
->(
-    rt: &R,
-    alloc: Global,
-    gate: &G,
-    end: &AtomicBool,
-    node: Node<N, C>,
-) -> Node<N, C> {
+>(rt: &R, alloc: Global, gate: &G, end: &AtomicBool, node: Node<N, C>) -> Node<N, C> {
     let seat = Mutex::new(node);
     thread::join(
         rt,

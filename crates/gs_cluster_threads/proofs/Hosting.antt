@@ -1,0 +1,42 @@
+-- What comes back of threads.
+use Rattle.std.proofs.Common.{◌≡◌, ℕ, zero, suc, ◌+◌, ◌≤◌, List, [], ◌∷◌, ◌++◌, length, ap, ◌∙◌, sym, subst, arith}
+use Rattle.std.specs.Prelude.{slice_get}
+use Rattle.std.proofs.lemmas.Option.{none-some}
+use Rattle.gs_msg.specs.declared.message.Message.{Message}
+use Rattle.gs_msg.specs.declared.node.NodeId.{NodeId}
+use Rattle.gs_cluster_history.specs.declared.took.Took.{Took}
+use Rattle.gs_cluster_history.specs.Histories.{Among, Kept, Upshot}
+use Rattle.gs_cluster_threads.specs.Gathered.{IsWhole}
+use Rattle.gs_cluster_threads.specs.declared.gathering.Member.{Member}
+
+-- The callers' nodes are among these, and there is room for those of the threads that are left.
+pub record Ending {C : Type 0} (callers : List (Kept C)) (threads : ℕ) (nodes : List (Kept C)) (many left place : ℕ) : Type 0 where
+  pub among : (k : Kept C) → Among callers k → Among nodes k
+  pub all : many + left ≡ length callers + threads
+  pub room : many + left ≤ place
+
+among_left : {X : Type 0} (xs ys : List X) (x : X) → Among xs x → Among (xs ++ ys) x
+among_left [] ys x (k, h) = absurd (none-some x h)
+among_left (z ∷ xs) ys x (zero, h) = (0, h)
+among_left (z ∷ xs) ys x (suc k, h) = let r = among_left xs ys x (k, h) in (suc r.0, r.1)
+
+pub none_ended : {C : Type 0} (callers : List (Kept C)) (threads : ℕ) (nodes : List (Kept C)) (many left place : ℕ) → nodes ≡ callers → many ≡ length callers → left ≡ threads → many + left ≤ place
+    → Ending callers threads nodes many left place
+none_ended {C} callers threads nodes many left place same long all room = record {
+  among = λ k a. subst (λ (l : List (Kept C)). Among l k) (sym same) a;
+  all = omega arith;
+  room = room;
+}
+
+pub one_ended : {C : Type 0} (callers : List (Kept C)) (threads : ℕ) (nodes new : List (Kept C)) (k : Kept C) (many more left less place room : ℕ) → Ending callers threads nodes many left place
+    → new ≡ nodes ++ k ∷ [] → more ≡ many + 1 → less + 1 ≡ left → room ≡ place → Ending callers threads new more less room
+one_ended {C} callers threads nodes new k many more left less place room e put longer fewer same = record {
+  among = λ x a. subst (λ (l : List (Kept C)). Among l x) (sym put) (among_left nodes (k ∷ []) x (e.among x a));
+  all = (let h = e.all in omega arith);
+  room = (let h = e.room in omega arith);
+}
+
+-- what is whole with all nodes is so with the callers' alone
+pub whole_for : {C : Type 0} (Does : Took → C → Upshot → C → Type 0) (Starts : NodeId → C → List Message → Type 0) (all : List NodeId) (callers nodes : List (Kept C)) (members : List (Member C))
+    → ((k : Kept C) → Among callers k → Among nodes k) → IsWhole Does Starts all nodes members → IsWhole Does Starts all callers members
+whole_for Does Starts all callers nodes members among w = record { nodes = w.nodes; among = λ k a. w.among k (among k a); numbers = w.numbers; kept = w.kept; match = w.match; are = w.are }
