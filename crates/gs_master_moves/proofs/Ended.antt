@@ -1,6 +1,6 @@
 -- Calls that wait are ended one after the other: each still waits when those before it have ended.
 use Rattle.std.proofs.Common.{◌≡◌, ◌∙◌, ◌&&◌, ◌||◌, ◌++◌, ℕ, Bool, true, false, not, cond, filter, List, [], ◌∷◌, refl, ap, sym}
-use Rattle.std.specs.Prelude.{flat_map, Option, Some, None, Ok, Err, if◌then◌else◌}
+use Rattle.std.specs.Prelude.{flat_map, Some, Err, if◌then◌else◌}
 use Rattle.std.specs.FinMap as fin
 use Rattle.std.specs.List.{AllByRecursion, list_all}
 use Rattle.std.proofs.lemmas.Bool.{false≢true, true≢false, and_parts}

@@ -1,9 +1,9 @@
 -- An event that refuses a request makes no edit for it, neither before nor behind the refusal.
-use Rattle.std.proofs.Common.{◌≡◌, ◌⊎◌, inl, inr, ◌∙◌, arith, ◌&&◌, ◌||◌, ◌++◌, ◌+◌, ◌==◌, ℕ, Bool, true, false, not, cond, List, [], ◌∷◌, map, refl, ap, sym, subst}
+use Rattle.std.proofs.Common.{◌≡◌, ◌⊎◌, inl, inr, ◌∙◌, arith, ◌&&◌, ◌||◌, ◌++◌, ◌+◌, ◌==◌, ℕ, Bool, true, false, not, cond, List, [], ◌∷◌, refl, ap, sym, subst}
 use Rattle.std.specs.Prelude.{fold, nat_lt, is_some, option_and_then, Option, Some, None, Result, Ok, Err, if◌then◌else◌}
 use Rattle.std.specs.Cmp.{tied_itself}
 use Rattle.std.specs.FinMap as fin
-use Rattle.std.specs.List.{AllByRecursion, list_all, list_any}
+use Rattle.std.specs.List.{list_any}
 use Rattle.std.specs.Ordering.{eq_by_cmp, is_eq}
 use Rattle.std.proofs.lemmas.Bool.Decides.{nat_tests}
 use Rattle.std.proofs.lemmas.Bool.{false≢true, true≢false, and_parts}
@@ -11,7 +11,6 @@ use Rattle.gs_base.specs.Members.{count_from}
 use Rattle.gs_base.specs.declared.config.Config.{Config}
 use Rattle.gs_base.specs.declared.epoch.EpochEnd.{EpochEnd}
 use Rattle.gs_base.specs.declared.epoch.EpochEnd.TheVariants as ends
-use Rattle.gs_base.specs.declared.numbers.ClientId.{ClientId}
 use Rattle.gs_base.specs.declared.numbers.ReqId.{ReqId}
 use Rattle.gs_base.specs.declared.refusal.Refusal.{Refusal}
 use Rattle.gs_edit.specs.View.{NamesView}
@@ -46,11 +45,11 @@ use Rattle.gs_master_laws.specs.Promises.{AllFit}
 use Rattle.gs_master_laws.specs.Standing.{IsOver, turn_of, was_answered}
 use Rattle.gs_master_moves.proofs.Ended.{changes_leave, ended_pending, has_ended, said_leave}
 use Rattle.gs_master_moves.proofs.Made.{events_are_chains}
-use Rattle.gs_master_moves.proofs.Over.{called_other, changes_keep, chained_over, durable_over, editor_tells, end_keeps, memory_over, move_over, others_edit, replies_over, said_tells, same_in, tells, then_keeps, any_both}
+use Rattle.gs_master_moves.proofs.Over.{called_other, changes_keep, chained_over, editor_tells, end_keeps, move_over, others_edit, replies_over, said_tells, same_in, tells, any_both}
 use Rattle.gs_master_moves.specs.Guards.{AreSaidAgain, Heard, IsCalled, IsMade, IsRefusable, IsSaidAgain, WasReplied, hears_call, is_of_tree}
 use Rattle.gs_master_moves.specs.Laws.{heard_in, met_in}
 use Rattle.gs_master_moves.specs.Moves.{Alone, Chain, FromNow, Further, Move, Moves, Rests, Then, Begins, Makes, Copies, Hears, Sends, Settles, Edits, Extends, CopiesTree, Replaces, Scans, Refuses, Answers as AnswersCall, Waits, Restores, Says, Flags, Prepares, Finalizes, BeginsRollback, TellsRollback, CommitsRollback, Checkpoints, move_turn}
-use Rattle.gs_master_moves.specs.Over.{IsOverBy, IsRefusedBy, RefusedMakesNoEdit, is_refused_in, refuses, tells_edit_of}
+use Rattle.gs_master_moves.specs.Over.{IsRefusedBy, RefusedMakesNoEdit, is_refused_in, refuses}
 
 -- ---- a request whose edit a record tells isn't refused by what records tell
 
