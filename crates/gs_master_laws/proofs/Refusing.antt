@@ -41,7 +41,7 @@ use Rattle.std.specs.Cmp.{tied_itself}
 use Rattle.std.specs.Ordering.{is_eq}
 use Rattle.gs_master_state.proofs.Tracking.{client_total}
 use Rattle.gs_master_laws.specs.Promises.{FitsAndKeeps, IsKept, LeavesAll, RefusedFits, RefusedLeavesAll, with_kept, with_said}
-use Rattle.gs_master_laws.specs.Standing.{IsOver, OverMakeNothing, RefusedAreOver, was_answered}
+use Rattle.gs_master_laws.specs.Standing.{IsOver, OlderAreOver, OverMakeNothing, RefusedAreOver, was_answered}
 use Rattle.gs_master_laws.proofs.KeptRecords.{said_kept}
 use Rattle.gs_master_laws.proofs.Standing.{now_answered}
 use Rattle.gs_master_spec.specs.Settling.{requests_of}
@@ -114,7 +114,7 @@ said_left true false s req refusal = record { left = inr (inr (refl, refl)); sen
 said_left false room s req refusal = record { left = inl (refl, refl); sent = refl }
 
 -- one that is kept in memory is the last reply
-kept_answered : (d : Durable) (v : Volatile) (req : ReqId) (result : Result Answer Refusal) → was_answered d (record v { replies = fin.insert v.replies req.client (record { number = req.number; result = result }) }) req ≡ true
+pub kept_answered : (d : Durable) (v : Volatile) (req : ReqId) (result : Result Answer Refusal) → was_answered d (record v { replies = fin.insert v.replies req.client (record { number = req.number; result = result }) }) req ≡ true
 kept_answered d v req result =
     ap (λ o. not (is_later (later (fin.get d.replies req.client) o) req.number)) (fin.get-insert client_total v.replies req.client (record { number = req.number; result = result }) req.client)
     ∙ ap (λ o. not (is_later (later (fin.get d.replies req.client) (cond (is_eq o) (Some (record { number = req.number; result = result })) (fin.get v.replies req.client))) req.number)) (tied_itself client_total req.client)
@@ -461,6 +461,29 @@ refused_are_over config s req moment call refusal some kept =
       answered = k.over kept;
       rests = ap (λ ps. is_pending ps req) (left_waiting s req refusal (call_turn config s req moment call) k.left) ∙ refused_rests config s req moment call refusal some kept;
     }
+
+pub older_are_over : OlderAreOver
+older_are_over config s req moment call reply opened rests has less = record {
+  said = ap (λ (t : Turn). t.said) is;
+  over = subst (λ (t : Turn). IsOver t.after.durable t.after.volatile req) (sym is) (record { answered = ap (λ o. not (is_later o req.number)) has ∙ not_less reply.number req.number less; rests = rests });
+}
+  where
+    not_less : (a b : ℕ) → nat_lt b a ≡ true → not (nat_lt a b) ≡ true
+    not_less a b h = grind (arith, nat_tests)
+
+    differs : (a b : ℕ) → nat_lt b a ≡ true → (a == b) ≡ false
+    differs a b h = grind (arith, nat_tests)
+
+    taken : Turn
+    taken = taken_as config s req moment call (numbered (last_reply s req.client) req.number)
+
+    is : call_turn config s req moment call ≡ replied_again s req (Err refusals.Old)
+    is =
+        ap (λ b. if b then replied_again s req (Err refusals.Device) else (if is_pending s.volatile.pending req then waits_still s req else taken)) opened
+        ∙ ap (λ b. if b then waits_still s req else taken) rests
+        ∙ ap (λ o. taken_as config s req moment call (numbered o req.number)) has
+        ∙ ap (λ b. taken_as config s req moment call (if b then Again reply.result else if nat_lt req.number reply.number then Older else New)) (differs reply.number req.number less)
+        ∙ ap (λ b. taken_as config s req moment call (if b then Older else New)) less
 
 abbrev MakesNothing : State → Turn → Type 0
 MakesNothing s t = (t.records ≡ []) × (t.after ≡ s)

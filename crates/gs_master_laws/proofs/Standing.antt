@@ -94,7 +94,7 @@ told_more r (Some q) (Some w) n new was = by_tests (nat_lt q.number w.number) re
 abbrev pub StaysAnswered : Durable → Volatile → Durable → Volatile → Type 0
 StaysAnswered d v e w = (req : ReqId) → was_answered d v req ≡ true → was_answered e w req ≡ true
 
-same_client : (a b : ClientId) → eq_by_cmp client_cmp a b ≡ true → a ≡ b
+pub same_client : (a b : ClientId) → eq_by_cmp client_cmp a b ≡ true → a ≡ b
 same_client a b h = let e : a.0 ≡ b.0 = same_key a.0 b.0 h in (λ i. record { 0 = e i })
 
 pub kept_answers : (d : Durable) (v : Volatile) (client : ClientId) (reply : KeptReply) → is_later (later (fin.get d.replies client) (fin.get v.replies client)) reply.number ≡ true

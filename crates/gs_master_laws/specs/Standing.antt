@@ -1,5 +1,5 @@
 -- What stands of a whole master: of what it keeps, of what it asks for chunks, and of the calls that wait. So it is over every run.
-use Rattle.std.specs.Prelude.{◌≡◌, ◌≤◌, ◌||◌, ℕ, Bool, true, false, not, is_some, List, [], Option, Some, None, Ok}
+use Rattle.std.specs.Prelude.{◌≡◌, ◌≤◌, ◌||◌, ℕ, Bool, true, false, not, nat_lt, is_some, List, [], Option, Some, None, Ok}
 use Rattle.std.specs.FinMap as fin
 use Rattle.std.specs.List.{list_all, AllByRecursion}
 use Rattle.gs_base.specs.Members.{is_member}
@@ -8,6 +8,7 @@ use Rattle.gs_base.specs.declared.config.Config.{Config}
 use Rattle.gs_base.specs.declared.numbers.Moment.{Moment}
 use Rattle.gs_base.specs.declared.numbers.ReqId.{ReqId}
 use Rattle.gs_base.specs.declared.refusal.Refusal.{Refusal}
+use Rattle.gs_base.specs.declared.refusal.Refusal.TheVariants as refusals
 use Rattle.gs_lease.specs.Transitions.{is_for_lease}
 use Rattle.gs_lease.specs.declared.view.Purpose.{Purpose}
 use Rattle.gs_lease.specs.declared.view.Purpose.TheVariants as purposes
@@ -25,10 +26,11 @@ use Rattle.gs_master_spec.specs.Durable.{Durable, is_given, is_listed, is_ordina
 use Rattle.gs_master_spec.specs.Replies.{is_later, later}
 use Rattle.gs_master_state.specs.Sane.{are_apart, is_waited_by, makes, may_wait_for}
 use Rattle.gs_master_spec.specs.Handling.{call_turn, checkpoint, fresh, handle, recover, reopened, restarted, tick}
-use Rattle.gs_master_spec.specs.State.{State, Log, Turn, for_each, is_kept}
+use Rattle.gs_master_spec.specs.State.{State, Log, Turn, for_each, is_kept, is_unopened, last_reply}
 use Rattle.gs_master_spec.specs.Volatile.{Volatile, is_call, is_pending, paths_of}
 use Rattle.gs_master_spec.specs.declared.asking.Asking.{Asking}
 use Rattle.gs_master_spec.specs.declared.pending.Pending.{Pending}
+use Rattle.gs_master_spec.specs.declared.reply.KeptReply.{KeptReply}
 use Rattle.gs_master_spec.specs.declared.pending.Waiting.{Waiting}
 use Rattle.gs_master_spec.specs.declared.pending.Waiting.TheVariants as waits
 use Rattle.gs_master_laws.specs.Promises.{AllFit, CanGoOn, IsKept}
@@ -67,6 +69,14 @@ pub record IsOver (d : Durable) (v : Volatile) (req : ReqId) : Type 0 where
 abbrev pub RefusedAreOver : Type 0
 RefusedAreOver = (config : Config) (s : State) (req : ReqId) (moment : Moment) (call : Call) (refusal : Refusal) → (call_turn config s req moment call).said ≡ Some refusal → is_kept refusal ≡ true →
     IsOver (call_turn config s req moment call).after.durable (call_turn config s req moment call).after.volatile req
+
+-- A call whose number is below that of the last reply to its client is refused so, where the journal was opened and it doesn't wait; and it is over.
+pub record IsOlder (config : Config) (s : State) (req : ReqId) (moment : Moment) (call : Call) : Type 0 where
+  pub said : (call_turn config s req moment call).said ≡ Some refusals.Old
+  pub over : IsOver (call_turn config s req moment call).after.durable (call_turn config s req moment call).after.volatile req
+
+abbrev pub OlderAreOver : Type 0
+OlderAreOver = (config : Config) (s : State) (req : ReqId) (moment : Moment) (call : Call) (reply : KeptReply) → is_unopened s.fault ≡ false → is_pending s.volatile.pending req ≡ false → last_reply s req.client ≡ Some reply → nat_lt req.number reply.number ≡ true → IsOlder config s req moment call
 
 -- A call that comes again once it is over changes nothing: it has no record.
 abbrev pub OverMakeNothing : Type 0

@@ -18,7 +18,7 @@ ghost use Rattle.gs_master_laws.specs.Promises.{AllMessagesFit, AnswersExactly, 
 ghost use Rattle.gs_master_laws.specs.Reached.{DisksHold, DisksHoldAtPlaces, DisksHoldAtStepPlaces, OpensFirm, RecoversFirm, RollsBackThrough, RunsRecoverFromLast, SameFromLast};
 ghost use Rattle.gs_master_laws.specs.Resting.{PreparesExactly, TakesPrepares};
 ghost use Rattle.gs_master_laws.specs.Rooms.{LogsStayWithin, MessagesCopyStill, MessagesCounted, MessagesHaveRoom, OthersLeave, RestartsForget, RunsStayWithin, StepsHaveRoom, StepsLeave, TellsAdd, TellsOf, TellsSince, TicksCopyStill, TicksCounted, TicksHaveRoom, TicksLeave};
-ghost use Rattle.gs_master_laws.specs.Standing.{EventsFit, FirmGoesOn, OverMakeNothing, RefusedAreOver, RunsFit, RunsRecover, StartsFirm};
+ghost use Rattle.gs_master_laws.specs.Standing.{EventsFit, FirmGoesOn, OlderAreOver, OverMakeNothing, RefusedAreOver, RunsFit, RunsRecover, StartsFirm};
 ghost use Rattle.gs_master_laws.specs.Written.{AllStepsWritten, AllStepsWrittenAtPlaces, CheckpointsWritten, EventsWritten, EventsWrittenAtPlaces, MessagesWritten, RunsWritten, StartsSteady, StepsWritten};
 ghost use Rattle.gs_master_spec.specs.Undoing.{EditsAsTold};
 
@@ -68,9 +68,10 @@ pub fn a_refused_call_leaves_all_but_its_reply()
 {}
 
 /// A call is over where it, or a later one of its client, has been answered, and it doesn't wait. So it is behind the event that refuses it, but for a disk that has failed, a
-/// number that is too old, and want of memory; and where it comes again it changes nothing then.
+/// number that is too old, and want of memory. One whose number is below that of the last reply to its client is refused so (19), and over too. And where it comes again it changes nothing then.
 pub fn a_call_that_was_answered_is_over()
     ensures refused { RefusedAreOver }
+    ensures older { OlderAreOver }
     ensures again { OverMakeNothing }
 {}
 

@@ -34,8 +34,9 @@ use Rattle.gs_master_spec.specs.Durable.{Settled, is_given, is_listed, is_rollin
 use Rattle.gs_master_spec.specs.Settling.{is_quiet_at, source_chunks}
 use Rattle.gs_master_spec.specs.State.{State, Plan, Turn, turned, and_then, if_room, joined, refused, all_ended_by}
 use Rattle.gs_master_spec.specs.Undoing.{edited_names}
-use Rattle.gs_master_spec.specs.Working.{ascending, begins, begins_new, may_use, leased, copied_on_write, written_at, found_for_writing, created_on, extended_at, extends, unquiet, is_wanted_at, begin_pending, begins_snapshot, snapshot_if, replicated_to, replicates_chunk, replicates_most, scanned, scan_plan, waiting_for, removed_paths, forgotten_chunks, put_handles}
+use Rattle.gs_master_spec.specs.Working.{ascending, begins, begins_new, may_use, leased, copied_on_write, written_at, found_for_writing, created_on, extended_at, extends, unquiet, is_wanted_at, begin_pending, begins_snapshot, snapshot_if, replicated_to, replicates_chunk, replicates_most, scanned, scan_plan, waiting_for, waits_for_any, removed_paths, forgotten_chunks, put_handles}
 use Rattle.gs_master_spec.specs.Volatile.{is_pending}
+use Rattle.gs_master_spec.specs.declared.pending.Pending.{Pending}
 use Rattle.gs_master_spec.specs.declared.pending.Waiting.{Waiting}
 use Rattle.gs_master_spec.specs.declared.pending.Waiting.TheVariants as waits
 use Rattle.std.specs.Cmp.{nat_cmp_total, tied_itself}
@@ -50,8 +51,9 @@ use Rattle.gs_master_laws.proofs.AcceptedViews.{ascending_all, fewer_rows, or_le
 use Rattle.gs_master_laws.proofs.StandingCalls.{all_placed, found_placed, is_placed}
 use Rattle.gs_master_moves.proofs.Chains.{Chained, Turned, all_begun_chain, answered_chain, closing_chain, is_located, joined_together, looked_chain, refused_chain, room_chain, room_turned, test_chain, test_turned, then_chain, within}
 use Rattle.gs_master_moves.specs.Epochs.{ByItself, Closes}
+use Rattle.gs_master_moves.proofs.Ended.{some_pending}
 use Rattle.gs_master_moves.proofs.Free.{alone_free, found_here, shared_free}
-use Rattle.gs_master_moves.specs.Guards.{IsCalled, IsFree, IsOpenAt, Heard, IsNext, TakesPlace, is_location, is_of_tree, is_still_for, moved_by}
+use Rattle.gs_master_moves.specs.Guards.{IsCalled, IsFree, IsOpenAt, IsRefusable, Heard, IsNext, TakesPlace, is_location, is_of_tree, is_still_for, moved_by}
 use Rattle.gs_master_moves.specs.Moves.{FromNow, Moves, Then, Begins, Makes, Copies, Edits, Scans, Waits, Answers as AnswersCall}
 use Rattle.gs_master_state.proofs.Renames.{resolved_does}
 
@@ -202,8 +204,8 @@ module _ (config : Config) (heard : Heard) where
   -- ---- calls of the tree
 
   edit_chain : (s : State) (req : ReqId) (edit : PlainEdit) (answer : Answer) → is_of_tree edit ≡ true → is_still_for s edit ≡ true → is_location answer ≡ false → IsFree s req [] (moved_by edit) → IsCalled heard s req → (names : Result NamesView Refusal) → edited_names edit s.durable.names ≡ names → Chained config heard s (edit_if s req edit answer names)
-  edit_chain s req edit answer tree still plain free called (Ok names) e = room_chain config heard s req (turned s (accept_plan req edit answer)) (Moves s (Edits req edit answer) None (record { called = called; edits = (names, e); tree = tree; still = still; answers = plain; free = free }))
-  edit_chain s req edit answer tree still plain free called (Err refusal) e = refused_chain config heard s req refusal
+  edit_chain s req edit answer tree still plain free called (Ok names) e = room_chain config heard s req (called, free.new) (turned s (accept_plan req edit answer)) (Moves s (Edits req edit answer) None (record { called = called; edits = (names, e); tree = tree; still = still; answers = plain; free = free }))
+  edit_chain s req edit answer tree still plain free called (Err refusal) e = refused_chain config heard s req (called, free.new) refusal
 
   edited_chain : (s : State) (req : ReqId) (edit : PlainEdit) (answer : Answer) → is_of_tree edit ≡ true → is_still_for s edit ≡ true → is_location answer ≡ false → IsFree s req [] (moved_by edit) → IsCalled heard s req → Chained config heard s (edited_by s req edit answer)
   edited_chain s req edit answer tree still plain free called = edit_chain s req edit answer tree still plain free called (edited_names edit s.durable.names) refl
@@ -213,10 +215,10 @@ module _ (config : Config) (heard : Heard) where
       let hides = edited_by s req (Hide path moment.0 s.durable.next_hidden) (answers.Path (hidden_path path moment.0 s.durable.next_hidden)) in
       let third = if s.durable.next_hidden == 0 then refused s req refusals.Exhausted else hides in
       let second = if not recursive && has_visible_child (fin.entries s.durable.names.tree) path then refused s req refusals.NotEmpty else third in
-      test_chain config heard s (same_path path []) (refused s req refusals.IsRoot) _ (λ _. refused_chain config heard s req refusals.IsRoot)
+      test_chain config heard s (same_path path []) (refused s req refusals.IsRoot) _ (λ _. refused_chain config heard s req (called, free.new) refusals.IsRoot)
       (λ _. test_chain config heard s (is_none (fin.get s.durable.names.tree path)) _ second (λ _. answered_chain config heard s req answers.Absent refl)
-      (λ _. test_chain config heard s (not recursive && has_visible_child (fin.entries s.durable.names.tree) path) (refused s req refusals.NotEmpty) third (λ _. refused_chain config heard s req refusals.NotEmpty)
-      (λ _. test_chain config heard s (s.durable.next_hidden == 0) (refused s req refusals.Exhausted) hides (λ _. refused_chain config heard s req refusals.Exhausted)
+      (λ _. test_chain config heard s (not recursive && has_visible_child (fin.entries s.durable.names.tree) path) (refused s req refusals.NotEmpty) third (λ _. refused_chain config heard s req (called, free.new) refusals.NotEmpty)
+      (λ _. test_chain config heard s (s.durable.next_hidden == 0) (refused s req refusals.Exhausted) hides (λ _. refused_chain config heard s req (called, free.new) refusals.Exhausted)
       (λ _. edited_chain s req (Hide path moment.0 s.durable.next_hidden) (answers.Path (hidden_path path moment.0 s.durable.next_hidden)) refl refl refl free called))))
 
   -- ---- look-ups
@@ -232,12 +234,12 @@ module _ (config : Config) (heard : Heard) where
   status_plain s (Some (File chunks)) = refl
 
   -- Where a chunk of a file is looked up, the answer is a turn by itself.
-  pub located_turned : (s : State) (req : ReqId) → IsCalled heard s req → (chunk : Result ℕ Refusal) → is_rolling s.durable.phase ≡ false → ((c : ℕ) → chunk ≡ Ok c → is_listed s.durable c ≡ true) → Turned config heard s (looked_up s req (location s.durable chunk))
-  located_turned s req called (Err refusal) calm listed = within config heard (refused_chain config heard s req refusal)
-  located_turned s req called (Ok chunk) calm listed = by_view (view_in (fin.get s.durable.chunks chunk)) refl
+  pub located_turned : (s : State) (req : ReqId) → IsCalled heard s req → is_pending s.volatile.pending req ≡ false → (chunk : Result ℕ Refusal) → is_rolling s.durable.phase ≡ false → ((c : ℕ) → chunk ≡ Ok c → is_listed s.durable c ≡ true) → Turned config heard s (looked_up s req (location s.durable chunk))
+  located_turned s req called new (Err refusal) calm listed = within config heard (refused_chain config heard s req (called, new) refusal)
+  located_turned s req called new (Ok chunk) calm listed = by_view (view_in (fin.get s.durable.chunks chunk)) refl
     where
       by_view : (o : Option View) → view_in (fin.get s.durable.chunks chunk) ≡ o → Turned config heard s (looked_up s req (location_on chunk s.durable.epoch o))
-      by_view None is = within config heard (refused_chain config heard s req refusals.NoReplica)
+      by_view None is = within config heard (refused_chain config heard s req (called, new) refusals.NoReplica)
       by_view (Some view) is = ByItself s (AnswersCall req (answers.Location chunk view s.durable.epoch) false) None (record { settled = is; now = refl; listed = listed chunk refl; calm = calm }, tt, called) refl
 
   -- a chunk that was found in a file is listed
@@ -246,23 +248,23 @@ module _ (config : Config) (heard : Heard) where
 
   -- ---- calls that begin views
 
-  begins_chain : (s : State) (req : ReqId) (plan : Plan) (waiting : Waiting) → Chained config heard s (turned s (waits_from_now plan req waiting)) → Chained config heard s (begins s req plan waiting)
-  begins_chain s req plan waiting a =
-      test_chain config heard s (not (has_versions s.durable 1)) (refused s req refusals.Exhausted) (if_room s (turned s (waits_from_now plan req waiting)) (refused s req refusals.Full)) (λ _. refused_chain config heard s req refusals.Exhausted)
-      (λ _. room_chain config heard s req (turned s (waits_from_now plan req waiting)) a)
+  begins_chain : (s : State) (req : ReqId) → IsRefusable heard s req false → (plan : Plan) (waiting : Waiting) → Chained config heard s (turned s (waits_from_now plan req waiting)) → Chained config heard s (begins s req plan waiting)
+  begins_chain s req may plan waiting a =
+      test_chain config heard s (not (has_versions s.durable 1)) (refused s req refusals.Exhausted) (if_room s (turned s (waits_from_now plan req waiting)) (refused s req refusals.Full)) (λ _. refused_chain config heard s req may refusals.Exhausted)
+      (λ _. room_chain config heard s req may (turned s (waits_from_now plan req waiting)) a)
 
-  begins_new_chain : (s : State) (req : ReqId) (plan : Plan) (waiting : Waiting) → Chained config heard s (turned s (waits_from_now plan req waiting)) → Chained config heard s (begins_new s req plan waiting)
-  begins_new_chain s req plan waiting a =
-      test_chain config heard s (not (has_handle s.durable)) (refused s req refusals.Exhausted) (begins s req plan waiting) (λ _. refused_chain config heard s req refusals.Exhausted) (λ _. begins_chain s req plan waiting a)
+  begins_new_chain : (s : State) (req : ReqId) → IsRefusable heard s req false → (plan : Plan) (waiting : Waiting) → Chained config heard s (turned s (waits_from_now plan req waiting)) → Chained config heard s (begins_new s req plan waiting)
+  begins_new_chain s req may plan waiting a =
+      test_chain config heard s (not (has_handle s.durable)) (refused s req refusals.Exhausted) (begins s req plan waiting) (λ _. refused_chain config heard s req may refusals.Exhausted) (λ _. begins_chain s req may plan waiting a)
 
   leased_turned : (s : State) (req : ReqId) → IsCalled heard s req → (path : Path) (index : ℕ) (stamp : Option Stamp) (moment : Moment) (chunk : ℕ) (c : Chunk) → IsOpenAt s req chunk → is_pending s.volatile.pending req ≡ false → has_entry s chunk ≡ true → is_shared s.durable.names chunk ≡ false → is_rolling s.durable.phase ≡ false → is_listed s.durable chunk ≡ true
       → Turned config heard s (leased s req path index stamp moment chunk c)
   leased_turned s req called path index stamp moment chunk c clear new known alone calm listed =
       let begin = begins s req (begin_at s chunk purposes.Lease (Some req)) (waits.Lease path index chunk) in
       test_turned config heard s (is_leased c && may_use stamp moment (view_of c)) (looked_up s req (location s.durable (Ok chunk))) (if is_wanted c then refused s req refusals.Locked else begin)
-      (λ _. located_turned s req called (Ok chunk) calm (λ b is. ap (is_listed s.durable) (sym (same chunk b is)) ∙ listed))
-      (λ _. within config heard (test_chain config heard s (is_wanted c) (refused s req refusals.Locked) begin (λ _. refused_chain config heard s req refusals.Locked)
-      (λ _. begins_chain s req (begin_at s chunk purposes.Lease (Some req)) (waits.Lease path index chunk) (Moves s (Begins chunk purposes.Lease (Some req) (FromNow req (waits.Lease path index chunk))) None (record { known = known; alone = alone; elsewhere = tt; called = called; clear = clear; begun = (new, tt) })))))
+      (λ _. located_turned s req called new (Ok chunk) calm (λ b is. ap (is_listed s.durable) (sym (same chunk b is)) ∙ listed))
+      (λ _. within config heard (test_chain config heard s (is_wanted c) (refused s req refusals.Locked) begin (λ _. refused_chain config heard s req (called, new) refusals.Locked)
+      (λ _. begins_chain s req (called, new) (begin_at s chunk purposes.Lease (Some req)) (waits.Lease path index chunk) (Moves s (Begins chunk purposes.Lease (Some req) (FromNow req (waits.Lease path index chunk))) None (record { known = known; alone = alone; elsewhere = tt; called = called; clear = clear; begun = (new, tt) })))))
     where
       same : (a b : ℕ) → ◌≡◌ {A = Result ℕ Refusal} (Ok a) (Ok b) → a ≡ b
       same a b h = cc
@@ -275,16 +277,16 @@ module _ (config : Config) (heard : Heard) where
       (λ alone. leased_turned s req called path index stamp moment chunk c (record { path = path; index = index; here = here; clear = inl (alone_free s req path index chunk here alone free) }) free.new known alone calm listed)
     where
       by_view : TakesPlace s req path index chunk → (o : Option Settled) → fin.get s.durable.chunks chunk ≡ o → let c : Chunk = record { settled = o; asking = fin.get s.volatile.moving chunk } in Chained config heard s (copied_on_write s req path index chunk c (view_of c))
-      by_view takes None is = refused_chain config heard s req refusals.NoReplica
+      by_view takes None is = refused_chain config heard s req (called, takes.free.new) refusals.NoReplica
       by_view takes (Some x) is =
           let c : Chunk = record { settled = Some x; asking = fin.get s.volatile.moving chunk } in
           let copy = waits.Copy path index chunk s.durable.next_handle in
           let begins_copy = begins_new s req (copy_plan (next_stamp s.durable) chunk x.view s.durable.next_handle req) copy in
           let begins_quiet = begins s req (begin_at s chunk purposes.Quiet (Some req)) (waits.Quiet path index chunk) in
-          test_chain config heard s (is_wanted c) (refused s req refusals.Locked) (if is_quiet c then begins_copy else begins_quiet) (λ _. refused_chain config heard s req refusals.Locked)
+          test_chain config heard s (is_wanted c) (refused s req refusals.Locked) (if is_quiet c then begins_copy else begins_quiet) (λ _. refused_chain config heard s req (called, takes.free.new) refusals.Locked)
           (λ _. test_chain config heard s (is_quiet c) begins_copy begins_quiet
           (λ quiet. let parts = quiet_parts x.is_moving (is_some (fin.get s.volatile.moving chunk)) (is_none x.view.term) quiet in
-          begins_new_chain s req (copy_plan (next_stamp s.durable) chunk x.view s.durable.next_handle req) copy
+          begins_new_chain s req (called, takes.free.new) (copy_plan (next_stamp s.durable) chunk x.view s.durable.next_handle req) copy
           (Moves s (Copies chunk x.view req (FromNow req copy)) None (
             record {
               known = known;
@@ -297,36 +299,36 @@ module _ (config : Config) (heard : Heard) where
             called,
             (refl, refl, takes),
           )))
-          (λ _. begins_chain s req (begin_at s chunk purposes.Quiet (Some req)) (waits.Quiet path index chunk) (Moves s (Begins chunk purposes.Quiet (Some req) (FromNow req (waits.Quiet path index chunk))) None (record { known = known; alone = tt; elsewhere = tt; called = called; clear = tt; begun = (takes.free.new, (refl, takes)) }))))
+          (λ _. begins_chain s req (called, takes.free.new) (begin_at s chunk purposes.Quiet (Some req)) (waits.Quiet path index chunk) (Moves s (Begins chunk purposes.Quiet (Some req) (FromNow req (waits.Quiet path index chunk))) None (record { known = known; alone = tt; elsewhere = tt; called = called; clear = tt; begun = (takes.free.new, (refl, takes)) }))))
 
   pub found_turned : (s : State) (req : ReqId) → IsCalled heard s req → (path : Path) (index : ℕ) (stamp : Option Stamp) (moment : Moment) (chunk : Result ℕ Refusal) → is_visible path ≡ true
       → IsFree s req (path ∷ []) (if is_shared_in s.durable.names (slice_get (chunks_at s.durable.names path) index) then path ∷ [] else []) → IsKept s.durable → is_rolling s.durable.phase ≡ false → found_chunk (fin.get s.durable.names.tree path) index ≡ chunk
       → Turned config heard s (found_for_writing s req path index stamp moment chunk)
   unfolding chunk_at
-  found_turned s req called path index stamp moment (Err refusal) visible free k calm is = within config heard (refused_chain config heard s req refusal)
+  found_turned s req called path index stamp moment (Err refusal) visible free k calm is = within config heard (refused_chain config heard s req (called, free.new) refusal)
   found_turned s req called path index stamp moment (Ok chunk) visible free k calm is = by_entry (has_entry s chunk) refl
     where
       by_entry : (b : Bool) → has_entry s chunk ≡ b → Turned config heard s (written_at s req path index stamp moment chunk (if b then Some (record { settled = fin.get s.durable.chunks chunk; asking = fin.get s.volatile.moving chunk }) else None))
       by_entry true known = written_turned s req called path index stamp moment chunk (fin.get s.durable.chunks chunk) (found_here (fin.get s.durable.names.tree path) index chunk is) visible free k refl known calm (found_listed s path index chunk k is)
-      by_entry false known = within config heard (refused_chain config heard s req refusals.NoReplica)
+      by_entry false known = within config heard (refused_chain config heard s req (called, free.new) refusals.NoReplica)
 
   created_chain : (s : State) (req : ReqId) → IsCalled heard s req → is_pending s.volatile.pending req ≡ false → (path : Path) (targets : Option (List ℕ)) → IsKept s.durable → Chained config heard s (created_on s req path targets)
-  created_chain s req called new path None k = refused_chain config heard s req refusals.NoServer
+  created_chain s req called new path None k = refused_chain config heard s req (called, new) refusals.NoServer
   created_chain s req called new path (Some targets) k =
-      begins_new_chain s req (create_plan (next_stamp s.durable) s.durable.next_handle targets req) (waits.Extend path s.durable.next_handle) (Moves s (Makes targets req path) None (next_is s k, called, new))
+      begins_new_chain s req (called, new) (create_plan (next_stamp s.durable) s.durable.next_handle targets req) (waits.Extend path s.durable.next_handle) (Moves s (Makes targets req path) None (next_is s k, called, new))
 
   extended_turned : (s : State) (req : ReqId) → IsCalled heard s req → is_pending s.volatile.pending req ≡ false → (path : Path) (chunks : List ℕ) (index : ℕ) → IsKept s.durable → is_rolling s.durable.phase ≡ false → fin.get s.durable.names.tree path ≡ Some (File chunks) → Turned config heard s (extended_at config s req path chunks index)
   extended_turned s req called new path chunks index k calm is =
       let makes = created_on s req path (targets_for config (counted_views s) [] config.replicas) in
       test_turned config heard s (nat_lt index (length chunks)) (looked_up s req (location s.durable (found_chunk (Some (File chunks)) index)))
       (if nat_lt (length chunks) index || nat_le most_chunks index then refused s req refusals.Range else makes)
-      (λ _. located_turned s req called (found_chunk (Some (File chunks)) index) calm (λ c found. found_listed s path index c k (ap (λ o. found_chunk o index) is ∙ found)))
-      (λ _. within config heard (test_chain config heard s (nat_lt (length chunks) index || nat_le most_chunks index) (refused s req refusals.Range) makes (λ _. refused_chain config heard s req refusals.Range)
+      (λ _. located_turned s req called new (found_chunk (Some (File chunks)) index) calm (λ c found. found_listed s path index c k (ap (λ o. found_chunk o index) is ∙ found)))
+      (λ _. within config heard (test_chain config heard s (nat_lt (length chunks) index || nat_le most_chunks index) (refused s req refusals.Range) makes (λ _. refused_chain config heard s req (called, new) refusals.Range)
       (λ _. created_chain s req called new path (targets_for config (counted_views s) [] config.replicas) k)))
 
   pub extends_turned : (s : State) (req : ReqId) → IsCalled heard s req → is_pending s.volatile.pending req ≡ false → (path : Path) (index : ℕ) (entry : Option (Entry ℕ)) → IsKept s.durable → is_rolling s.durable.phase ≡ false → fin.get s.durable.names.tree path ≡ entry → Turned config heard s (extends config s req path index entry)
-  extends_turned s req called new path index None k calm is = within config heard (refused_chain config heard s req refusals.NotFound)
-  extends_turned s req called new path index (Some Dir) k calm is = within config heard (refused_chain config heard s req refusals.IsADirectory)
+  extends_turned s req called new path index None k calm is = within config heard (refused_chain config heard s req (called, new) refusals.NotFound)
+  extends_turned s req called new path index (Some Dir) k calm is = within config heard (refused_chain config heard s req (called, new) refusals.IsADirectory)
   extends_turned s req called new path index (Some (File chunks)) k calm is = extended_turned s req called new path chunks index k calm is
 
   snapshot_chain : (s : State) (req : ReqId) → IsCalled heard s req → IsFree s req [] [] → (from to : Path) (many : List ℕ) → unquiet s from ≡ many → list_all (has_entry s) many ≡ true → Chained config heard s (begins_snapshot s req from to many)
@@ -336,9 +338,9 @@ module _ (config : Config) (heard : Heard) where
       let begin : State → Turn = λ next. all_begun next (chunk ∷ chunks) purposes.Quiet (Some req) in
       let both = if_room s (and_then wait begin) (refused s req refusals.Full) in
       test_chain config heard s (list_any (is_wanted_at s) (chunk ∷ chunks)) (refused s req refusals.Locked)
-      (if not (has_versions s.durable (length (chunk ∷ chunks))) then refused s req refusals.Exhausted else both) (λ _. refused_chain config heard s req refusals.Locked)
-      (λ _. test_chain config heard s (not (has_versions s.durable (length (chunk ∷ chunks)))) (refused s req refusals.Exhausted) both (λ _. refused_chain config heard s req refusals.Exhausted)
-      (λ _. room_chain config heard s req (and_then wait begin)
+      (if not (has_versions s.durable (length (chunk ∷ chunks))) then refused s req refusals.Exhausted else both) (λ _. refused_chain config heard s req (called, free.new) refusals.Locked)
+      (λ _. test_chain config heard s (not (has_versions s.durable (length (chunk ∷ chunks)))) (refused s req refusals.Exhausted) both (λ _. refused_chain config heard s req (called, free.new) refusals.Exhausted)
+      (λ _. room_chain config heard s req (called, free.new) (and_then wait begin)
       (then_chain config heard s wait begin (Moves s (Waits req (waits.Snapshot from to)) None (called, refl, free.new)) (all_begun_chain config heard (chunk ∷ chunks) (Some req) wait.after all))))
 
   pub snapshot_if_chain : (s : State) (req : ReqId) → IsCalled heard s req → IsFree s req [] [] → (from to : Path) (rows : Result (Rows ℕ) Refusal) → IsKept s.durable → Chained config heard s (snapshot_if s req from to rows)
@@ -354,15 +356,15 @@ module _ (config : Config) (heard : Heard) where
           let parts = and_parts (is_placed s.durable x) (list_all (is_placed s.durable) xs) all in
           let listed = and_parts (is_some (fin.get s.durable.names.refs x)) _ parts.0 in
           ap (λ b. b && list_all (has_entry s) xs) (or_left (is_some (fin.get s.durable.names.refs x)) (is_member s.volatile.unplaced x) listed.0) ∙ weaker xs parts.1
-  snapshot_if_chain s req called free from to (Err refusal) k = refused_chain config heard s req refusal
+  snapshot_if_chain s req called free from to (Err refusal) k = refused_chain config heard s req (called, free.new) refusal
 
   -- ---- making a replica
 
   replicated_chain : (s : State) (req : ReqId) → IsCalled heard s req → is_pending s.volatile.pending req ≡ false → (chunk : ℕ) (members : List ℕ) (targets : Option (List ℕ)) → targets_for config (counted_views s) (members_in (view_in (fin.get s.durable.chunks chunk))) 1 ≡ targets → has_entry s chunk ≡ true → Chained config heard s (replicated_to s req chunk targets)
-  replicated_chain s req called new chunk members None is known = refused_chain config heard s req refusals.NoServer
-  replicated_chain s req called new chunk members (Some []) is known = refused_chain config heard s req refusals.NoServer
+  replicated_chain s req called new chunk members None is known = refused_chain config heard s req (called, new) refusals.NoServer
+  replicated_chain s req called new chunk members (Some []) is known = refused_chain config heard s req (called, new) refusals.NoServer
   replicated_chain s req called new chunk members (Some (target ∷ targets)) is known =
-      begins_chain s req (begin_at s chunk (purposes.Copy target) (Some req)) (waits.Replicate chunk target)
+      begins_chain s req (called, new) (begin_at s chunk (purposes.Copy target) (Some req)) (waits.Replicate chunk target)
       (Moves s (Begins chunk (purposes.Copy target) (Some req) (FromNow req (waits.Replicate chunk target))) None
       (record { known = known; alone = tt; elsewhere = target_out config (counted_views s) (members_in (view_in (fin.get s.durable.chunks chunk))) target targets is; called = called; clear = tt; begun = (new, tt) }))
 
@@ -374,8 +376,8 @@ module _ (config : Config) (heard : Heard) where
       by_entry true known =
           let c : Chunk = record { settled = fin.get s.durable.chunks chunk; asking = fin.get s.volatile.moving chunk } in
           let targets = targets_for config (counted_views s) (members_of c) 1 in
-          test_chain config heard s (is_wanted c) (refused s req refusals.Locked) (replicated_to s req chunk targets) (λ _. refused_chain config heard s req refusals.Locked) (λ _. replicated_chain s req called new chunk [] targets refl known)
-      by_entry false known = refused_chain config heard s req refusals.NoReplica
+          test_chain config heard s (is_wanted c) (refused s req refusals.Locked) (replicated_to s req chunk targets) (λ _. refused_chain config heard s req (called, new) refusals.Locked) (λ _. replicated_chain s req called new chunk [] targets refl known)
+      by_entry false known = refused_chain config heard s req (called, new) refusals.NoReplica
 
   pub most_chain : (s : State) (req : ReqId) → IsCalled heard s req → is_pending s.volatile.pending req ≡ false → (chunk : Option ℕ) → Chained config heard s (replicates_most config s req chunk)
   most_chain s req called new None = answered_chain config heard s req (answers.Copied None) refl
@@ -383,19 +385,19 @@ module _ (config : Config) (heard : Heard) where
 
   -- ---- scanning
 
-  pub scans_turned : (s : State) (req : ReqId) (moment : Moment) → Stands s.durable s.volatile → let removed = removed_paths moment.0 (fin.entries s.durable.names.tree) in let forgotten = forgotten_chunks moment.0 (fin.entries s.durable.names.tree) (fin.entries s.durable.names.refs) in
+  pub scans_turned : (s : State) (req : ReqId) → IsRefusable heard s req false → (moment : Moment) → Stands s.durable s.volatile → let removed = removed_paths moment.0 (fin.entries s.durable.names.tree) in let forgotten = forgotten_chunks moment.0 (fin.entries s.durable.names.tree) (fin.entries s.durable.names.refs) in
       Turned config heard s (scanned s req removed forgotten)
-  scans_turned s req moment k =
+  scans_turned s req may moment k =
       let removed = removed_paths moment.0 (fin.entries s.durable.names.tree) in
       let forgotten = forgotten_chunks moment.0 (fin.entries s.durable.names.tree) (fin.entries s.durable.names.refs) in
       let scan = turned s (scan_plan removed forgotten) in
       let ended : State → Turn = λ next. all_ended_by next (waiting_for s forgotten) refusals.NoReplica in
       let answer : State → Turn = λ next. answered_with next req (answers.Scanned (length removed) (length forgotten)) in
       let behind = ended scan.after in
-      room_turned config heard s req (and_then (and_then scan ended) answer)
+      room_turned config heard s req may (and_then (and_then scan ended) answer)
       (subst (Turned config heard s) (sym (joined_together scan behind (answer behind.after)))
       (Closes s (Scans removed forgotten) None (joined behind (answer behind.after)) (record { moment = moment; removes = refl; forgets = refl; placed = λ c here. not_forgotten s k (λ e. e.1 == occurrences e.0 (all_chunks (gone moment.0 (fin.entries s.durable.names.tree)))) c here }) refl
-      (Then scan.after behind (answer behind.after) (closing_chain config heard (waiting_for s forgotten) refusals.NoReplica scan.after) (Moves behind.after (AnswersCall req (answers.Scanned (length removed) (length forgotten)) false) None ((tt, tt, tt), refl)))))
+      (Then scan.after behind (answer behind.after) (closing_chain config heard (waiting_for s forgotten) refusals.NoReplica scan.after (some_pending (λ (p : Pending). waits_for_any forgotten p.waits) s.volatile.pending k.apart)) (Moves behind.after (AnswersCall req (answers.Scanned (length removed) (length forgotten)) false) None ((tt, tt, tt), refl)))))
 
   -- ---- the calls of the tree
 
@@ -407,14 +409,14 @@ module _ (config : Config) (heard : Heard) where
   renames_chain s req from to free called = by_names (edited_names (Rename from to) s.durable.names) refl
     where
       by_names : (names : Result NamesView Refusal) → edited_names (Rename from to) s.durable.names ≡ names → Chained config heard s (edit_if s req (Rename from (target_of (fin.get s.durable.names.tree) from to)) answers.Nothing names)
-      by_names (Err refusal) is = refused_chain config heard s req refusal
+      by_names (Err refusal) is = refused_chain config heard s req (called, free.new) refusal
       by_names (Ok after) is = edit_chain s req (Rename from (target_of (fin.get s.durable.names.tree) from to)) answers.Nothing refl refl refl free called (Ok after) (resolved_does s.durable.names after from to is)
 
   pub deletes_chain : (s : State) (req : ReqId) (path : Path) (recursive : Bool) (moment : Moment) → IsFree s req [] (path ∷ []) → IsCalled heard s req → Chained config heard s (deleted s req path recursive moment)
   deletes_chain s req path recursive moment free called = deleted_chain s req path recursive moment free called
 
-  pub lists_chain : (s : State) (req : ReqId) (path : Path) → Chained config heard s (looked_up s req (listing (fin.entries s.durable.names.tree) path (fin.get s.durable.names.tree path)))
-  lists_chain s req path = looked_chain config heard s req _ (listed_plain s path (fin.get s.durable.names.tree path))
+  pub lists_chain : (s : State) (req : ReqId) → IsRefusable heard s req false → (path : Path) → Chained config heard s (looked_up s req (listing (fin.entries s.durable.names.tree) path (fin.get s.durable.names.tree path)))
+  lists_chain s req may path = looked_chain config heard s req may _ (listed_plain s path (fin.get s.durable.names.tree path))
 
-  pub status_chain : (s : State) (req : ReqId) (path : Path) → Chained config heard s (looked_up s req (status s.durable (fin.get s.durable.names.tree path)))
-  status_chain s req path = looked_chain config heard s req _ (status_plain s (fin.get s.durable.names.tree path))
+  pub status_chain : (s : State) (req : ReqId) → IsRefusable heard s req false → (path : Path) → Chained config heard s (looked_up s req (status s.durable (fin.get s.durable.names.tree path)))
+  status_chain s req may path = looked_chain config heard s req may _ (status_plain s (fin.get s.durable.names.tree path))

@@ -1,5 +1,5 @@
 -- Turns that are chains of moves, and how they follow one another.
-use Rattle.std.proofs.Common.{◌≡◌, ◌∙◌, ◌&&◌, ◌||◌, ◌++◌, ℕ, Bool, true, false, not, List, [], ◌∷◌, append_assoc, refl, ap}
+use Rattle.std.proofs.Common.{◌≡◌, ◌∙◌, ◌&&◌, ◌||◌, ◌++◌, ℕ, Bool, true, false, not, List, [], ◌∷◌, append_assoc, refl, ap, subst, sym}
 use Rattle.std.specs.Prelude.{unwrap_or, Option, Some, None, Result, Ok, Err, if◌then◌else◌}
 use Rattle.std.specs.FinMap as fin
 use Rattle.std.specs.List.{list_all}
@@ -19,8 +19,10 @@ use Rattle.gs_master_spec.specs.Calls.{answered_with, looked_up}
 use Rattle.gs_master_spec.specs.Chunks.{has_entry}
 use Rattle.gs_master_spec.specs.Durable.{is_listed}
 use Rattle.gs_master_spec.specs.State.{State, Turn, unmoved, and_then, first_said, fits, if_room, joined, refused, all_ended_by, ended_by}
+use Rattle.gs_master_spec.specs.Volatile.{is_pending}
 use Rattle.gs_master_laws.proofs.RoomsOfCalls.{pick}
-use Rattle.gs_master_moves.specs.Guards.{Heard, IsCalledFor, IsRightAnswer, May, is_location}
+use Rattle.gs_master_moves.specs.Guards.{Heard, IsCalledFor, IsRefusable, IsRightAnswer, May, is_location}
+use Rattle.gs_master_moves.proofs.Ended.{AllPending, ended_pending}
 use Rattle.gs_master_moves.proofs.Fitting.{mapped}
 use Rattle.gs_master_moves.specs.Epochs.{EndsOnce, Within, closes, is_alone}
 use Rattle.gs_master_moves.specs.Moves.{Alone, Begins, BeginsRollback, Chain, Checkpoints, CommitsRollback, Copies, CopiesTree, Edits, Extends, Finalizes, Flags, Hears, Makes, Move, Moves, Prepares, Refuses, Replaces, Restores, Rests, Says, Scans, Sends, Settles, TellsRollback, Then, Waits, Answers as AnswersCall}
@@ -102,28 +104,35 @@ module _ (config : Config) (heard : Heard) where
   pub then_chain : (s : State) (t : Turn) (f : State → Turn) → Chained s t → Chained t.after (f t.after) → Chained s (and_then t f)
   then_chain s t f a b = Then s t (f t.after) a b
 
-  pub refused_chain : (s : State) (req : ReqId) (refusal : Refusal) → Chained s (refused s req refusal)
-  refused_chain s req refusal = Moves s (Refuses req refusal false) (Some refusal) tt
+  -- a call that doesn't wait may be refused
+  abbrev pub MayRefuse : State → ReqId → Type 0
+  MayRefuse s req = IsRefusable heard s req false
 
-  pub ended_chain : (s : State) (req : ReqId) (refusal : Refusal) → Chained s (ended_by s req refusal)
-  ended_chain s req refusal = Moves s (Refuses req refusal true) None tt
+  pub refused_chain : (s : State) (req : ReqId) → MayRefuse s req → (refusal : Refusal) → Chained s (refused s req refusal)
+  refused_chain s req may refusal = Moves s (Refuses req refusal false) (Some refusal) may
 
-  pub all_ended_chain : (reqs : List ReqId) (refusal : Refusal) (s : State) → Chained s (all_ended_by s reqs refusal)
-  all_ended_chain [] refusal s = rests s
-  all_ended_chain (req ∷ reqs) refusal s = then_chain s (ended_by s req refusal) (λ next. all_ended_by next reqs refusal) (ended_chain s req refusal) (all_ended_chain reqs refusal (ended_by s req refusal).after)
+  pub ended_chain : (s : State) (req : ReqId) → is_pending s.volatile.pending req ≡ true → (refusal : Refusal) → Chained s (ended_by s req refusal)
+  ended_chain s req waits refusal = Moves s (Refuses req refusal true) None waits
 
-  pub room_chain : (s : State) (req : ReqId) (t : Turn) → Chained s t → Chained s (if_room s t (refused s req refusals.Full))
-  room_chain s req t a = pick (Chained s) (fits s.log t.records) t (refused s req refusals.Full) a (refused_chain s req refusals.Full)
+  -- each of them still waits when those before it have ended
+  pub all_ended_chain : (reqs : List ReqId) (refusal : Refusal) (s : State) → AllPending s.volatile.pending reqs → Chained s (all_ended_by s reqs refusal)
+  all_ended_chain [] refusal s all = rests s
+  all_ended_chain (req ∷ reqs) refusal s all =
+      then_chain s (ended_by s req refusal) (λ next. all_ended_by next reqs refusal) (ended_chain s req all.0 refusal)
+      (all_ended_chain reqs refusal (ended_by s req refusal).after (subst (λ ps. AllPending ps reqs) (sym (ended_pending s req refusal)) all.1))
+
+  pub room_chain : (s : State) (req : ReqId) → MayRefuse s req → (t : Turn) → Chained s t → Chained s (if_room s t (refused s req refusals.Full))
+  room_chain s req may t a = pick (Chained s) (fits s.log t.records) t (refused s req refusals.Full) a (refused_chain s req may refusals.Full)
 
   -- calls that wait are refused, behind a scan, or behind the beginning of a rollback
-  pub closing_chain : (reqs : List ReqId) (refusal : Refusal) (s : State) → Chain config (λ u move. May config heard u move × (closes move ≡ true)) s (all_ended_by s reqs refusal)
-  closing_chain [] refusal s = Rests s None
-  closing_chain (req ∷ reqs) refusal s =
+  pub closing_chain : (reqs : List ReqId) (refusal : Refusal) (s : State) → AllPending s.volatile.pending reqs → Chain config (λ u move. May config heard u move × (closes move ≡ true)) s (all_ended_by s reqs refusal)
+  closing_chain [] refusal s all = Rests s None
+  closing_chain (req ∷ reqs) refusal s all =
       let t = ended_by s req refusal in
-      Then s t (all_ended_by t.after reqs refusal) (Moves s (Refuses req refusal true) None (tt, refl)) (closing_chain reqs refusal t.after)
+      Then s t (all_ended_by t.after reqs refusal) (Moves s (Refuses req refusal true) None (all.0, refl)) (closing_chain reqs refusal t.after (subst (λ ps. AllPending ps reqs) (sym (ended_pending s req refusal)) all.1))
 
-  pub room_turned : (s : State) (req : ReqId) (t : Turn) → Turned s t → Turned s (if_room s t (refused s req refusals.Full))
-  room_turned s req t a = pick (Turned s) (fits s.log t.records) t (refused s req refusals.Full) a (within (refused_chain s req refusals.Full))
+  pub room_turned : (s : State) (req : ReqId) → MayRefuse s req → (t : Turn) → Turned s t → Turned s (if_room s t (refused s req refusals.Full))
+  room_turned s req may t a = pick (Turned s) (fits s.log t.records) t (refused s req refusals.Full) a (within (refused_chain s req may refusals.Full))
 
   pub test_turned : (s : State) (b : Bool) (t u : Turn) → (b ≡ true → Turned s t) → (b ≡ false → Turned s u) → Turned s (if b then t else u)
   test_turned s true t u f g = f refl
@@ -137,9 +146,9 @@ module _ (config : Config) (heard : Heard) where
   pub answered_chain : (s : State) (req : ReqId) (answer : Answer) → is_location answer ≡ false → Chained s (answered_with s req answer)
   answered_chain s req answer plain = Moves s (AnswersCall req answer false) None ((plain_right s answer plain, tt, plain_called heard s req answer plain), ap (λ b. b && true) plain)
 
-  pub looked_chain : (s : State) (req : ReqId) (result : Result Answer Refusal) → is_located result ≡ false → Chained s (looked_up s req result)
-  looked_chain s req (Ok answer) plain = answered_chain s req answer plain
-  looked_chain s req (Err refusal) plain = refused_chain s req refusal
+  pub looked_chain : (s : State) (req : ReqId) → MayRefuse s req → (result : Result Answer Refusal) → is_located result ≡ false → Chained s (looked_up s req result)
+  looked_chain s req may (Ok answer) plain = answered_chain s req answer plain
+  looked_chain s req may (Err refusal) plain = refused_chain s req may refusal
 
   -- ---- what is begun
 

@@ -193,37 +193,37 @@ grants_ask c (chunk ∷ keys) = ask_both (granted_at chunk (c chunk)) (flat_map 
 
 -- ---- messages that are no replies
 
-each_said : {A : Type 0} (s : State) (message : A → Message) → ((x : A) → IsSaidAgain s (message x).body) → (xs : List A) → AreSaidAgain s (map message xs)
-each_said s message no_reply [] = tt
-each_said s message no_reply (x ∷ xs) = (no_reply x, each_said s message no_reply xs)
+each_said : {A : Type 0} (came : Heard) (s : State) (message : A → Message) → ((x : A) → IsSaidAgain came s (message x).body) → (xs : List A) → AreSaidAgain came s (map message xs)
+each_said came s message no_reply [] = tt
+each_said came s message no_reply (x ∷ xs) = (no_reply x, each_said came s message no_reply xs)
 
-next_said : (s : State) (server epoch : ℕ) (end : Option EpochEnd) → AreSaidAgain s (end_told server epoch end)
-next_said s server epoch None = tt
-next_said s server epoch (Some end) = (tt, tt)
+next_said : (came : Heard) (s : State) (server epoch : ℕ) (end : Option EpochEnd) → AreSaidAgain came s (end_told server epoch end)
+next_said came s server epoch None = tt
+next_said came s server epoch (Some end) = (tt, tt)
 
-both_said : (s : State) (xs ys : List Message) → AreSaidAgain s xs → AreSaidAgain s ys → AreSaidAgain s (xs ++ ys)
-both_said s [] ys a b = b
-both_said s (x ∷ xs) ys a b = (a.0, both_said s xs ys a.1 b)
+both_said : (came : Heard) (s : State) (xs ys : List Message) → AreSaidAgain came s xs → AreSaidAgain came s ys → AreSaidAgain came s (xs ++ ys)
+both_said came s [] ys a b = b
+both_said came s (x ∷ xs) ys a b = (a.0, both_said came s xs ys a.1 b)
 
-grant_said : (s : State) (chunk : ℕ) (c : Option Chunk) → AreSaidAgain s (granted_at chunk c)
-grant_said s chunk None = tt
-grant_said s chunk (Some c) = by_test (is_leased c) (view_of c)
+grant_said : (came : Heard) (s : State) (chunk : ℕ) (c : Option Chunk) → AreSaidAgain came s (granted_at chunk c)
+grant_said came s chunk None = tt
+grant_said came s chunk (Some c) = by_test (is_leased c) (view_of c)
   where
-    by_term : (view : View) (term : Option Term) → AreSaidAgain s (grant_of chunk view term)
+    by_term : (view : View) (term : Option Term) → AreSaidAgain came s (grant_of chunk view term)
     by_term view None = tt
     by_term view (Some term) = (tt, tt)
 
-    by_view : (view : Option View) → AreSaidAgain s (granted_view chunk view)
+    by_view : (view : Option View) → AreSaidAgain came s (granted_view chunk view)
     by_view None = tt
     by_view (Some view) = by_term view view.term
 
-    by_test : (b : Bool) (view : Option View) → AreSaidAgain s (if b then granted_view chunk view else [])
+    by_test : (b : Bool) (view : Option View) → AreSaidAgain came s (if b then granted_view chunk view else [])
     by_test true view = by_view view
     by_test false view = tt
 
-grants_said : (s : State) (c : ℕ → Option Chunk) (keys : List ℕ) → AreSaidAgain s (flat_map (λ chunk. granted_at chunk (c chunk)) keys)
-grants_said s c [] = tt
-grants_said s c (chunk ∷ keys) = both_said s (granted_at chunk (c chunk)) (flat_map (λ x. granted_at x (c x)) keys) (grant_said s chunk (c chunk)) (grants_said s c keys)
+grants_said : (came : Heard) (s : State) (c : ℕ → Option Chunk) (keys : List ℕ) → AreSaidAgain came s (flat_map (λ chunk. granted_at chunk (c chunk)) keys)
+grants_said came s c [] = tt
+grants_said came s c (chunk ∷ keys) = both_said came s (granted_at chunk (c chunk)) (flat_map (λ x. granted_at x (c x)) keys) (grant_said came s chunk (c chunk)) (grants_said came s c keys)
 
 -- ---- reports
 
@@ -292,7 +292,7 @@ module _ (config : Config) where
       (λ _. test_chain config came s (fits s.log begin.records) begin (unmoved s) (λ _. all_begun_chain config came many None s all) (λ _. rests config came s)) (λ _. rests config came s)
 
   next_chain : (came : Heard) (s : State) (server epoch : ℕ) → Chained config came s (sends s (next_epoch s.durable server epoch))
-  next_chain came s server epoch = Moves s (Says (next_epoch s.durable server epoch)) None (next_right came s server epoch, next_asks server (slice_get s.durable.ends epoch) epoch, next_said s server epoch (slice_get s.durable.ends epoch))
+  next_chain came s server epoch = Moves s (Says (next_epoch s.durable server epoch)) None (next_right came s server epoch, next_asks server (slice_get s.durable.ends epoch) epoch, next_said came s server epoch (slice_get s.durable.ends epoch))
 
   reported_chain : (s : State) (server epoch : ℕ) (replicas : List Reported) → Chained config (Some (server, bodies.Report epoch replicas)) s (reported s server epoch replicas)
   reported_chain s server epoch replicas =
@@ -305,7 +305,7 @@ module _ (config : Config) where
           let came : Heard = Some (server, bodies.Report epoch replicas) in
           let dropped = sends s (drops s server replicas) in
           let right = subst (λ e. AreRight (Some (server, bodies.Report e replicas)) s (drops s server replicas)) (sym (same_number epoch s.durable.epoch both.1)) (strays_right s server replicas both.0 replicas (λ r here. here)) in
-          then_chain config came s dropped (made_quiet (lost s server replicas)) (Moves s (Says (drops s server replicas)) None (right, drops_ask s server replicas, each_said s (λ (r : Reported). about r.handle (abouts.Drop s.durable.epoch r.promise) server) (λ r. tt) (filter (λ (r : Reported). is_stray (chunk_at s r.handle) server) replicas)))
+          then_chain config came s dropped (made_quiet (lost s server replicas)) (Moves s (Says (drops s server replicas)) None (right, drops_ask s server replicas, each_said came s (λ (r : Reported). about r.handle (abouts.Drop s.durable.epoch r.promise) server) (λ r. tt) (filter (λ (r : Reported). is_stray (chunk_at s r.handle) server) replicas)))
           (quiet_chain came (lost s server replicas) s
           (filter_holds (has_entry s) (λ chunk. is_lost_at server (chunk_at s chunk) && not (is_told_sound replicas chunk)) (fin.keys s.durable.chunks)
           (λ chunk k. lost_known s server chunk (and_parts (is_lost_at server (chunk_at s chunk)) (not (is_told_sound replicas chunk)) k).0)))
@@ -327,13 +327,13 @@ module _ (config : Config) where
       where
         by_entry : (b : Bool) → has_entry s chunk ≡ b
             → Chained config (Some (server, bodies.About chunk (abouts.Promised stamp count carried))) s (promised_at s server chunk stamp count carried moment (if b then Some (record { settled = fin.get s.durable.chunks chunk; asking = fin.get s.volatile.moving chunk }) else None))
-        by_entry true known = yes_chain config (Some (server, bodies.About chunk (abouts.Promised stamp count carried))) s h chunk known server stamp count carried moment (fin.get s.volatile.moving chunk) low refl refl (fin.get s.volatile.moving chunk)
+        by_entry true known = yes_chain config (Some (server, bodies.About chunk (abouts.Promised stamp count carried))) refl s h chunk known server stamp count carried moment (fin.get s.volatile.moving chunk) low refl refl (fin.get s.volatile.moving chunk)
         by_entry false known = rests config _ s
     about_chain server chunk moment (abouts.Unpromised stamp refusal) low = by_entry (has_entry s chunk) refl
       where
         by_entry : (b : Bool) → has_entry s chunk ≡ b
             → Chained config (Some (server, bodies.About chunk (abouts.Unpromised stamp refusal))) s (unpromised_at s server chunk stamp moment (if b then Some (record { settled = fin.get s.durable.chunks chunk; asking = fin.get s.volatile.moving chunk }) else None))
-        by_entry true known = no_chain config (Some (server, bodies.About chunk (abouts.Unpromised stamp refusal))) s h chunk known server stamp refusal moment (fin.get s.volatile.moving chunk) refl refl (fin.get s.volatile.moving chunk)
+        by_entry true known = no_chain config (Some (server, bodies.About chunk (abouts.Unpromised stamp refusal))) refl s h chunk known server stamp refusal moment (fin.get s.volatile.moving chunk) refl refl (fin.get s.volatile.moving chunk)
         by_entry false known = rests config _ s
     about_chain server chunk moment (abouts.Renew stamp) low =
         let came : Heard = Some (server, bodies.About chunk (abouts.Renew stamp)) in
@@ -377,7 +377,7 @@ module _ (config : Config) where
   pressed_chain moment proposal s h = by_entry (has_entry s proposal.0) refl
     where
       by_entry : (b : Bool) → has_entry s proposal.0 ≡ b → Chained config None s (pressed_at s proposal.0 proposal.1 moment (if b then Some (record { settled = fin.get s.durable.chunks proposal.0; asking = fin.get s.volatile.moving proposal.0 }) else None))
-      by_entry true known = press_chain config None s h proposal.0 known proposal.1 moment (fin.get s.volatile.moving proposal.0) refl (fin.get s.volatile.moving proposal.0)
+      by_entry true known = press_chain config None refl s h proposal.0 known proposal.1 moment (fin.get s.volatile.moving proposal.0) refl (fin.get s.volatile.moving proposal.0)
       by_entry false known = rests config None s
 
   all_pressed : (moment : Moment) (many : List (ℕ × Stamp)) (s : State) → Holds true s → Chained config None s (for_each s many (pressed moment))
@@ -420,14 +420,14 @@ module _ (config : Config) where
       let all = for_each s (proposals s) (pressed moment) in
       test_chain config None s (is_failed s.fault) (met_by s refusals.Device) (and_then (and_then all granted) written_if_due) (λ _. Rests s (Some refusals.Device))
       (λ _. then_chain config None s (and_then all granted) written_if_due
-      (then_chain config None s all granted (all_pressed moment (proposals s) s h) (Moves all.after (Says _) None (all_granted None all.after (fin.keys all.after.durable.chunks), grants_ask (chunk_at all.after) (fin.keys all.after.durable.chunks), grants_said all.after (chunk_at all.after) (fin.keys all.after.durable.chunks))))
+      (then_chain config None s all granted (all_pressed moment (proposals s) s h) (Moves all.after (Says _) None (all_granted None all.after (fin.keys all.after.durable.chunks), grants_ask (chunk_at all.after) (fin.keys all.after.durable.chunks), grants_said None all.after (chunk_at all.after) (fin.keys all.after.durable.chunks))))
       (due_chain (and_then all granted).after (all_held moment (proposals s) s h)))
 
   -- what a tick does before it writes a checkpoint
   steps_chain : (s : State) (moment : Moment) → Holds true s → Chained config None s (and_then (for_each s (proposals s) (pressed moment)) granted)
   steps_chain s moment h =
       let all = for_each s (proposals s) (pressed moment) in
-      then_chain config None s all granted (all_pressed moment (proposals s) s h) (Moves all.after (Says _) None (all_granted None all.after (fin.keys all.after.durable.chunks), grants_ask (chunk_at all.after) (fin.keys all.after.durable.chunks), grants_said all.after (chunk_at all.after) (fin.keys all.after.durable.chunks)))
+      then_chain config None s all granted (all_pressed moment (proposals s) s h) (Moves all.after (Says _) None (all_granted None all.after (fin.keys all.after.durable.chunks), grants_ask (chunk_at all.after) (fin.keys all.after.durable.chunks), grants_said None all.after (chunk_at all.after) (fin.keys all.after.durable.chunks)))
 
   -- ---- a restart
 
@@ -442,8 +442,8 @@ module _ (config : Config) where
       by_test true = told_ask (count_from 0 config.servers) s.durable.epoch ends.Rollback
       by_test false = refl
 
-      said_so : (b : Bool) → AreSaidAgain s (if b then tell_all config s.durable.epoch ends.Rollback else [])
-      said_so true = each_said s (λ server. post (nodes.Server server) (bodies.Epoch s.durable.epoch ends.Rollback)) (λ server. tt) (count_from 0 config.servers)
+      said_so : (b : Bool) → AreSaidAgain None s (if b then tell_all config s.durable.epoch ends.Rollback else [])
+      said_so true = each_said None s (λ server. post (nodes.Server server) (bodies.Epoch s.durable.epoch ends.Rollback)) (λ server. tt) (count_from 0 config.servers)
       said_so false = tt
 
   -- ---- every event

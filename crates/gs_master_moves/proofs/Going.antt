@@ -67,9 +67,10 @@ use Rattle.gs_master_laws.proofs.StandingGoing.{Apart, CanGo, Going, is_snapshot
 use Rattle.gs_master_laws.proofs.StandingTurns.{Holds}
 use Rattle.gs_master_moves.proofs.Calls.{next_is}
 use Rattle.gs_master_moves.proofs.Entries.{copied_listed, either as either_known, ended_known, settling_known, settling_names}
+use Rattle.gs_master_moves.proofs.Ended.{does_wait, some_pending}
 use Rattle.gs_master_moves.proofs.Chains.{Chained, all_ended_chain, ended_chain, rests, test_chain, then_chain}
 use Rattle.gs_master_moves.proofs.Free.{copied_itself, copies_itself, cow_here, extends_itself}
-use Rattle.gs_master_moves.specs.Guards.{Heard, HasCarried, IsCalled, IsMadeBy, IsNext, IsOpenAt, IsSettledOn, IsWaiting, IsYes, May, settled_chunk, waits_for_copy, waits_to_copy, waits_to_extend}
+use Rattle.gs_master_moves.specs.Guards.{Heard, HasCarried, IsCalled, IsMadeBy, IsNext, IsOpenAt, IsSettledOn, IsWaiting, IsYes, May, settled_chunk, waits_for_copy, waits_to_copy, waits_to_extend, hears_call}
 use Rattle.gs_master_moves.specs.Moves.{Further, Moves, Answers as AnswersCall, Begins, Copies, CopiesTree, Extends, Hears, Replaces, Sends, Settles}
 
 -- ---- what each step is made of
@@ -251,24 +252,25 @@ is_of_file waiting = false
 turned_about : (a b : ReqId) → same_call a b ≡ true → same_call b a ≡ true
 turned_about a b h = ap (same_call b) (same_parts a b h) ∙ same_self b
 
-module _ (config : Config) (came : Heard) (chunk : ℕ) (view : View) (placed : Bool) where
+module _ (config : Config) (came : Heard) (silent : hears_call came ≡ false) (chunk : ℕ) (view : View) (placed : Bool) where
   -- ---- one call goes on
 
-  room_for_chain : (s : State) (req : ReqId) (t : Turn) → Chained config came s t → Chained config came s (if_room_for s req t)
-  room_for_chain s req t a = test_chain config came s (fits s.log t.records) t (ended_by s req refusals.Full) (λ _. a) (λ _. ended_chain config came s req refusals.Full)
+  room_for_chain : (s : State) (req : ReqId) → is_pending s.volatile.pending req ≡ true → (t : Turn) → Chained config came s t → Chained config came s (if_room_for s req t)
+  room_for_chain s req there t a = test_chain config came s (fits s.log t.records) t (ended_by s req refusals.Full) (λ _. a) (λ _. ended_chain config came s req there refusals.Full)
 
-  leased_next_chain : (req : ReqId) (path : Path) (index new : ℕ) (s : State) → IsOpenAt s req new → has_entry s new ≡ true → is_shared s.durable.names new ≡ false → Chained config came s (leased_next req path index new s)
-  leased_next_chain req path index new s clear known alone =
+  leased_next_chain : (req : ReqId) (path : Path) (index new : ℕ) (s : State) → is_pending s.volatile.pending req ≡ true → IsOpenAt s req new → has_entry s new ≡ true → is_shared s.durable.names new ≡ false → Chained config came s (leased_next req path index new s)
+  leased_next_chain req path index new s there clear known alone =
       let t = turned s (waits_on (begin_at s new purposes.Lease (Some req)) req (waits.Lease path index new)) in
       let begin = if_room_for s req t in
-      test_chain config came s (not (may_begin s.durable.phase)) (ended_by s req refusals.RollingBack) (if not (has_versions s.durable 1) then ended_by s req refusals.Exhausted else begin) (λ _. ended_chain config came s req refusals.RollingBack)
-      (λ _. test_chain config came s (not (has_versions s.durable 1)) (ended_by s req refusals.Exhausted) begin (λ _. ended_chain config came s req refusals.Exhausted)
-      (λ _. room_for_chain s req t (Moves s (Begins new purposes.Lease (Some req) (Further req (waits.Lease path index new))) None (record { known = known; alone = alone; elsewhere = tt; called = tt; clear = clear; begun = refl }))))
+      test_chain config came s (not (may_begin s.durable.phase)) (ended_by s req refusals.RollingBack) (if not (has_versions s.durable 1) then ended_by s req refusals.Exhausted else begin) (λ _. ended_chain config came s req there refusals.RollingBack)
+      (λ _. test_chain config came s (not (has_versions s.durable 1)) (ended_by s req refusals.Exhausted) begin (λ _. ended_chain config came s req there refusals.Exhausted)
+      (λ _. room_for_chain s req there t (Moves s (Begins new purposes.Lease (Some req) (Further req (waits.Lease path index new))) None (record { known = known; alone = alone; elsewhere = tt; called = tt; clear = clear; begun = refl }))))
 
   -- the copy is listed once it has its place
   replaced_chain : (req : ReqId) (path : Path) (index old new : ℕ) (s : State) → IsWaiting s req (waits_for_copy path index old new) → new ≡ chunk → is_visible path ≡ true → Ready chunk s.durable → IsSettledOn s new view → has_entry s new ≡ true → (names : Result NamesView Refusal) → edited_names (Cow path index old new) s.durable.names ≡ names
       → Chained config came s (replaced_if s req path index old new names)
   replaced_chain req path index old new s waits_so same visible r settled at_new (Ok names) e =
+      let there = does_wait s req (waits_for_copy path index old new) waits_so in
       let t = turned s (replace_plan path index old new) in
       let may = subst (λ c. may_edit s.durable (Cow path index old c) ≡ true) (sym same) (may_place chunk s.durable (Cow path index old chunk) r visible (viewed chunk s.durable r) refl) in
       let fit = edit_applies ⊥ s.durable own_request (Cow path index old new) names e may in
@@ -276,29 +278,30 @@ module _ (config : Config) (came : Heard) (chunk : ℕ) (view : View) (placed : 
       let alone : is_shared t.after.durable.names new ≡ false = ap (λ o. is_shared (unwrap_or o s.durable).names new) fit ∙ cow_alone path index old new s.durable.names names e in
       test_chain config came s (fits s.log (Edited own_request (Cow path index old new) ∷ [])) (and_then t (leased_next req path index new)) (ended_by s req refusals.Full)
       (λ _. then_chain config came s t (leased_next req path index new) (Moves s (Replaces path index old new) None ((names, e), (view, settled), at_new, (req, waits_so)))
-      (leased_next_chain req path index new t.after (record { path = path; index = index; here = ap (λ o. slice_get (chunks_at (unwrap_or o s.durable).names path) index) fit ∙ cow_here path index old new s.durable.names names e; clear = inr (old, waits_so) }) (or_left (is_listed t.after.durable new) (is_member t.after.volatile.unplaced new) listed) alone))
-      (λ _. ended_chain config came s req refusals.Full)
-  replaced_chain req path index old new s waits_so same visible r settled at_new (Err refusal) e = ended_chain config came s req refusal
+      (leased_next_chain req path index new t.after there (record { path = path; index = index; here = ap (λ o. slice_get (chunks_at (unwrap_or o s.durable).names path) index) fit ∙ cow_here path index old new s.durable.names names e; clear = inr (old, waits_so) }) (or_left (is_listed t.after.durable new) (is_member t.after.volatile.unplaced new) listed) alone))
+      (λ _. ended_chain config came s req there refusals.Full)
+  replaced_chain req path index old new s waits_so same visible r settled at_new (Err refusal) e = ended_chain config came s req (does_wait s req (waits_for_copy path index old new) waits_so) refusal
 
   extended_chain : (req : ReqId) (path : Path) (new : ℕ) (s : State) → IsCalled came s req → IsWaiting s req (waits_to_extend new) → IsSettledOn s new view → has_entry s new ≡ true → (names : Result NamesView Refusal) → edited_names (AddChunk path new) s.durable.names ≡ names
       → Chained config came s (edit_turn s req (edit_plan req (AddChunk path new) (answers.Location new view s.durable.epoch) (changes.Place new ∷ [])) names)
   extended_chain req path new s called waits_so settled at_new (Ok names) e =
-      room_for_chain s req (turned s (edit_plan req (AddChunk path new) (answers.Location new view s.durable.epoch) (changes.Place new ∷ []))) (Moves s (Extends req path new view) None ((names, e), settled, at_new, called, waits_so))
-  extended_chain req path new s called waits_so settled at_new (Err refusal) e = ended_chain config came s req refusal
+      room_for_chain s req (does_wait s req (waits_to_extend new) waits_so) (turned s (edit_plan req (AddChunk path new) (answers.Location new view s.durable.epoch) (changes.Place new ∷ []))) (Moves s (Extends req path new view) None ((names, e), settled, at_new, called, waits_so, silent))
+  extended_chain req path new s called waits_so settled at_new (Err refusal) e = ended_chain config came s req (does_wait s req (waits_to_extend new) waits_so) refusal
 
   copied_chain : (req : ReqId) (path : Path) (index old : ℕ) (s : State) → IsWaiting s req (waits_to_copy path index old) → has_entry s old ≡ true → is_listed s.durable old ≡ true → IsNext s → is_given s.durable.next_handle old ≡ true → IsSettledOn s old view → view.term ≡ None → Chained config came s (copied s req path index old view)
   copied_chain req path index old s waits_so known listed fresh given settled none =
+      let there = does_wait s req (waits_to_copy path index old) waits_so in
       let new = s.durable.next_handle in
       let t = turned s (waits_on (copy_plan (next_stamp s.durable) old view new req) req (waits.Copy path index old new)) in
       let begin = if_room_for s req t in
-      test_chain config came s (not (may_begin s.durable.phase)) (ended_by s req refusals.RollingBack) (if not (has_handle s.durable && has_versions s.durable 1) then ended_by s req refusals.Exhausted else begin) (λ _. ended_chain config came s req refusals.RollingBack)
-      (λ _. test_chain config came s (not (has_handle s.durable && has_versions s.durable 1)) (ended_by s req refusals.Exhausted) begin (λ _. ended_chain config came s req refusals.Exhausted)
-      (λ _. room_for_chain s req t (Moves s (Copies old view req (Further req (waits.Copy path index old new))) None (record { known = known; listed = listed; fresh = fresh; given = given; settled = settled; quiet = none }, tt, (refl, refl, waits_so)))))
+      test_chain config came s (not (may_begin s.durable.phase)) (ended_by s req refusals.RollingBack) (if not (has_handle s.durable && has_versions s.durable 1) then ended_by s req refusals.Exhausted else begin) (λ _. ended_chain config came s req there refusals.RollingBack)
+      (λ _. test_chain config came s (not (has_handle s.durable && has_versions s.durable 1)) (ended_by s req refusals.Exhausted) begin (λ _. ended_chain config came s req there refusals.Exhausted)
+      (λ _. room_for_chain s req there t (Moves s (Copies old view req (Further req (waits.Copy path index old new))) None (record { known = known; listed = listed; fresh = fresh; given = given; settled = settled; quiet = none }, tt, (refl, refl, waits_so)))))
 
   tree_chain : (req : ReqId) (from to : Path) (s : State) → is_pending s.volatile.pending req ≡ true → list_all (is_quiet_at s) (source_chunks s from) ≡ true → (names : Result NamesView Refusal) → edited_names (Snapshot from to) s.durable.names ≡ names
       → Chained config came s (edit_turn s req (edit_plan req (Snapshot from to) answers.Nothing []) names)
-  tree_chain req from to s called still (Ok names) e = room_for_chain s req (turned s (edit_plan req (Snapshot from to) answers.Nothing [])) (Moves s (CopiesTree req from to) None ((names, e), still, called))
-  tree_chain req from to s called still (Err refusal) e = ended_chain config came s req refusal
+  tree_chain req from to s called still (Ok names) e = room_for_chain s req called (turned s (edit_plan req (Snapshot from to) answers.Nothing [])) (Moves s (CopiesTree req from to) None ((names, e), still, called, silent))
+  tree_chain req from to s called still (Err refusal) e = ended_chain config came s req called refusal
 
   settled_so : (s : State) (c : ℕ) → c ≡ chunk → Stays chunk view placed s → IsSettledOn s c view
   settled_so s c same k = subst (λ x. IsSettledOn s x view) (sym same) (record { has = k.has; unasked = k.unasked })
@@ -349,7 +352,7 @@ module _ (config : Config) (came : Heard) (chunk : ℕ) (view : View) (placed : 
       by_waiting (waits.Snapshot from to) e may visible quiet in_file = snapshot_chain s p.req (waits.Snapshot from to) (goes_called s p go) refl
       by_waiting (waits.Replicate old target) e may visible quiet in_file =
           test_chain config came s (is_member view.members target) (ended_with s p.req (answers.Copied (Some (record { handle = old; server = target })))) (ended_by s p.req refusals.NoReplica)
-          (λ _. Moves s (AnswersCall p.req (answers.Copied (Some (record { handle = old; server = target }))) true) None ((tt, tt, tt), refl)) (λ _. ended_chain config came s p.req refusals.NoReplica)
+          (λ _. Moves s (AnswersCall p.req (answers.Copied (Some (record { handle = old; server = target }))) true) None ((tt, tt, tt), refl)) (λ _. ended_chain config came s p.req (goes_called s p go) refusals.NoReplica)
 
   -- ---- one after the other
 
@@ -448,7 +451,7 @@ stands_in_file s chunk asking p k one mine none = by_listed (is_listed s.durable
     by_listed true e = refl
     by_listed false here = absurd (false≢true (sym (ap (λ c. is_waited_by c (makes chunk) s.volatile.pending) own ∙ one.now (makes chunk) ∙ none) ∙ k.own p.req own here))
 
-module _ (config : Config) (came : Heard) (s : State) (chunk : ℕ) (asking : Asking) (view : View) (none : is_lease asking.purpose ≡ false → view.term ≡ None) (k : IsSought s.durable s.volatile chunk asking) where
+module _ (config : Config) (came : Heard) (silent : hears_call came ≡ false) (s : State) (chunk : ℕ) (asking : Asking) (view : View) (none : is_lease asking.purpose ≡ false → view.term ≡ None) (k : IsSought s.durable s.volatile chunk asking) where
   quiet_file : (waiting : Waiting) → is_quieting waiting ≡ true → is_of_file waiting ≡ true
   quiet_file (waits.Quiet path index quiet) is = refl
   quiet_file waiting is = absurd (false≢true is)
@@ -457,7 +460,7 @@ module _ (config : Config) (came : Heard) (s : State) (chunk : ℕ) (asking : As
   alone (waits.Snapshot from to) is = absurd (false≢true is)
   alone waiting is = refl
 
-  quiet_of : (ps : List Pending) → AllByRecursion (IsOne s.volatile.pending) ps → AreQuiet config came chunk view (is_listed s.durable chunk) (filter (λ (p : Pending). is_call p.req asking.call || is_copied_by s chunk p.waits) ps)
+  quiet_of : (ps : List Pending) → AllByRecursion (IsOne s.volatile.pending) ps → AreQuiet config came silent chunk view (is_listed s.durable chunk) (filter (λ (p : Pending). is_call p.req asking.call || is_copied_by s chunk p.waits) ps)
   quiet_of [] all = tt
   quiet_of (p ∷ ps) all = by_test (is_call p.req asking.call || is_copied_by s chunk p.waits) refl (quiet_of ps all.1)
     where
@@ -468,16 +471,20 @@ module _ (config : Config) (came : Heard) (s : State) (chunk : ℕ) (asking : As
       may : is_call p.req asking.call ≡ true → may_ask asking.purpose p.waits ≡ true
       may mine = ap (λ b. not b || may_ask asking.purpose p.waits) (sym mine) ∙ all.0.each (λ (q : Pending). not (is_call q.req asking.call) || may_ask asking.purpose q.waits) k.purposed
 
-      by_test : (b : Bool) → (is_call p.req asking.call || is_copied_by s chunk p.waits) ≡ b → AreQuiet config came chunk view (is_listed s.durable chunk) (filter (λ (q : Pending). is_call q.req asking.call || is_copied_by s chunk q.waits) ps)
-          → AreQuiet config came chunk view (is_listed s.durable chunk) (cond b (p ∷ filter (λ (q : Pending). is_call q.req asking.call || is_copied_by s chunk q.waits) ps) (filter (λ (q : Pending). is_call q.req asking.call || is_copied_by s chunk q.waits) ps))
+      by_test : (b : Bool) → (is_call p.req asking.call || is_copied_by s chunk p.waits) ≡ b → AreQuiet config came silent chunk view (is_listed s.durable chunk) (filter (λ (q : Pending). is_call q.req asking.call || is_copied_by s chunk q.waits) ps)
+          → AreQuiet config came silent chunk view (is_listed s.durable chunk) (cond b (p ∷ filter (λ (q : Pending). is_call q.req asking.call || is_copied_by s chunk q.waits) ps) (filter (λ (q : Pending). is_call q.req asking.call || is_copied_by s chunk q.waits) ps))
       by_test true concerned_so rest =
           let mine : is_of_file p.waits ≡ true → is_call p.req asking.call ≡ true = λ is. calls_it (is_call p.req asking.call) (is_copied_by s chunk p.waits) concerned_so (alone p.waits is) in
           ((λ is. none (not_leased asking.purpose p.waits is (may (mine (quiet_file p.waits is)))), λ is. stands_in_file s chunk asking p k all.0 (mine is) (makes_none chunk p.waits is)), rest)
       by_test false other rest = rest
 
-module _ (config : Config) (came : Heard) (s : State) (chunk : ℕ) (asking : Asking) (h : Holds true s) (has : fin.get s.volatile.moving chunk ≡ Some asking) (known : has_entry s chunk ≡ true) where
+module _ (config : Config) (came : Heard) (silent : hears_call came ≡ false) (s : State) (chunk : ℕ) (asking : Asking) (h : Holds true s) (has : fin.get s.volatile.moving chunk ≡ Some asking) (known : has_entry s chunk ≡ true) where
   c : Chunk
   c = record { settled = fin.get s.durable.chunks chunk; asking = Some asking }
+
+  -- whom the chunk concerns
+  abbrev concerns : Pending → Bool
+  concerns p = is_call p.req asking.call || is_copied_by s chunk p.waits
 
   settled_chain : (by : Poll) (carried : Bool) (moment : Moment) (view : View) → AreCounts by → IsMadeBy came chunk asking by → (carried ≡ true → HasCarried came chunk asking) → view_by (settled_chunk s chunk) asking by moment ≡ Some view → Chained config came s (settled_on s chunk asking carried view)
   settled_chain by carried moment view told made carries e =
@@ -489,9 +496,9 @@ module _ (config : Config) (came : Heard) (s : State) (chunk : ℕ) (asking : As
       (λ _. then_chain config came s t (all_go_on view calls)
       (Moves s (Settles chunk asking carried view) None (record { by = by; moment = moment; known = known; has = has; made = made; view_is = e; carries = carries; leased = (h.stands.asked chunk asking has).leased }))
       (by_rolling t.after (is_rolling s.durable.phase) refl
-      (λ still. all_chain config came chunk view (is_listed s.durable chunk) calls t.after so.good.holds so.going (so.ready still) (record { has = so.exact; unasked = so.unasked; known = settling_known s chunk asking carried view known; listed = λ there. ap (λ (n : NamesView). is_some (fin.get n.refs chunk)) (settling_names s chunk asking carried view) ∙ there })
-      (quiet_of config came s chunk asking view (view_term (settled_chunk s chunk) asking by moment view e) (h.stands.asked chunk asking has) s.volatile.pending (each_one s.volatile.pending h.stands.apart h.stands.calls)))))
-      (λ _. all_ended_chain config came (requests_of calls) refusals.Full s)
+      (λ still. all_chain config came silent chunk view (is_listed s.durable chunk) calls t.after so.good.holds so.going (so.ready still) (record { has = so.exact; unasked = so.unasked; known = settling_known s chunk asking carried view known; listed = λ there. ap (λ (n : NamesView). is_some (fin.get n.refs chunk)) (settling_names s chunk asking carried view) ∙ there })
+      (quiet_of config came silent s chunk asking view (view_term (settled_chunk s chunk) asking by moment view e) (h.stands.asked chunk asking has) s.volatile.pending (each_one s.volatile.pending h.stands.apart h.stands.calls)))))
+      (λ _. all_ended_chain config came (requests_of calls) refusals.Full s (some_pending concerns s.volatile.pending h.stands.apart))
     where
       by_rolling : (next : State) (b : Bool) → is_rolling s.durable.phase ≡ b → (is_rolling s.durable.phase ≡ false → Chained config came next (all_go_on view (concerned s chunk asking.call) next)) → Chained config came next (all_go_on view (concerned s chunk asking.call) next)
       by_rolling next true is chain = subst (λ (ps : List Pending). Chained config came next (all_go_on view (filter (λ (p : Pending). is_call p.req asking.call || is_copied_by s chunk p.waits) ps) next)) (sym (h.rolling refl is)) (rests config came next)
@@ -507,7 +514,7 @@ module _ (config : Config) (came : Heard) (s : State) (chunk : ℕ) (asking : As
   stepped_chain moves carried moment steps.Wait told of carries = rests config came s
   stepped_chain moves carried moment (steps.Send source target) told of carries = Moves s (Sends chunk asking source target) None (record { known = known; has = has; copies = of.0; chosen = of.1 })
   stepped_chain moves carried moment (steps.Settle by) told of carries = if_chain by carried moment (view_by (settled_chunk s chunk) asking by moment) told of carries refl
-  stepped_chain moves carried moment steps.Fail told of carries = all_ended_chain config came (requests_of (concerned s chunk asking.call)) refusals.NoReplica s
+  stepped_chain moves carried moment steps.Fail told of carries = all_ended_chain config came (requests_of (concerned s chunk asking.call)) refusals.NoReplica s (some_pending concerns s.volatile.pending h.stands.apart)
 
 -- ---- answers, and a step of a tick
 
@@ -519,7 +526,7 @@ target_same : (b : Bool) (asking : Asking) (by : Poll) (server : ℕ) → is_tar
 target_same true asking by server = refl
 target_same false asking by server = refl
 
-module _ (config : Config) (came : Heard) (s : State) (h : Holds true s) (chunk : ℕ) (known : has_entry s chunk ≡ true) where
+module _ (config : Config) (came : Heard) (silent : hears_call came ≡ false) (s : State) (h : Holds true s) (chunk : ℕ) (known : has_entry s chunk ≡ true) where
   heard_chain : (asking : Asking) (b : Bool) (by : Poll) (carried : Bool) (moment : Moment) (step : Step) → fin.get s.volatile.moving chunk ≡ Some asking
       → AreCounts (if b then with_answers asking by else asking).answers → IsToldStep step → IsStepOf came chunk (if b then with_answers asking by else asking) step → (carried ≡ true → HasCarried came chunk (if b then with_answers asking by else asking))
       → May config came s (Hears chunk (if b then with_answers asking by else asking)) → (moves : Option Asking)
@@ -545,7 +552,7 @@ module _ (config : Config) (came : Heard) (s : State) (h : Holds true s) (chunk 
           let t = turned s (ask_plan chunk new) in
           let now : fin.get (fin.insert s.volatile.moving chunk new) chunk ≡ Some new = fin.get-insert nat_cmp_total s.volatile.moving chunk new chunk ∙ ap (λ o. cond (is_eq o) (Some new) (fin.get s.volatile.moving chunk)) (tied_itself nat_cmp_total chunk) in
           then_chain config came s t (λ next. stepped next chunk (record { settled = fin.get s.durable.chunks chunk; asking = moves }) new carried moment step) (Moves s (Hears chunk new) None may)
-          (stepped_chain config came t.after chunk new first.holds now known moves carried moment step step_told of carries)
+          (stepped_chain config came silent t.after chunk new first.holds now known moves carried moment step step_told of carries)
 
   pub yes_chain : (server : ℕ) (stamp : Stamp) (count : ℕ) (carried : Bool) (moment : Moment) (asking : Option Asking) → IsNumber count → fin.get s.volatile.moving chunk ≡ asking → came ≡ Some (server, bodies.About chunk (abouts.Promised stamp count carried))
       → (moves : Option Asking) → Chained config came s (promised_for s server chunk stamp count carried moment (record { settled = fin.get s.durable.chunks chunk; asking = moves }) asking)
@@ -582,5 +589,5 @@ module _ (config : Config) (came : Heard) (s : State) (h : Holds true s) (chunk 
   press_chain stamp moment None has moves = rests config came s
   press_chain stamp moment (Some asking) has moves =
       test_chain config came s (is_same asking.stamp stamp) (stepped s chunk (record { settled = fin.get s.durable.chunks chunk; asking = moves }) asking false moment (step_at_tick asking)) (unmoved s)
-      (λ _. stepped_chain config came s chunk asking h has known moves false moment (step_at_tick asking) (tick_told asking (h.stands.asked chunk asking has).told) (tick_of came chunk asking) (λ e. absurd (false≢true e)))
+      (λ _. stepped_chain config came silent s chunk asking h has known moves false moment (step_at_tick asking) (tick_told asking (h.stands.asked chunk asking has).told) (tick_of came chunk asking) (λ e. absurd (false≢true e)))
       (λ _. rests config came s)

@@ -376,11 +376,11 @@ module _ (config : Config) (heard : Heard) (s : State) where
   answer_sent req (answers.Location chunk view epoch) over = inr (refl, refl)
   answer_sent req answer over = tt
 
-  again_sent : (move : Move) (body : Body) → IsSaidAgain s body → IsToldOnlyIf (λ caller chunk view epoch. WasBy config heard s caller chunk view epoch move) body
+  again_sent : (move : Move) (body : Body) → IsSaidAgain heard s body → IsToldOnlyIf (λ caller chunk view epoch. WasBy config heard s caller chunk view epoch move) body
   again_sent move (bodies.Reply req (Ok (answers.Location chunk view epoch))) was = inl (replied_before req chunk view epoch s was)
   again_sent move body was = tt
 
-  all_again : (move : Move) (messages : List Message) → AreSaidAgain s messages → AllByRecursion (SentBy move) messages
+  all_again : (move : Move) (messages : List Message) → AreSaidAgain heard s messages → AllByRecursion (SentBy move) messages
   all_again move [] all = tt
   all_again move (m ∷ messages) all = (again_sent move m.body all.0, all_again move messages all.1)
 

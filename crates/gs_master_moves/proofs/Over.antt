@@ -19,7 +19,7 @@ use Rattle.gs_master_record.specs.declared.checkpoint.Phase.TheVariants.{Ordinar
 use Rattle.gs_master_record.specs.declared.entry.Answered.{Answered}
 use Rattle.gs_master_spec.specs.Applied.{after_edit, after_undoing, applied, are_answers, are_at_rest, held_by, is_next_epoch, may_be_settled, may_edit, may_propose, proposed, rolled_back, with_edit, with_epoch, with_reply, with_view, without_prepared, view_for, chunk_of_edit, with_answer, replayed}
 use Rattle.gs_master_spec.specs.Chunks.{holder_records, is_holder, target_of}
-use Rattle.gs_master_spec.specs.Durable.{Durable, is_ordinary, is_rolling, is_upgrade, prepared_view, with_prepared}
+use Rattle.gs_master_spec.specs.Durable.{Durable, start, is_ordinary, is_rolling, is_upgrade, prepared_view, with_prepared}
 use Rattle.gs_master_spec.specs.Handling.{call_turn, unlisted}
 use Rattle.gs_master_spec.specs.Replies.{answer_to, client_cmp, is_later, later}
 use Rattle.gs_master_spec.specs.Settling.{own_request}
@@ -47,72 +47,91 @@ use Rattle.gs_master_moves.specs.Laws.{heard_in, met_in}
 use Rattle.gs_master_moves.specs.Moves.{Alone, Chain, FromNow, Further, Move, Moves, Rests, Then, Begins, Makes, Copies, Hears, Sends, Settles, Edits, Extends, CopiesTree, Replaces, Scans, Refuses, Answers as AnswersCall, Waits, Restores, Says, Flags, Prepares, Finalizes, BeginsRollback, TellsRollback, CommitsRollback, Checkpoints, move_turn}
 use Rattle.gs_master_moves.specs.Over.{IsOverBy, OverMakesNoEdit, OverMakesNoEditLater, RefusedAreTold, is_restart, tells_edit_of, was_told}
 
+-- ---- what holds of the replies that records tell, and of more of them, holds over what becomes durable
+
+module _ (Q : fin.FinMap client_cmp KeptReply → Type 0) (told : (m : fin.FinMap client_cmp KeptReply) (to : ReqId) (result : Result Answer Refusal) → Q m → Q (with_reply m to result)) where
+  abbrev RepliesOver : Durable → Durable → Type 0
+  RepliesOver d e = Q d.replies → Q e.replies
+
+  same_replies : (d e : Durable) → e.replies ≡ d.replies → RepliesOver d e
+  same_replies d e same q = subst Q (sym same) q
+
+  replied_over : (d e : Durable) (to : ReqId) (result : Result Answer Refusal) → e.replies ≡ with_reply d.replies to result → RepliesOver d e
+  replied_over d e to result same q = subst Q (sym same) (told d.replies to result q)
+
+  answered_over : (d e : Durable) (by : ReqId) (answer : Option Answer) → e.replies ≡ with_answer d.replies by answer → RepliesOver d e
+  answered_over d e by None same = same_replies d e same
+  answered_over d e by (Some answer) same = replied_over d e by (Ok answer) same
+
+  edited_over : (d e : Durable) (by : ReqId) (edit : PlainEdit) (names : Result NamesView Refusal) → after_edit d by edit names ≡ Some e → RepliesOver d e
+  edited_over d e by edit (Ok names) fit =
+      answered_over d e by (answer_to edit (view_for d (chunk_of_edit edit)) d.epoch) (ap (λ (x : Durable). x.replies) (sym (fits_gives (may_edit d edit) (with_edit d by edit names) e fit).1))
+  edited_over d e by edit (Err refusal) fit = absurd (false≢true (ap is_there fit))
+    where
+      is_there : Option Durable → Bool
+      is_there None = false
+      is_there (Some x) = true
+
+  undone_over : (d e : Durable) (now : ℕ) (told : List Answered) (names : Option NamesView) → after_undoing d now told names ≡ Some e → RepliesOver d e
+  undone_over d e now told None fit = absurd (false≢true (ap is_there fit))
+    where
+      is_there : Option Durable → Bool
+      is_there None = false
+      is_there (Some x) = true
+  undone_over d e now told (Some names) fit =
+      same_replies d e (ap (λ (x : Durable). x.replies) (sym (fits_gives (is_rolling d.phase && ((now == d.epoch) && are_answers (prepared_view d) (fin.entries names.refs) told)) (rolled_back d told names) e fit).1))
+
+  record_keeps : (d e : Durable) (entry : PlainEntry) → plain entry ≡ true → applied d entry ≡ Some e → RepliesOver d e
+  unfolding applied
+  record_keeps d e (Edited by edit) usual fit = edited_over d e by edit (edited_names edit d.names) fit
+  record_keeps d e (Said to refusal) usual fit = replied_over d e to (Err refusal) (ap (λ (x : Durable). x.replies) (sym (durable_is fit)))
+    where
+      durable_is : {a b : Durable} → ◌≡◌ {A = Option Durable} (Some a) (Some b) → a ≡ b
+      durable_is h = cc
+  record_keeps d e (Propose q version) usual fit = same_replies d e (ap (λ (x : Durable). x.replies) (sym (fits_gives (may_propose d.phase d.next_handle d.next_version q version (fin.get d.chunks q)) (proposed d q version) e fit).1))
+  record_keeps d e (Settle v) usual fit = same_replies d e (ap (λ (x : Durable). x.replies) (sym (fits_gives (may_be_settled d v) (with_view d v) e fit).1))
+  record_keeps d e (Holder q server) usual fit =
+      same_replies d e (ap (λ (x : Durable). x.replies) (sym (fits_gives (is_upgrade d.phase && (nat_lt server 16 && is_some (prepared_view d q))) (record d { prepared = with_prepared d q (held_by server (prepared_view d q)) }) e fit).1))
+  record_keeps d e (Prepare now moment chunks) usual fit = same_replies d e (ap (λ (x : Durable). x.replies) (sym (fits_gives (is_ordinary d.phase && (is_next_epoch d.epoch now && are_at_rest d)) (without_prepared (with_epoch d ends.Prepare Upgrade)) e fit).1))
+  record_keeps d e (Finalize now) usual fit = same_replies d e (ap (λ (x : Durable). x.replies) (sym (fits_gives (is_upgrade d.phase && is_next_epoch d.epoch now) (without_prepared (with_epoch d ends.Finalize Ordinary)) e fit).1))
+  record_keeps d e (RollbackBegin now) usual fit = same_replies d e (ap (λ (x : Durable). x.replies) (sym (fits_gives (is_upgrade d.phase && is_next_epoch d.epoch now) (with_epoch d ends.Rollback Rolling) e fit).1))
+  record_keeps d e (RollbackCommit now told) usual fit = undone_over d e now told (all_undone d.inverses d.names) fit
+  record_keeps d e (Whole c) usual fit = absurd (false≢true usual)
+
+  pub replies_over : (config : Config) (heard : Heard) (s : State) (move : Move) → IsMade config heard s move → RepliesOver s.durable (move_turn config s move).after.durable
+  replies_over config heard s Checkpoints made = same_replies s.durable (move_turn config s Checkpoints).after.durable refl
+  replies_over config heard s move made =
+      over_records RepliesOver (λ d q. q) (λ d n e a b q. b (a q)) plain record_keeps (move_turn config s move).records s.durable (move_turn config s move).after.durable (plain_records config heard s move refl) made.fits
+
 -- ---- what was answered stays so, over what becomes durable
 
 -- whatever is in memory
-abbrev AnsweredOver : Durable → Durable → Type 0
+abbrev pub AnsweredOver : Durable → Durable → Type 0
 AnsweredOver d e = (v : Volatile) → StaysAnswered d v e v
 
-same_replies : (d e : Durable) → e.replies ≡ d.replies → AnsweredOver d e
-same_replies d e same v req was = ap (λ m. not (is_later (later (fin.get m req.client) (fin.get v.replies req.client)) req.number)) same ∙ was
+-- by these replies, beside those in memory
+abbrev IsAnsweredBy : Volatile → ReqId → fin.FinMap client_cmp KeptReply → Type 0
+IsAnsweredBy v req m = not (is_later (later (fin.get m req.client) (fin.get v.replies req.client)) req.number) ≡ true
 
-replied_over : (d e : Durable) (to : ReqId) (result : Result Answer Refusal) → e.replies ≡ with_reply d.replies to result → AnsweredOver d e
-replied_over d e to result same v req was = ap (λ m. not (is_later (later (fin.get m req.client) (fin.get v.replies req.client)) req.number)) same ∙ told_answers d v to result req was
-
-answered_over : (d e : Durable) (by : ReqId) (answer : Option Answer) → e.replies ≡ with_answer d.replies by answer → AnsweredOver d e
-answered_over d e by None same = same_replies d e same
-answered_over d e by (Some answer) same = replied_over d e by (Ok answer) same
-
-edited_over : (d e : Durable) (by : ReqId) (edit : PlainEdit) (names : Result NamesView Refusal) → after_edit d by edit names ≡ Some e → AnsweredOver d e
-edited_over d e by edit (Ok names) fit =
-    answered_over d e by (answer_to edit (view_for d (chunk_of_edit edit)) d.epoch) (ap (λ (x : Durable). x.replies) (sym (fits_gives (may_edit d edit) (with_edit d by edit names) e fit).1))
-edited_over d e by edit (Err refusal) fit = absurd (false≢true (ap is_there fit))
-  where
-    is_there : Option Durable → Bool
-    is_there None = false
-    is_there (Some x) = true
-
-undone_over : (d e : Durable) (now : ℕ) (told : List Answered) (names : Option NamesView) → after_undoing d now told names ≡ Some e → AnsweredOver d e
-undone_over d e now told None fit = absurd (false≢true (ap is_there fit))
-  where
-    is_there : Option Durable → Bool
-    is_there None = false
-    is_there (Some x) = true
-undone_over d e now told (Some names) fit =
-    same_replies d e (ap (λ (x : Durable). x.replies) (sym (fits_gives (is_rolling d.phase && ((now == d.epoch) && are_answers (prepared_view d) (fin.entries names.refs) told)) (rolled_back d told names) e fit).1))
+more_told : (v : Volatile) (req : ReqId) (m : fin.FinMap client_cmp KeptReply) (to : ReqId) (result : Result Answer Refusal) → IsAnsweredBy v req m → IsAnsweredBy v req (with_reply m to result)
+more_told v req m to result was = told_answers (record start { replies = m }) v to result req was
 
 record_over : (d e : Durable) (entry : PlainEntry) → plain entry ≡ true → applied d entry ≡ Some e → AnsweredOver d e
-unfolding applied
-record_over d e (Edited by edit) usual fit = edited_over d e by edit (edited_names edit d.names) fit
-record_over d e (Said to refusal) usual fit = replied_over d e to (Err refusal) (ap (λ (x : Durable). x.replies) (sym (durable_is fit)))
-  where
-    durable_is : {a b : Durable} → ◌≡◌ {A = Option Durable} (Some a) (Some b) → a ≡ b
-    durable_is h = cc
-record_over d e (Propose q version) usual fit = same_replies d e (ap (λ (x : Durable). x.replies) (sym (fits_gives (may_propose d.phase d.next_handle d.next_version q version (fin.get d.chunks q)) (proposed d q version) e fit).1))
-record_over d e (Settle v) usual fit = same_replies d e (ap (λ (x : Durable). x.replies) (sym (fits_gives (may_be_settled d v) (with_view d v) e fit).1))
-record_over d e (Holder q server) usual fit =
-    same_replies d e (ap (λ (x : Durable). x.replies) (sym (fits_gives (is_upgrade d.phase && (nat_lt server 16 && is_some (prepared_view d q))) (record d { prepared = with_prepared d q (held_by server (prepared_view d q)) }) e fit).1))
-record_over d e (Prepare now moment chunks) usual fit = same_replies d e (ap (λ (x : Durable). x.replies) (sym (fits_gives (is_ordinary d.phase && (is_next_epoch d.epoch now && are_at_rest d)) (without_prepared (with_epoch d ends.Prepare Upgrade)) e fit).1))
-record_over d e (Finalize now) usual fit = same_replies d e (ap (λ (x : Durable). x.replies) (sym (fits_gives (is_upgrade d.phase && is_next_epoch d.epoch now) (without_prepared (with_epoch d ends.Finalize Ordinary)) e fit).1))
-record_over d e (RollbackBegin now) usual fit = same_replies d e (ap (λ (x : Durable). x.replies) (sym (fits_gives (is_upgrade d.phase && is_next_epoch d.epoch now) (with_epoch d ends.Rollback Rolling) e fit).1))
-record_over d e (RollbackCommit now told) usual fit = undone_over d e now told (all_undone d.inverses d.names) fit
-record_over d e (Whole c) usual fit = absurd (false≢true usual)
+record_over d e entry usual fit v req was = record_keeps (IsAnsweredBy v req) (more_told v req) d e entry usual fit was
 
-durable_over : (config : Config) (heard : Heard) (s : State) (move : Move) → IsMade config heard s move → AnsweredOver s.durable (move_turn config s move).after.durable
-durable_over config heard s Checkpoints made = same_replies s.durable (move_turn config s Checkpoints).after.durable refl
-durable_over config heard s move made =
-    over_records AnsweredOver (λ d v req was. was) (λ d n e a b v req was. b v req (a v req was)) plain record_over (move_turn config s move).records s.durable (move_turn config s move).after.durable (plain_records config heard s move refl) made.fits
+pub durable_over : (config : Config) (heard : Heard) (s : State) (move : Move) → IsMade config heard s move → AnsweredOver s.durable (move_turn config s move).after.durable
+durable_over config heard s move made v req was = replies_over (IsAnsweredBy v req) (more_told v req) config heard s move made was
 
 -- ---- and over what is kept in memory
 
-abbrev AnsweredIn : Durable → Volatile → Volatile → Type 0
+abbrev pub AnsweredIn : Durable → Volatile → Volatile → Type 0
 AnsweredIn d v w = StaysAnswered d v d w
 
-same_in : (d : Durable) (v w : Volatile) → w.replies ≡ v.replies → AnsweredIn d v w
+pub same_in : (d : Durable) (v w : Volatile) → w.replies ≡ v.replies → AnsweredIn d v w
 same_in d v w same req was = ap (λ m. not (is_later (later (fin.get d.replies req.client) (fin.get m req.client)) req.number)) same ∙ was
 
 -- a change that keeps no reply
-abbrev keeps_none : Change → Bool
+abbrev pub keeps_none : Change → Bool
 keeps_none (changes.Keep client reply) = false
 keeps_none change = true
 
@@ -131,7 +150,7 @@ change_keeps v (changes.Prepare is_preparing) none = refl
 change_keeps v (changes.Restored server chunks) none = refl
 change_keeps v changes.RolledBack none = refl
 
-changes_keep : (cs : List Change) (v : Volatile) → list_all keeps_none cs ≡ true → (all_changed v cs).replies ≡ v.replies
+pub changes_keep : (cs : List Change) (v : Volatile) → list_all keeps_none cs ≡ true → (all_changed v cs).replies ≡ v.replies
 changes_keep [] v none = refl
 changes_keep (c ∷ cs) v none = (let parts = and_parts (keeps_none c) (list_all keeps_none cs) none in changes_keep cs (changed v c) parts.1 ∙ change_keeps v c parts.0)
 
@@ -148,7 +167,7 @@ let_go_keeps new req (e ∷ es) = both_all (let_go_of new req e) (flat_map (let_
     both_all [] ys a b = b
     both_all (x ∷ xs) ys a b = (let parts = and_parts (keeps_none x) (list_all keeps_none xs) a in ap (λ t. t && list_all keeps_none (xs ++ ys)) parts.0 ∙ both_all xs ys parts.1 b)
 
-end_keeps : (s : State) (req : ReqId) (over : Bool) → list_all keeps_none (if over then end_changes s req else []) ≡ true
+pub end_keeps : (s : State) (req : ReqId) (over : Bool) → list_all keeps_none (if over then end_changes s req else []) ≡ true
 end_keeps s req true = ended (let_go s.volatile req) (let_go_keeps s.volatile.unplaced req (fin.entries s.volatile.moving))
   where
     ended : (xs : List Change) → list_all keeps_none xs ≡ true → list_all keeps_none (xs ++ changes.End req ∷ []) ≡ true
@@ -180,11 +199,11 @@ said_in s req refusal = by_tests (is_kept refusal) (is_later (last_reply s req.c
     by_tests false new is room = same_in s.durable s.volatile s.volatile refl
 
 -- behind it others that keep none
-then_keeps : (d : Durable) (v : Volatile) (xs ys : List Change) → AnsweredIn d v (all_changed v xs) → list_all keeps_none ys ≡ true → AnsweredIn d v (all_changed v (xs ++ ys))
+pub then_keeps : (d : Durable) (v : Volatile) (xs ys : List Change) → AnsweredIn d v (all_changed v xs) → list_all keeps_none ys ≡ true → AnsweredIn d v (all_changed v (xs ++ ys))
 then_keeps d v xs ys a none req was =
     same_in d (all_changed v xs) (all_changed v (xs ++ ys)) (ap (λ (w : Volatile). w.replies) (changed_more xs ys v) ∙ changes_keep ys (all_changed v xs) none) req (a req was)
 
-memory_over : (config : Config) (s : State) (move : Move) → AnsweredIn s.durable s.volatile (move_turn config s move).after.volatile
+pub memory_over : (config : Config) (s : State) (move : Move) → AnsweredIn s.durable s.volatile (move_turn config s move).after.volatile
 memory_over config s (Begins q purpose call Alone) = same_in s.durable s.volatile (move_turn config s (Begins q purpose call Alone)).after.volatile refl
 memory_over config s (Begins q purpose call (FromNow req waiting)) = same_in s.durable s.volatile (move_turn config s (Begins q purpose call (FromNow req waiting))).after.volatile refl
 memory_over config s (Begins q purpose call (Further req waiting)) = same_in s.durable s.volatile (move_turn config s (Begins q purpose call (Further req waiting))).after.volatile refl
@@ -233,7 +252,7 @@ records_told entries d e req usual fit = told_on d e req (over_records AnsweredO
 
 -- ---- which edits are told
 
-any_both : {A : Type 0} (p : A → Bool) (xs ys : List A) → list_any p xs ≡ false → list_any p ys ≡ false → list_any p (xs ++ ys) ≡ false
+pub any_both : {A : Type 0} (p : A → Bool) (xs ys : List A) → list_any p xs ≡ false → list_any p ys ≡ false → list_any p (xs ++ ys) ≡ false
 any_both p [] ys a b = b
 any_both p (x ∷ xs) ys a b = by_head (p x) a (λ rest. any_both p xs ys rest b)
   where
@@ -241,19 +260,29 @@ any_both p (x ∷ xs) ys a b = by_head (p x) a (λ rest. any_both p xs ys rest b
     by_head true h rest = absurd (true≢false h)
     by_head false h rest = rest h
 
+call_is : {a b : ReqId} → ◌≡◌ {A = Option ReqId} (Some a) (Some b) → a ≡ b
+call_is h = cc
+
 and_none : (b : Bool) → ((b && false) || false) ≡ false
 and_none true = refl
 and_none false = refl
 
+-- whose edit a move makes: those of the master's own are nobody's
+abbrev pub editor : Move → Option ReqId
+editor (Edits by edit answer) = Some by
+editor (Extends by path new at) = Some by
+editor (CopiesTree by from to) = Some by
+editor move = None
+
 module _ (req : ReqId) where
-  abbrev IsOther : ReqId → Type 0
+  abbrev pub IsOther : ReqId → Type 0
   IsOther by = is_call req (Some by) ≡ false
 
-  abbrev tells : PlainEntry → Bool
+  abbrev pub tells : PlainEntry → Bool
   tells = tells_edit_of req
 
   -- an edit of another request
-  others_edit : (by : ReqId) (edit : PlainEdit) → IsOther by → list_any tells (Edited by edit ∷ []) ≡ false
+  pub others_edit : (by : ReqId) (edit : PlainEdit) → IsOther by → list_any tells (Edited by edit ∷ []) ≡ false
   others_edit by edit other = ap (λ b. (b && not (is_call by (Some own_request))) || false) other
 
   settle_tells : (b : Bool) (q : ℕ) (target : Option ℕ) (view : View) → list_any tells (holder_records b q target ++ Settle (record { handle = q; view = view }) ∷ []) ≡ false
@@ -269,7 +298,7 @@ module _ (req : ReqId) where
       by_test true rest = rest
       by_test false rest = rest
 
-  said_tells : (s : State) (by : ReqId) (refusal : Refusal) → list_any tells (said_records (keeps_refusal s by refusal) s.log by refusal) ≡ false
+  pub said_tells : (s : State) (by : ReqId) (refusal : Refusal) → list_any tells (said_records (keeps_refusal s by refusal) s.log by refusal) ≡ false
   said_tells s by refusal = by_test (keeps_refusal s by refusal && fits s.log (Said by refusal ∷ []))
     where
       by_test : (b : Bool) → list_any tells (if b then Said by refusal ∷ [] else []) ≡ false
@@ -291,7 +320,7 @@ module _ (req : ReqId) where
   others_rest (p ∷ ps) all = ap (λ b. b || is_pending ps req) all.0 ∙ others_rest ps all.1
 
   -- a call of which a move can be isn't one that is over
-  called_other : (heard : Heard) (s : State) → IsOver s.durable s.volatile req → (by : ReqId) → IsCalled heard s by → IsOther by
+  pub called_other : (heard : Heard) (s : State) → IsOver s.durable s.volatile req → (by : ReqId) → IsCalled heard s by → IsOther by
   called_other heard s over by called = by_same (is_call req (Some by)) refl
     where
       later : is_later (last_reply s by.client) by.number ≡ true → req ≡ by → ⊥
@@ -309,37 +338,46 @@ module _ (req : ReqId) where
       by_same false is = refl
 
   module _ (config : Config) (heard : Heard) where
-    move_tells : (s : State) (move : Move) → ((by : ReqId) → IsCalled heard s by → IsOther by) → IsMade config heard s move → list_any tells (move_turn config s move).records ≡ false
-    move_tells s (Begins q purpose call Alone) other made = refl
-    move_tells s (Begins q purpose call (FromNow by waiting)) other made = refl
-    move_tells s (Begins q purpose call (Further by waiting)) other made = refl
-    move_tells s (Makes targets by path) other made = refl
-    move_tells s (Copies old at by Alone) other made = refl
-    move_tells s (Copies old at by (FromNow mine waiting)) other made = refl
-    move_tells s (Copies old at by (Further mine waiting)) other made = refl
-    move_tells s (Hears q asking) other made = refl
-    move_tells s (Sends q asking source target) other made = refl
-    move_tells s (Settles q asking carried at) other made = settle_tells (is_holder s.durable.phase (prepared_view s.durable q) carried asking at) q (target_of asking.purpose) at
-    move_tells s (Edits by edit answer) other made = others_edit by edit (other by made.may.called)
-    move_tells s (Extends by path new at) other made = others_edit by (AddChunk path new) (other by made.may.3)
-    move_tells s (CopiesTree by from to) other made = others_edit by (Snapshot from to) (other by (inr made.may.2))
-    move_tells s (Replaces path index old new) other made = and_none (is_call req (Some own_request))
-    move_tells s (Scans removed forgotten) other made = own_tells (map (λ path. Remove path) removed ++ forget_if forgotten)
-    move_tells s (Refuses by refusal over) other made = said_tells s by refusal
-    move_tells s (AnswersCall by answer true) other made = refl
-    move_tells s (AnswersCall by answer false) other made = refl
-    move_tells s (Waits by waiting) other made = refl
-    move_tells s (Restores server chunks) other made = refl
-    move_tells s (Says messages) other made = refl
-    move_tells s (Flags by preparing now) other made = refl
-    move_tells s (Prepares by moment) other made = refl
-    move_tells s (Finalizes by) other made = refl
-    move_tells s BeginsRollback other made = refl
-    move_tells s (TellsRollback by now) other made = refl
-    move_tells s (CommitsRollback by names) other made = refl
-    move_tells s Checkpoints other made = refl
+    pub editor_tells : (s : State) (move : Move) → ((by : ReqId) → editor move ≡ Some by → IsOther by) → list_any tells (move_turn config s move).records ≡ false
+    editor_tells s (Begins q purpose call Alone) other = refl
+    editor_tells s (Begins q purpose call (FromNow by waiting)) other = refl
+    editor_tells s (Begins q purpose call (Further by waiting)) other = refl
+    editor_tells s (Makes targets by path) other = refl
+    editor_tells s (Copies old at by Alone) other = refl
+    editor_tells s (Copies old at by (FromNow mine waiting)) other = refl
+    editor_tells s (Copies old at by (Further mine waiting)) other = refl
+    editor_tells s (Hears q asking) other = refl
+    editor_tells s (Sends q asking source target) other = refl
+    editor_tells s (Settles q asking carried at) other = settle_tells (is_holder s.durable.phase (prepared_view s.durable q) carried asking at) q (target_of asking.purpose) at
+    editor_tells s (Edits by edit answer) other = others_edit by edit (other by refl)
+    editor_tells s (Extends by path new at) other = others_edit by (AddChunk path new) (other by refl)
+    editor_tells s (CopiesTree by from to) other = others_edit by (Snapshot from to) (other by refl)
+    editor_tells s (Replaces path index old new) other = and_none (is_call req (Some own_request))
+    editor_tells s (Scans removed forgotten) other = own_tells (map (λ path. Remove path) removed ++ forget_if forgotten)
+    editor_tells s (Refuses by refusal over) other = said_tells s by refusal
+    editor_tells s (AnswersCall by answer true) other = refl
+    editor_tells s (AnswersCall by answer false) other = refl
+    editor_tells s (Waits by waiting) other = refl
+    editor_tells s (Restores server chunks) other = refl
+    editor_tells s (Says messages) other = refl
+    editor_tells s (Flags by preparing now) other = refl
+    editor_tells s (Prepares by moment) other = refl
+    editor_tells s (Finalizes by) other = refl
+    editor_tells s BeginsRollback other = refl
+    editor_tells s (TellsRollback by now) other = refl
+    editor_tells s (CommitsRollback by names) other = refl
+    editor_tells s Checkpoints other = refl
 
-    move_over : (s : State) (move : Move) → IsMade config heard s move → IsOver s.durable s.volatile req → IsOver (move_turn config s move).after.durable (move_turn config s move).after.volatile req
+    editor_called : (s : State) (move : Move) (by : ReqId) → editor move ≡ Some by → IsMade config heard s move → IsCalled heard s by
+    editor_called s (Edits mine edit answer) by is made = subst (IsCalled heard s) (call_is is) made.may.called
+    editor_called s (Extends mine path new at) by is made = subst (IsCalled heard s) (call_is is) made.may.3
+    editor_called s (CopiesTree mine from to) by is made = subst (IsCalled heard s) (call_is is) (inr made.may.2)
+    editor_called s move by is made = absurd (false≢true (ap is_some is))
+
+    move_tells : (s : State) (move : Move) → ((by : ReqId) → IsCalled heard s by → IsOther by) → IsMade config heard s move → list_any tells (move_turn config s move).records ≡ false
+    move_tells s move other made = editor_tells s move (λ by is. other by (editor_called s move by is made))
+
+    pub move_over : (s : State) (move : Move) → IsMade config heard s move → IsOver s.durable s.volatile req → IsOver (move_turn config s move).after.durable (move_turn config s move).after.volatile req
     move_over s move made over = record {
       answered = durable_over config heard s move made (move_turn config s move).after.volatile req (memory_over config s move req over.answered);
       rests = others_rest (move_turn config s move).after.volatile.pending (move_waits IsOther config heard s move (called_other heard s over) made (rest_others s.volatile.pending over.rests));

@@ -28,10 +28,10 @@ use Rattle.gs_master_spec.specs.Calls.{found_chunk, refused_before, told_phase}
 use Rattle.gs_master_spec.specs.Chunks.{has_entry}
 use Rattle.gs_master_spec.specs.Durable.{Durable, is_listed, is_ordinary, is_rolling, prepared_view}
 use Rattle.gs_master_spec.specs.Handling.{call_turn, called, called_unless, numbered, refusal_in, replied_again, taken_as, waits_still, New, Again, Older}
-use Rattle.gs_master_state.specs.Sane.{is_waited_by, makes}
+use Rattle.gs_master_state.specs.Sane.{are_apart, is_waited_by, makes}
 use Rattle.gs_master_spec.specs.Settling.{is_quiet_at, requests_of}
 use Rattle.gs_master_spec.specs.Replies.{is_later}
-use Rattle.gs_master_spec.specs.State.{State, Turn, turned, and_then, joined, refused, all_ended_by, ended_by, first_of, is_failed, is_unopened, last_reply, unmoved}
+use Rattle.gs_master_spec.specs.State.{State, Turn, turned, and_then, joined, refused, all_ended_by, ended_by, first_of, is_failed, is_kept, is_unopened, last_reply, unmoved}
 use Rattle.gs_master_spec.specs.Undoing.{all_undone}
 use Rattle.gs_master_spec.specs.Upgrades.{accepted_plan, all_unquiet, answers_for, begin_tests, chunk_count, commit_if, commit_on, commit_tests, end_tests, finalize, first_in, if_pending, if_unquiet, is_last_epoch, lowest_path, pending_paths, prepare_abort, prepare_begin, prepare_commit, rollback_begin, tell_all, told_of, unless, unrestored}
 use Rattle.gs_master_spec.specs.Volatile.{is_call, is_pending, without_pending}
@@ -42,6 +42,7 @@ use Rattle.gs_master_spec.specs.declared.pending.Pending.{Pending}
 use Rattle.gs_master_spec.specs.declared.reply.KeptReply.{KeptReply}
 use Rattle.gs_master_laws.specs.Promises.{IsKept}
 use Rattle.gs_master_laws.proofs.AcceptedCalls.{left_false, one_visible, passes}
+use Rattle.gs_master_moves.proofs.Ended.{each_pending}
 use Rattle.gs_master_moves.proofs.Free.{first_free, free_of, none_free}
 use Rattle.gs_path.specs.Element.{is_hidden}
 use Rattle.gs_master_laws.proofs.AcceptedUpgrades.{begin_fits, first_test, not_so, unquiet_none}
@@ -51,7 +52,7 @@ use Rattle.gs_master_laws.proofs.StandingTurns.{Holds, given_up}
 use Rattle.gs_master_moves.proofs.Calls.{deletes_chain, edits_chain, renames_chain, extends_turned, found_listed, found_turned, lists_chain, located_turned, most_chain, scans_turned, snapshot_if_chain, status_chain}
 use Rattle.gs_master_moves.proofs.Chains.{Chained, Turned, all_begun_chain, all_ended_chain, answered_chain, closing_chain, joined_together, refused_chain, rests, room_chain, room_turned, test_chain, test_turned, then_chain, within}
 use Rattle.gs_master_moves.specs.Epochs.{ByItself, Closes}
-use Rattle.gs_master_moves.specs.Guards.{IsCalled, IsHeardCall, Heard, WasReplied}
+use Rattle.gs_master_moves.specs.Guards.{IsCalled, IsHeardCall, IsRefusable, Heard, WasReplied, hears_call}
 use Rattle.gs_master_moves.specs.Moves.{Moves, Then, BeginsRollback, CommitsRollback, Finalizes, Flags, Prepares, Says, TellsRollback}
 
 -- ---- calls that wait for no path make no chunk
@@ -101,19 +102,19 @@ pub ends_counted : (d : Durable) → IsKept d → length d.ends ≡ d.epoch
 ends_counted d k = same_count (length d.ends) d.epoch (and_parts (length d.ends == d.epoch) _ k.ends).0
 
 module _ (config : Config) (heard : Heard) where
-  unless_chain : (s : State) (req : ReqId) (t : Turn) (refusal : Option Refusal) → (refusal ≡ None → Chained config heard s t) → Chained config heard s (unless refusal s req t)
-  unless_chain s req t None a = room_chain config heard s req t (a refl)
-  unless_chain s req t (Some refusal) a = refused_chain config heard s req refusal
+  unless_chain : (s : State) (req : ReqId) → IsRefusable heard s req false → (t : Turn) (refusal : Option Refusal) → (refusal ≡ None → Chained config heard s t) → Chained config heard s (unless refusal s req t)
+  unless_chain s req may t None a = room_chain config heard s req may t (a refl)
+  unless_chain s req may t (Some refusal) a = refused_chain config heard s req may refusal
 
-  prepare_chain : (s : State) (req : ReqId) → Holds true s → Chained config heard s (prepare_begin s req)
-  prepare_chain s req h =
+  prepare_chain : (s : State) (req : ReqId) → IsRefusable heard s req false → Holds true s → Chained config heard s (prepare_begin s req)
+  prepare_chain s req may h =
       let reqs = requests_of s.volatile.pending in
       let many = all_unquiet s in
       let ended = all_ended_by s reqs refusals.Preparing in
       let begin : State → Turn = λ next. all_begun next many purposes.Quiet None in
       let accept : State → Turn = λ next. turned next (accepted_plan next req [] (changes.Prepare true ∷ []) [] s.durable.epoch) in
       let exhausted = not (has_versions s.durable (length many)) in
-      unless_chain s req (and_then (and_then ended begin) accept) (first_of (begin_tests s.durable.phase s.volatile.is_preparing s.volatile.pending exhausted))
+      unless_chain s req may (and_then (and_then ended begin) accept) (first_of (begin_tests s.durable.phase s.volatile.is_preparing s.volatile.pending exhausted))
       (λ passed.
       let more = if_pending (lowest_path (pending_paths s.volatile.pending)) ++ (exhausted, refusals.Exhausted) ∷ [] in
       let one = first_test (s.volatile.is_preparing || not (is_ordinary s.durable.phase)) refusals.AlreadyUpgrading more passed in
@@ -124,16 +125,16 @@ module _ (config : Config) (heard : Heard) where
       ap (λ u. list_all (λ c. is_listed ended.after.durable c || is_member u c) many) placed
       ∙ all_ended_same (λ d. list_all (λ c. is_listed d c || is_member s.volatile.unplaced c) many) (λ d replies. refl) reqs refusals.Preparing s ∙ known in
       then_chain config heard s (and_then ended begin) accept
-      (then_chain config heard s ended begin (all_ended_chain config heard reqs refusals.Preparing s) (all_begun_chain config heard many None ended.after still))
+      (then_chain config heard s ended begin (all_ended_chain config heard reqs refusals.Preparing s (each_pending s.volatile.pending h.stands.apart)) (all_begun_chain config heard many None ended.after still))
       (Moves (and_then ended begin).after (Flags req true s.durable.epoch) None tt))
 
-  unless_turned : (s : State) (req : ReqId) (t : Turn) (refusal : Option Refusal) → (refusal ≡ None → Turned config heard s t) → Turned config heard s (unless refusal s req t)
-  unless_turned s req t None a = room_turned config heard s req t (a refl)
-  unless_turned s req t (Some refusal) a = within config heard (refused_chain config heard s req refusal)
+  unless_turned : (s : State) (req : ReqId) → IsRefusable heard s req false → (t : Turn) (refusal : Option Refusal) → (refusal ≡ None → Turned config heard s t) → Turned config heard s (unless refusal s req t)
+  unless_turned s req may t None a = room_turned config heard s req may t (a refl)
+  unless_turned s req may t (Some refusal) a = within config heard (refused_chain config heard s req may refusal)
 
-  commit_chain : (s : State) (req : ReqId) (moment : Moment) → IsKept s.durable → Turned config heard s (prepare_commit config s req moment)
-  commit_chain s req moment k =
-      unless_turned s req (turned s (accepted_plan s req (Prepare (s.durable.epoch + 1) moment.0 (chunk_count s) ∷ []) (changes.Prepare false ∷ []) (tell_all config (s.durable.epoch + 1) ends.Prepare) (s.durable.epoch + 1)))
+  commit_chain : (s : State) (req : ReqId) → IsRefusable heard s req false → (moment : Moment) → IsKept s.durable → Turned config heard s (prepare_commit config s req moment)
+  commit_chain s req may moment k =
+      unless_turned s req may (turned s (accepted_plan s req (Prepare (s.durable.epoch + 1) moment.0 (chunk_count s) ∷ []) (changes.Prepare false ∷ []) (tell_all config (s.durable.epoch + 1) ends.Prepare) (s.durable.epoch + 1)))
       (first_of (commit_tests s.durable.phase s.volatile.is_preparing (all_unquiet s) (is_last_epoch s.durable)))
       (λ passed.
       let more = if_unquiet (first_in (all_unquiet s)) ++ (is_last_epoch s.durable, refusals.Exhausted) ∷ [] in
@@ -142,18 +143,18 @@ module _ (config : Config) (heard : Heard) where
       let quiet = (unquiet_none (all_unquiet s) (is_last_epoch s.durable) two.1).0 in
       ByItself s (Prepares req moment) None (record { begun = not_so s.volatile.is_preparing two.0; quiet = quiet; ended = ends_counted s.durable k }) refl)
 
-  finalize_chain : (s : State) (req : ReqId) → IsKept s.durable → Turned config heard s (finalize config s req)
-  finalize_chain s req k =
-      unless_turned s req (turned s (accepted_plan s req (Finalize (s.durable.epoch + 1) ∷ []) [] (tell_all config (s.durable.epoch + 1) ends.Finalize) (s.durable.epoch + 1)))
+  finalize_chain : (s : State) (req : ReqId) → IsRefusable heard s req false → IsKept s.durable → Turned config heard s (finalize config s req)
+  finalize_chain s req may k =
+      unless_turned s req may (turned s (accepted_plan s req (Finalize (s.durable.epoch + 1) ∷ []) [] (tell_all config (s.durable.epoch + 1) ends.Finalize) (s.durable.epoch + 1)))
       (first_of (end_tests s.durable.phase (is_last_epoch s.durable))) (λ passed. ByItself s (Finalizes req) None (record { passed = passed; ended = ends_counted s.durable k }) refl)
 
-  rollback_chain : (s : State) (req : ReqId) → IsKept s.durable → Turned config heard s (rollback_begin config s req)
-  rollback_chain s req k =
+  rollback_chain : (s : State) (req : ReqId) → IsRefusable heard s req false → IsKept s.durable → are_apart s.volatile.pending ≡ true → Turned config heard s (rollback_begin config s req)
+  rollback_chain s req may k apart =
       let first = turned s (record { records = RollbackBegin (s.durable.epoch + 1) ∷ []; changes = []; sent = []; said = None }) in
       let reqs = requests_of s.volatile.pending in
       let ended : State → Turn = λ next. all_ended_by next reqs refusals.RollingBack in
       let accept : State → Turn = λ next. turned next (accepted_plan next req [] [] (tell_all config (s.durable.epoch + 1) ends.Rollback) (s.durable.epoch + 1)) in
-      unless_turned s req (and_then (and_then first ended) accept) (first_of (end_tests s.durable.phase (is_last_epoch s.durable)))
+      unless_turned s req may (and_then (and_then first ended) accept) (first_of (end_tests s.durable.phase (is_last_epoch s.durable)))
       (λ passed.
       let fit = begin_fits s.durable k passed in
       let ended_so : slice_get (and_then first ended).after.durable.ends s.durable.epoch ≡ Some ends.Rollback =
@@ -163,24 +164,24 @@ module _ (config : Config) (heard : Heard) where
       let behind = ended first.after in
       subst (Turned config heard s) (sym (joined_together first behind (accept behind.after)))
       (Closes s BeginsRollback None (joined behind (accept behind.after)) (record { passed = passed; ended = ends_counted s.durable k }) refl
-      (Then first.after behind (accept behind.after) (closing_chain config heard reqs refusals.RollingBack first.after)
+      (Then first.after behind (accept behind.after) (closing_chain config heard reqs refusals.RollingBack first.after (each_pending s.volatile.pending apart))
       (Moves behind.after (TellsRollback req (s.durable.epoch + 1)) None (record { before = s.durable.epoch; next = refl; ended = ended_so }, refl)))))
 
-  abort_chain : (s : State) (req : ReqId) → Chained config heard s (prepare_abort s req)
-  abort_chain s req =
+  abort_chain : (s : State) (req : ReqId) → IsRefusable heard s req false → Chained config heard s (prepare_abort s req)
+  abort_chain s req may =
       test_chain config heard s s.volatile.is_preparing (turned s (accepted_plan s req [] (changes.Prepare false ∷ []) [] s.durable.epoch)) (refused s req refusals.NotUpgrading)
-      (λ _. Moves s (Flags req false s.durable.epoch) None tt) (λ _. refused_chain config heard s req refusals.NotUpgrading)
+      (λ _. Moves s (Flags req false s.durable.epoch) None tt) (λ _. refused_chain config heard s req may refusals.NotUpgrading)
 
-  restored_chain : (s : State) (req : ReqId) (names : NamesView) (lacking : Option ℕ) → is_rolling s.durable.phase ≡ true → all_undone s.durable.inverses s.durable.names ≡ Some names → unrestored (prepared_view s.durable) (told_of s) (fin.entries names.refs) ≡ lacking
+  restored_chain : (s : State) (req : ReqId) → IsRefusable heard s req false → (names : NamesView) (lacking : Option ℕ) → is_rolling s.durable.phase ≡ true → all_undone s.durable.inverses s.durable.names ≡ Some names → unrestored (prepared_view s.durable) (told_of s) (fin.entries names.refs) ≡ lacking
       → Turned config heard s (commit_if s req names lacking)
-  restored_chain s req names (Some chunk) rolling back is = within config heard (refused_chain config heard s req (refusals.Unrestored chunk))
-  restored_chain s req names None rolling back is =
-      room_turned config heard s req (turned s (accepted_plan s req (RollbackCommit s.durable.epoch (answers_for (prepared_view s.durable) (told_of s) (fin.entries names.refs)) ∷ []) (changes.RolledBack ∷ []) [] s.durable.epoch))
+  restored_chain s req may names (Some chunk) rolling back is = within config heard (refused_chain config heard s req may (refusals.Unrestored chunk))
+  restored_chain s req may names None rolling back is =
+      room_turned config heard s req may (turned s (accepted_plan s req (RollbackCommit s.durable.epoch (answers_for (prepared_view s.durable) (told_of s) (fin.entries names.refs)) ∷ []) (changes.RolledBack ∷ []) [] s.durable.epoch))
       (ByItself s (CommitsRollback req names) None (record { rolling = rolling; back = back; restored = is }) refl)
 
-  commits_chain : (s : State) (req : ReqId) (names : Option NamesView) → is_rolling s.durable.phase ≡ true → all_undone s.durable.inverses s.durable.names ≡ names → Turned config heard s (commit_on s req names)
-  commits_chain s req None rolling is = within config heard (refused_chain config heard s req refusals.BadLine)
-  commits_chain s req (Some names) rolling is = restored_chain s req names (unrestored (prepared_view s.durable) (told_of s) (fin.entries names.refs)) rolling is refl
+  commits_chain : (s : State) (req : ReqId) → IsRefusable heard s req false → (names : Option NamesView) → is_rolling s.durable.phase ≡ true → all_undone s.durable.inverses s.durable.names ≡ names → Turned config heard s (commit_on s req names)
+  commits_chain s req may None rolling is = within config heard (refused_chain config heard s req may refusals.BadLine)
+  commits_chain s req may (Some names) rolling is = restored_chain s req may names (unrestored (prepared_view s.durable) (told_of s) (fin.entries names.refs)) rolling is refl
 
   -- ---- all calls
 
@@ -191,38 +192,38 @@ module _ (config : Config) (heard : Heard) where
   called_chain s req come new moment (calls.Delete path recursive) h passed = within config heard (deletes_chain config heard s req path recursive moment (first_free s req path _ _ (free_of s req (calls.Delete path recursive) new passed)) come)
   called_chain s req come new moment (calls.Undelete path) h passed = within config heard (edits_chain config heard s req (Unhide path) _ refl refl refl (first_free s req path _ _ (free_of s req (calls.Undelete path) new passed)) come)
   called_chain s req come new moment (calls.Snapshot from to) h passed = within config heard (snapshot_if_chain config heard s req come (none_free s req _ _ (free_of s req (calls.Snapshot from to) new passed)) from to (edited (edits.Snapshot from to) (fin.entries s.durable.names.tree)) h.stands.kept)
-  called_chain s req come new moment (calls.List path) h passed = within config heard (lists_chain config heard s req path)
-  called_chain s req come new moment (calls.Status path) h passed = within config heard (status_chain config heard s req path)
+  called_chain s req come new moment (calls.List path) h passed = within config heard (lists_chain config heard s req (come, new) path)
+  called_chain s req come new moment (calls.Status path) h passed = within config heard (status_chain config heard s req (come, new) path)
   called_chain s req come new moment (calls.FindForReading path index) h passed =
-      located_turned config heard s req come (found_chunk (fin.get s.durable.names.tree path) index) (left_false (is_rolling s.durable.phase) (passes s req (calls.FindForReading path index) passed).rolling) (λ c is. found_listed config heard s path index c h.stands.kept is)
+      located_turned config heard s req come new (found_chunk (fin.get s.durable.names.tree path) index) (left_false (is_rolling s.durable.phase) (passes s req (calls.FindForReading path index) passed).rolling) (λ c is. found_listed config heard s path index c h.stands.kept is)
   called_chain s req come new moment (calls.FindForWriting path index stamp) h passed =
       found_turned config heard s req come path index stamp moment (found_chunk (fin.get s.durable.names.tree path) index) (one_visible (list_any is_hidden path) (passes s req (calls.FindForWriting path index stamp) passed).hidden) (free_of s req (calls.FindForWriting path index stamp) new passed) h.stands.kept (left_false (is_rolling s.durable.phase) (passes s req (calls.FindForWriting path index stamp) passed).rolling) refl
   called_chain s req come new moment (calls.Extend path index) h passed =
       extends_turned config heard s req come new path index (fin.get s.durable.names.tree path) h.stands.kept (left_false (is_rolling s.durable.phase) (passes s req (calls.Extend path index) passed).rolling) refl
-  called_chain s req come new moment calls.Scan h passed = scans_turned config heard s req moment h.stands
+  called_chain s req come new moment calls.Scan h passed = scans_turned config heard s req (come, new) moment h.stands
   called_chain s req come new moment calls.Replicate h passed = within config heard (most_chain config heard s req come new (most_needed_of config.replicas (needs_of s)))
   called_chain s req come new moment calls.Query h passed = within config heard (answered_chain config heard s req (answers.Phase (told_phase s.volatile.is_preparing s.durable.phase) s.durable.epoch) refl)
-  called_chain s req come new moment calls.PrepareBegin h passed = within config heard (prepare_chain s req h)
-  called_chain s req come new moment calls.PrepareCommit h passed = commit_chain s req moment h.stands.kept
-  called_chain s req come new moment calls.PrepareAbort h passed = within config heard (abort_chain s req)
-  called_chain s req come new moment calls.Finalize h passed = finalize_chain s req h.stands.kept
-  called_chain s req come new moment calls.RollbackBegin h passed = rollback_chain s req h.stands.kept
+  called_chain s req come new moment calls.PrepareBegin h passed = within config heard (prepare_chain s req (come, new) h)
+  called_chain s req come new moment calls.PrepareCommit h passed = commit_chain s req (come, new) moment h.stands.kept
+  called_chain s req come new moment calls.PrepareAbort h passed = within config heard (abort_chain s req (come, new))
+  called_chain s req come new moment calls.Finalize h passed = finalize_chain s req (come, new) h.stands.kept
+  called_chain s req come new moment calls.RollbackBegin h passed = rollback_chain s req (come, new) h.stands.kept h.stands.apart
   called_chain s req come new moment calls.RollbackCommit h passed =
       test_turned config heard s (is_rolling s.durable.phase) (commit_on s req (all_undone s.durable.inverses s.durable.names)) (refused s req refusals.NotUpgrading)
-      (λ rolling. commits_chain s req (all_undone s.durable.inverses s.durable.names) rolling refl) (λ _. within config heard (refused_chain config heard s req refusals.NotUpgrading))
+      (λ rolling. commits_chain s req (come, new) (all_undone s.durable.inverses s.durable.names) rolling refl) (λ _. within config heard (refused_chain config heard s req (come, new) refusals.NotUpgrading))
 
   called_unless_chain : (s : State) (req : ReqId) → IsCalled heard s req → is_pending s.volatile.pending req ≡ false → (moment : Moment) (call : Call) (refusal : Option Refusal) → Holds true s → refused_before s req call ≡ refusal → Turned config heard s (called_unless config s req moment call refusal)
   called_unless_chain s req come new moment call None h passed = called_chain s req come new moment call h passed
-  called_unless_chain s req come new moment call (Some refusal) h passed = within config heard (refused_chain config heard s req refusal)
+  called_unless_chain s req come new moment call (Some refusal) h passed = within config heard (refused_chain config heard s req (come, new) refusal)
 
   -- ---- a reply again
 
-  refused_again : (s : State) (req : ReqId) (refusal : Refusal) → Chained config heard s (replied_again s req (Err refusal))
-  refused_again s req refusal = Moves s (Says _) (Some refusal) ((inl tt, tt), refl, (tt, tt))
+  refused_again : (s : State) (req : ReqId) (refusal : Refusal) → is_kept refusal ≡ false → Chained config heard s (replied_again s req (Err refusal))
+  refused_again s req refusal unkept = Moves s (Says _) (Some refusal) ((inl tt, tt), refl, (inl unkept, tt))
 
-  again_chain : (s : State) (req : ReqId) (result : Result Answer Refusal) → WasReplied s req result → Chained config heard s (replied_again s req result)
-  again_chain s req (Ok answer) was = Moves s (Says _) (refusal_in (Ok answer)) ((inr was, tt), refl, (was, tt))
-  again_chain s req (Err refusal) was = Moves s (Says _) (refusal_in (Err refusal)) ((inr was, tt), refl, (tt, tt))
+  again_chain : (s : State) (req : ReqId) → IsHeardCall heard req → is_pending s.volatile.pending req ≡ false → (result : Result Answer Refusal) → WasReplied s req result → Chained config heard s (replied_again s req result)
+  again_chain s req come new (Ok answer) was = Moves s (Says _) (refusal_in (Ok answer)) ((inr was, tt), refl, (was, tt))
+  again_chain s req come new (Err refusal) was = Moves s (Says _) (refusal_in (Err refusal)) ((inr was, tt), refl, (inr (was, new, ap hears_call come.2), tt))
 
   taken_chain : (s : State) (req : ReqId) → IsHeardCall heard req → is_pending s.volatile.pending req ≡ false → (moment : Moment) (call : Call) → Holds true s → Turned config heard s (taken_as config s req moment call (numbered (last_reply s req.client) req.number))
   taken_chain s req come new moment call h = by_reply (last_reply s req.client) refl
@@ -231,7 +232,7 @@ module _ (config : Config) (heard : Heard) where
       called o has later = inl (come, ap (λ o. is_later o req.number) has ∙ later)
 
       by_order : (reply : KeptReply) (b : Bool) → (reply.number == req.number) ≡ false → nat_lt req.number reply.number ≡ b → last_reply s req.client ≡ Some reply → Turned config heard s (taken_as config s req moment call (if b then Older else New))
-      by_order reply true other older has = within config heard (refused_again s req refusals.Old)
+      by_order reply true other older has = within config heard (refused_again s req refusals.Old refl)
       by_order reply false other older has = called_unless_chain s req (called (Some reply) has (behind reply.number req.number other older)) new moment call (refused_before s req call) h refl
         where
           behind : (a b : ℕ) → (a == b) ≡ false → nat_lt b a ≡ false → nat_lt a b ≡ true
@@ -239,7 +240,7 @@ module _ (config : Config) (heard : Heard) where
 
       by_number : (reply : KeptReply) (b : Bool) → (reply.number == req.number) ≡ b → last_reply s req.client ≡ Some reply
           → Turned config heard s (taken_as config s req moment call (if b then Again reply.result else if nat_lt req.number reply.number then Older else New))
-      by_number reply true same has = within config heard (again_chain s req reply.result (record { reply = reply; has = has; number = same; is = refl }))
+      by_number reply true same has = within config heard (again_chain s req come new reply.result (record { reply = reply; has = has; number = same; is = refl }))
       by_number reply false same has = by_order reply (nat_lt req.number reply.number) same refl has
 
       by_reply : (o : Option KeptReply) → last_reply s req.client ≡ o → Turned config heard s (taken_as config s req moment call (numbered o req.number))
@@ -249,6 +250,6 @@ module _ (config : Config) (heard : Heard) where
   pub call_chain : (s : State) (req : ReqId) → IsHeardCall heard req → (moment : Moment) (call : Call) → Holds true s → Turned config heard s (call_turn config s req moment call)
   call_chain s req come moment call h =
       let taken = taken_as config s req moment call (numbered (last_reply s req.client) req.number) in
-      test_turned config heard s (is_unopened s.fault) (replied_again s req (Err refusals.Device)) (if is_pending s.volatile.pending req then waits_still s req else taken) (λ _. within config heard (refused_again s req refusals.Device))
+      test_turned config heard s (is_unopened s.fault) (replied_again s req (Err refusals.Device)) (if is_pending s.volatile.pending req then waits_still s req else taken) (λ _. within config heard (refused_again s req refusals.Device refl))
       (λ _. test_turned config heard s (is_pending s.volatile.pending req) (waits_still s req) taken
-      (λ _. test_turned config heard s (is_failed s.fault) (replied_again s req (Err refusals.Device)) (unmoved s) (λ _. within config heard (refused_again s req refusals.Device)) (λ _. within config heard (rests config heard s))) (λ new. taken_chain s req come new moment call h))
+      (λ _. test_turned config heard s (is_failed s.fault) (replied_again s req (Err refusals.Device)) (unmoved s) (λ _. within config heard (refused_again s req refusals.Device refl)) (λ _. within config heard (rests config heard s))) (λ new. taken_chain s req come new moment call h))

@@ -42,7 +42,7 @@ use Rattle.gs_master_spec.specs.Handling.{written}
 use Rattle.gs_master_spec.specs.Hearing.{is_stray, is_with_sealed}
 use Rattle.gs_master_spec.specs.Replies.{is_later}
 use Rattle.gs_master_spec.specs.Settling.{is_quiet_at, source_chunks}
-use Rattle.gs_master_spec.specs.State.{State, last_reply, first_of, is_failed}
+use Rattle.gs_master_spec.specs.State.{State, last_reply, first_of, is_failed, is_kept}
 use Rattle.gs_master_spec.specs.Undoing.{all_undone, edited_names}
 use Rattle.gs_master_spec.specs.Upgrades.{all_unquiet, end_tests, is_last_epoch, told_of, unrestored}
 use Rattle.gs_master_spec.specs.Volatile.{is_pending}
@@ -57,6 +57,11 @@ use Rattle.gs_master_moves.specs.Moves.{Alone, Beside, FromNow, Further, Move, B
 -- what a server has said in the event, if one has, or what a client has called
 abbrev pub Heard : Type 0
 Heard = Option (ℕ × Body)
+
+-- a client has called
+abbrev pub hears_call : Heard → Bool
+hears_call (Some (from, bodies.Call req call)) = true
+hears_call heard = false
 
 -- ---- messages, each in the state in which it is sent
 
@@ -189,6 +194,11 @@ abbrev pub IsCalledFor : Heard → State → ReqId → Answer → Type 0
 IsCalledFor heard s req (answers.Location chunk view epoch) = IsCalled heard s req
 IsCalledFor heard s req answer = Unit {0}
 
+-- A call is refused in the event that brings it, where it doesn't wait; or it has waited till then.
+abbrev pub IsRefusable : Heard → State → ReqId → (over : Bool) → Type 0
+IsRefusable heard s req false = IsCalled heard s req × (is_pending s.volatile.pending req ≡ false)
+IsRefusable heard s req true = is_pending s.volatile.pending req ≡ true
+
 -- and of what waits from now on
 abbrev pub IsCalledBeside : Heard → State → Beside → Type 0
 IsCalledBeside heard s (FromNow req waiting) = IsCalled heard s req
@@ -205,13 +215,14 @@ IsRight heard s to said = ⊥
 abbrev pub AreRight : Heard → State → List Message → Type 0
 AreRight heard s messages = AllByRecursion (λ (m : Message). IsRight heard s m.to m.body) messages
 
--- A reply that is sent beside no answer refuses its call, or is the last one to its client once more.
-abbrev pub IsSaidAgain : State → Body → Type 0
-IsSaidAgain s (bodies.Reply req (Ok answer)) = WasReplied s req (Ok answer)
-IsSaidAgain s body = Unit {0}
+-- A reply that is sent beside no answer is the last one to its client once more; or it is a refusal that isn't kept. A client has called then whose call doesn't wait.
+abbrev pub IsSaidAgain : Heard → State → Body → Type 0
+IsSaidAgain heard s (bodies.Reply req (Ok answer)) = WasReplied s req (Ok answer)
+IsSaidAgain heard s (bodies.Reply req (Err refusal)) = (is_kept refusal ≡ false) ⊎ (WasReplied s req (Err refusal) × (is_pending s.volatile.pending req ≡ false) × (hears_call heard ≡ true))
+IsSaidAgain heard s body = Unit {0}
 
-abbrev pub AreSaidAgain : State → List Message → Type 0
-AreSaidAgain s messages = AllByRecursion (λ (m : Message). IsSaidAgain s m.body) messages
+abbrev pub AreSaidAgain : Heard → State → List Message → Type 0
+AreSaidAgain heard s messages = AllByRecursion (λ (m : Message). IsSaidAgain heard s m.body) messages
 
 -- ---- messages that ask nobody: for no promise, and for no copy
 
@@ -494,15 +505,15 @@ May config heard s (Hears chunk asking) = MayHear heard s chunk asking
 May config heard s (Sends chunk asking source target) = MaySend s chunk asking source target
 May config heard s (Settles chunk asking carried view) = MaySettle heard s chunk asking carried view
 May config heard s (Edits req edit answer) = MayEdit heard s req edit answer
-May config heard s (Extends req path chunk view) = IsEdit s (AddChunk path chunk) × IsSettledOn s chunk view × (has_entry s chunk ≡ true) × IsCalled heard s req × IsWaiting s req (waits_to_extend chunk)
-May config heard s (CopiesTree req from to) = IsEdit s (Snapshot from to) × (is_still_for s (Snapshot from to) ≡ true) × (is_pending s.volatile.pending req ≡ true)
+May config heard s (Extends req path chunk view) = IsEdit s (AddChunk path chunk) × IsSettledOn s chunk view × (has_entry s chunk ≡ true) × IsCalled heard s req × IsWaiting s req (waits_to_extend chunk) × (hears_call heard ≡ false)
+May config heard s (CopiesTree req from to) = IsEdit s (Snapshot from to) × (is_still_for s (Snapshot from to) ≡ true) × (is_pending s.volatile.pending req ≡ true) × (hears_call heard ≡ false)
 May config heard s (Replaces path index old new) = IsEdit s (Cow path index old new) × ((view : View) × IsSettledOn s new view) × (has_entry s new ≡ true) × ((req : ReqId) × IsWaiting s req (waits_for_copy path index old new))
 May config heard s (Scans removed forgotten) = MayScan s removed forgotten
-May config heard s (Refuses req refusal over) = Unit {0}
+May config heard s (Refuses req refusal over) = IsRefusable heard s req over
 May config heard s (AnswersCall req answer over) = IsRightAnswer s answer × IsEnd s answer over × IsCalledFor heard s req answer
 May config heard s (Waits req waiting) = IsCalled heard s req × (is_tree_wait waiting ≡ true) × (is_pending s.volatile.pending req ≡ false)
 May config heard s (Restores server chunks) = MayRestore heard s server chunks
-May config heard s (Says messages) = AreRight heard s messages × (ask_nobody messages ≡ true) × AreSaidAgain s messages
+May config heard s (Says messages) = AreRight heard s messages × (ask_nobody messages ≡ true) × AreSaidAgain heard s messages
 May config heard s (Flags req preparing epoch) = Unit {0}
 May config heard s (Prepares req moment) = MayPrepare s
 May config heard s (Finalizes req) = MayEnd s

@@ -1,11 +1,16 @@
 -- A request that is over makes no edit any more.
-use Rattle.std.specs.Prelude.{[], ◌∷◌, ◌&&◌, ◌≡◌, ◌⊎◌, Bool, List, Some, false, not, refl, true}
+use Rattle.std.specs.Prelude.{[], ◌∷◌, ◌&&◌, ◌≡◌, ◌⊎◌, Bool, List, Err, Ok, Some, false, not, refl, true}
 use Rattle.std.specs.FinMap as fin
 use Rattle.std.specs.List.{AllByRecursion, list_any}
 use Rattle.gs_base.specs.declared.config.Config.{Config}
 use Rattle.gs_base.specs.declared.numbers.Moment.{Moment}
 use Rattle.gs_base.specs.declared.numbers.ReqId.{ReqId}
 use Rattle.gs_base.specs.declared.refusal.Refusal.{Refusal}
+use Rattle.gs_base.specs.declared.refusal.Refusal.TheVariants as refusals
+use Rattle.gs_msg.specs.declared.answer.Answer.TheVariants as answers
+use Rattle.gs_msg.specs.declared.body.Body.{Body}
+use Rattle.gs_msg.specs.declared.body.Body.TheVariants as bodies
+use Rattle.gs_msg.specs.declared.message.Message.{Message}
 use Rattle.gs_msg.specs.declared.call.Call.{Call}
 use Rattle.gs_master_spec.specs.Handling.{call_turn}
 use Rattle.gs_path.specs.Path.{Path}
@@ -15,7 +20,7 @@ use Rattle.gs_master_record.specs.Plain.{Cow, Create, Edited, Finalize, PlainEnt
 use Rattle.gs_master_spec.specs.Durable.{Durable}
 use Rattle.gs_master_spec.specs.Replies.{is_later}
 use Rattle.gs_master_spec.specs.Settling.{own_request}
-use Rattle.gs_master_spec.specs.State.{State, Turn}
+use Rattle.gs_master_spec.specs.State.{State, Turn, is_kept}
 use Rattle.gs_master_spec.specs.Volatile.{is_call}
 
 -- a record tells an edit of this request, and none of the master's own: that for a copy on write, and those of a scan
@@ -50,6 +55,24 @@ abbrev pub RefusedAreTold : Type 0
 RefusedAreTold = (config : Config) (s : State) (req : ReqId) (moment : Moment) (call : Call) (refusal : Refusal) → (call_turn config s req moment call).said ≡ Some refusal →
     (call_turn config s req moment call).records ≡ Said req refusal ∷ [] → was_told (call_turn config s req moment call).after.durable req ≡ true
 
+-- ---- what is refused
+
+-- a message refuses this request, and the refusal is kept: it isn't one that tells that the number is too old, that a disk has failed, or that memory is wanting
+abbrev pub refuses : ReqId → Body → Bool
+refuses req (bodies.Reply by (Err refusal)) = is_call req (Some by) && is_kept refusal
+refuses req body = false
+
+abbrev pub is_refused_in : ReqId → Turn → Bool
+is_refused_in req t = list_any (λ (m : Message). refuses req m.body) t.sent
+
+pub record IsRefusedBy (req : ReqId) (t : Turn) : Type 0 where
+  pub edits : list_any (tells_edit_of req) t.records ≡ false
+  pub over : IsOver t.after.durable t.after.volatile req
+
+-- An event that refuses a request makes no edit for it, neither before nor behind the refusal, whether it brings the request or this one has waited; and the request is over.
+abbrev pub RefusedMakesNoEdit : Type 0
+RefusedMakesNoEdit = (config : Config) (s : State) (event : Event) (req : ReqId) → IsNamed event → IsFirm s → is_refused_in req (turn_of config s event) ≡ true → IsRefusedBy req (turn_of config s event)
+
 -- ---- examples
 
 abbrev a_request : ReqId
@@ -66,3 +89,12 @@ a_copy_on_write_is_the_masters_own path = refl
 
 an_epoch_is_no_edit : tells_edit_of a_request (Finalize 2) ≡ false
 an_epoch_is_no_edit = refl
+
+a_refusal_of_it : refuses a_request (bodies.Reply a_request (Err refusals.Locked)) ≡ true
+a_refusal_of_it = refl
+
+an_old_number_is_not_kept : refuses a_request (bodies.Reply a_request (Err refusals.Old)) ≡ false
+an_old_number_is_not_kept = refl
+
+an_answer_refuses_nothing : refuses a_request (bodies.Reply a_request (Ok answers.Nothing)) ≡ false
+an_answer_refuses_nothing = refl

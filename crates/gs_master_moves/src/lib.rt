@@ -9,7 +9,7 @@ ghost use Rattle.gs_master_moves.specs.Guards.{Heard, IsMade};
 ghost use Rattle.gs_master_moves.specs.Laws.{ChainsStand, CutsAreBeginnings, CutsStand, EventsAreChains, EventsStand, TicksAreChains};
 ghost use Rattle.gs_master_moves.specs.Locations.{KeptWereLocated, LocatedAreRight, SentWereLocated};
 ghost use Rattle.gs_master_moves.specs.Moved.{EachMoveAwaits, EachMovedSo, KnownAreSought, PreparesQuiet, StartsAwaited, StaysAwaited};
-ghost use Rattle.gs_master_moves.specs.Over.{OverMakesNoEdit, OverMakesNoEditLater, RefusedAreTold};
+ghost use Rattle.gs_master_moves.specs.Over.{OverMakesNoEdit, OverMakesNoEditLater, RefusedAreTold, RefusedMakesNoEdit};
 ghost use Rattle.gs_master_moves.specs.Places.{EditsSpare};
 ghost use Rattle.gs_master_moves.specs.Rows.{CopiesAreListed, CopiesAreNew, EachRowGoes, EpochsLeave, ListedStay, NewAreUnled, RowsGoOver};
 ghost use Rattle.gs_master_moves.specs.Shared.{EachMoveSharesSo, StartsSharedSo, StaysSharedSo};
@@ -125,9 +125,11 @@ pub fn a_location_answers_a_call()
 {}
 
 /// Once a request is over, since it or a later one of its client was answered and it doesn't wait, no event makes an edit for it, whatever comes, and it stays over: so over every list of
-/// events, where none restarts the master; and over every list, where a record has told the answer. A refusal is told by a record where there is room.
+/// events, where none restarts the master; and over every list, where a record has told the answer. A refusal is told by a record where there is room. And an event that refuses a request, whether it brings it or
+/// the request has waited, makes no edit for it, neither before nor behind the refusal, and leaves it over.
 pub fn a_request_that_is_over_makes_no_edit()
     ensures event { OverMakesNoEdit }
     ensures later { OverMakesNoEditLater }
     ensures told { RefusedAreTold }
+    ensures refused { RefusedMakesNoEdit }
 {}

@@ -89,9 +89,9 @@ module _ {D : Type 0} (law : AreNumbered) (chunk : ℕ) (step : Step) (old new :
       ∙ ap (λ (o : Option Server). lengthened (w.known.list t) (edit_under (stamp_at t) (numbers chunk message moment o (slice_get new.nodes.servers id)))) found
       ∙ ap (λ (o : Option Server). lengthened (w.known.list t) (edit_under (stamp_at t) (numbers chunk message moment (Some s) o))) got
       ∙ heard_then law c w v chunk id s after message.from moment (k moment) t message.body is lists
-  numbered_then (Ticks moment is sends) (node, (at, comes)) t same = ap (λ (x : Step). lengthened (w.known.list t) (edit_under (stamp_at t) (numbered x old new chunk))) comes ∙ sym same
+  numbered_then (Ticks moment is sends) (at, comes) t same = ap (λ (x : Step). lengthened (w.known.list t) (edit_under (stamp_at t) (numbered x old new chunk))) comes ∙ sym same
   numbered_then (Beats is sends) (at, comes) t same = ap (λ (x : Step). lengthened (w.known.list t) (edit_under (stamp_at t) (numbered x old new chunk))) comes ∙ sym same
-  numbered_then (Restarts is sends) (node, (at, comes)) t same = ap (λ (x : Step). lengthened (w.known.list t) (edit_under (stamp_at t) (numbered x old new chunk))) comes ∙ sym same
+  numbered_then (Restarts is sends) (at, comes) t same = ap (λ (x : Step). lengthened (w.known.list t) (edit_under (stamp_at t) (numbered x old new chunk))) comes ∙ sym same
   numbered_then (Loses handle is sends) (at, comes) t lists = ap (λ (x : Step). lengthened (w.known.list t) (edit_under (stamp_at t) (numbered x old new chunk))) comes ∙ sym (struck (call_by chunk (at_server.Loses handle) s) c (w.members id) (v.members id) t (w.known.list t) (v.known.list t) lists)
   numbered_then (Damages handle block is sends) (at, comes) t lists = ap (λ (x : Step). lengthened (w.known.list t) (edit_under (stamp_at t) (numbered x old new chunk))) comes ∙ sym (struck (call_by chunk (at_server.Damages handle block) s) c (w.members id) (v.members id) t (w.known.list t) (v.known.list t) lists)
 
@@ -120,9 +120,9 @@ module _ {D : Type 0} (chunk : ℕ) (step : Step) (old new : History D) (id : �
       ∙ ap (λ (o : Option Server). numbers chunk message moment o (slice_get new.nodes.servers id)) found
       ∙ ap (λ (o : Option Server). numbers chunk message moment (Some s) o) got))
       (numbers_under chunk message moment s after stamp promise)
-  numbered_under (Ticks moment is sends) (node, (at, comes)) = none_under (ap (λ (x : Step). numbered x old new chunk) comes)
+  numbered_under (Ticks moment is sends) (at, comes) = none_under (ap (λ (x : Step). numbered x old new chunk) comes)
   numbered_under (Beats is sends) (at, comes) = none_under (ap (λ (x : Step). numbered x old new chunk) comes)
-  numbered_under (Restarts is sends) (node, (at, comes)) = none_under (ap (λ (x : Step). numbered x old new chunk) comes)
+  numbered_under (Restarts is sends) (at, comes) = none_under (ap (λ (x : Step). numbered x old new chunk) comes)
   numbered_under (Loses handle is sends) (at, comes) = none_under (ap (λ (x : Step). numbered x old new chunk) comes)
   numbered_under (Damages handle block is sends) (at, comes) = none_under (ap (λ (x : Step). numbered x old new chunk) comes)
 

@@ -140,9 +140,9 @@ module _ {D : Type 0} (chunk id : ℕ) (step : Step) (old : History D) (c : Sett
   happens_there : (goes : ServerGoes old.sent id s after messages) → IsMet step goes → (steps : IsSteps (cause_at chunk goes) c chunk w id (about_of goes) after messages) → Says (event_at step old.sent id) → (steps.world.members id).intact ≡ true
   happens_there (Hears message moment was to is sends) (at, there, comes) steps told =
       survives_there c chunk id w s after (at_server.Hears message moment) me is reached upgrade stands shows so_far before _ messages steps (at_event (at_server.Hears message moment) (heard_event step old.sent id at message moment there to comes) told)
-  happens_there (Ticks moment is sends) (node, (at, comes)) steps told = steps.intact (inl refl) (before (at_none (ap (λ (y : Step). event_at y old.sent id) comes) told))
+  happens_there (Ticks moment is sends) (at, comes) steps told = steps.intact (inl refl) (before (at_none (ap (λ (y : Step). event_at y old.sent id) comes) told))
   happens_there (Beats is sends) (at, comes) steps told = steps.intact (inl refl) (before (at_none (ap (λ (y : Step). event_at y old.sent id) comes) told))
-  happens_there (Restarts is sends) (node, (at, comes)) steps told = steps.intact (inl refl) (before (at_none (ap (λ (y : Step). event_at y old.sent id) comes) told))
+  happens_there (Restarts is sends) (at, comes) steps told = steps.intact (inl refl) (before (at_none (ap (λ (y : Step). event_at y old.sent id) comes) told))
   happens_there (Loses handle is sends) (at, comes) steps told =
       survives_there c chunk id w s after (at_server.Loses handle) me is reached upgrade stands shows so_far before _ messages steps (at_event (at_server.Loses handle) (ap (λ (y : Step). event_at y old.sent id) comes ∙ ap (λ b. if b then Some (at_server.Loses handle) else None) (same_number id)) told)
   happens_there (Damages handle block is sends) (at, comes) steps told =

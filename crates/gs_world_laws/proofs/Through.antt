@@ -70,7 +70,7 @@ use Rattle.gs_world_laws.proofs.PlainReopens.{same_entries}
 use Rattle.gs_world_laws.proofs.Steady.{begins_steady, both, goes_on, goes_on_anew, left_standing, nothing, opened, sound_writes, steps_bounded, tells_one}
 use Rattle.gs_world_laws.specs.Saying.{IsStepWithin, KeepsTypes}
 use Rattle.gs_world_laws.specs.Steady.{HearsWithin, IsHeardAt, LastsSteady, StandsSteady, StepWithin, TellsSteady}
-use Rattle.gs_world_laws.specs.Through.{LastsThrough, TellsAt, TellsOn, Turns, TurnsAt}
+use Rattle.gs_world_laws.specs.Through.{LastsThrough, TellsAt, TellsOn, Turns, TurnsAt, is_sound_at}
 
 some_is : {A : Type 0} (x y : A) → Some x ≡ Some y → x ≡ y
 some_is x y is = cc
@@ -127,18 +127,24 @@ module _ {D : Type 0} (seen : D → List ℕ) (failures : D → ℕ) where
 
   -- ---- what becomes of a master
 
+  -- all records of the turn stand, if one was made
+  abbrev pub IsAll : {Made : MasterOf D → Turn → Type 0} {old : MasterPlace D} {d e : Durable} → TellsOn Made old d e → Type 0
+  IsAll (inl same) = Unit {0}
+  IsAll (inr part) = part.many ≡ length part.turn.records
+
   pub record Onward (Made : MasterOf D → Turn → Type 0) (old : MasterPlace D) (d : Durable) (new : MasterPlace D) : Type 0 where
     pub lasts : LastsThrough seen new
     pub durable : Durable
     pub tells : TellsAt seen new durable
     pub on : TellsOn Made old d durable
+    pub all : is_sound_at new ≡ true → IsAll on
 
   moved_on : (Made : MasterOf D → Turn → Type 0) (old new place : MasterPlace D) (d : Durable) → new ≡ place → Onward Made old d place → Onward Made old d new
   moved_on Made old new place d is on = subst (Onward Made old d) (sym is) on
 
   -- nothing becomes of it
   rests_on : (Made : MasterOf D → Turn → Type 0) (old : MasterPlace D) (d : Durable) → LastsThrough seen old → TellsAt seen old d → Onward Made old d old
-  rests_on Made old d h told = record { lasts = h; durable = d; tells = told; on = inl refl }
+  rests_on Made old d h told = record { lasts = h; durable = d; tells = told; on = inl refl; all = λ sound. tt }
 
   -- a disk had failed, and the journal is left
   idles_on : (Made : MasterOf D → Turn → Type 0) (m after : MasterOf D) (d : Durable) → is_failed m.state.fault ≡ true → LastsThrough seen (Standing m) → TellsAt seen (Standing m) d → after.state.fault ≡ m.state.fault → after.journal ≡ m.journal
@@ -148,6 +154,7 @@ module _ {D : Type 0} (seen : D → List ℕ) (failures : D → ℕ) where
     durable = d;
     tells = subst (λ (j : Journal D). IsToldIn (text_seen seen j) d) (sym journal) told;
     on = inl refl;
+    all = λ sound. tt;
   }
 
   -- ---- a turn that is done
@@ -192,6 +199,7 @@ module _ {D : Type 0} (seen : D → List ℕ) (failures : D → ℕ) where
         within = omega arith;
         stand = ap (replayed d) (take_all (length t.records) t.records (omega arith)) ∙ ap (λ x. replayed x t.records) (sym is_durable) ∙ fit;
       });
+      all = λ sound. refl;
     }
 
     -- a disk failed at one of them
@@ -210,6 +218,7 @@ module _ {D : Type 0} (seen : D → List ℕ) (failures : D → ℕ) where
         within = part.within;
         stand = ap (λ x. replayed x (take part.many t.records)) (sym is_durable) ∙ part.stand;
       });
+      all = λ sound. absurd (false≢true (sym (ap not failed) ∙ sound));
     }
 
     room_for : (records : List PlainEntry) → m.state.log.size + size_of_all records ≤ m.state.log.limit → text_size m.journal.text + size_of_all records ≤ limit
@@ -402,7 +411,7 @@ module _ {D : Type 0} (seen : D → List ℕ) (failures : D → ℕ) where
   opens_lasting Made config old first second d (Ok turn) new h told (after, is, opening, said) =
       let steady = opened seen failures config first second turn after h opening said in
       let found = opens_on config first second d turn (Standing after) h told (after, refl, opening, said) in
-      moved_on Made old new (Standing after) d is (record { lasts = lasts_standing after steady; durable = after.state.durable; tells = tells_standing after steady; on = inl (durable_of after found) })
+      moved_on Made old new (Standing after) d is (record { lasts = lasts_standing after steady; durable = after.state.durable; tells = tells_standing after steady; on = inl (durable_of after found); all = λ sound. tt })
     where
       durable_in : MasterPlace D → Durable
       durable_in (Standing x) = x.state.durable
@@ -412,7 +421,7 @@ module _ {D : Type 0} (seen : D → List ℕ) (failures : D → ℕ) where
       durable_of after (x, same, rested, firm) = ap durable_in same ∙ ap (λ (s : State). s.durable) rested
   opens_lasting Made config old first second d (Err e) new h told opens =
       let w = waits_on config first second d e new told opens in
-      moved_on Made old new (Closed w.0 w.1) d w.2 (record { lasts = subst TellsSteady (sym w.3) h; durable = d; tells = subst (λ (t : Text). IsToldIn t d) (sym w.3) told; on = inl refl })
+      moved_on Made old new (Closed w.0 w.1) d w.2 (record { lasts = subst TellsSteady (sym w.3) h; durable = d; tells = subst (λ (t : Text). IsToldIn t d) (sym w.3) told; on = inl refl; all = λ sound. tt })
 
   reopens_on : (Made : MasterOf D → Turn → Type 0) (config : Config) (old : MasterPlace D) (d : Durable) (result : Result Told Refusal) (new : MasterPlace D) → LastsThrough seen old → TellsAt seen old d → Reopens seen failures config old result new → Onward Made old d new
   reopens_on Made config (Standing m) d result new h told opening = opens_lasting Made config (Standing m) m.journal.first m.journal.second d result new (disks_tell m h) told opening
@@ -519,7 +528,7 @@ module _ {D : Type 0} (seen : D → List ℕ) (failures : D → ℕ) where
         stays (Turns moment (happenings.Damage id handle block) old) d old.nodes new (at_server id (λ s done after. Does (servers.damage handle block s) done s after) old.nodes done new at)
     at_node moment (happenings.FailDisk disk call) old d by outcome new (is, (with, told)) named within =
         moved (Turns moment (happenings.FailDisk disk call) old) d (armed disk call old.nodes.master) old.nodes new with
-        (λ h tells. record { lasts = arming disk call old.nodes.master h; durable = d; tells = telling d disk call old.nodes.master tells; on = inl refl })
+        (λ h tells. record { lasts = arming disk call old.nodes.master h; durable = d; tells = telling d disk call old.nodes.master tells; on = inl refl; all = λ sound. tt })
 
     -- a step
     pub step_on : (step : Step) (old new : History D) (d : Durable) → Goes seen failures armed step old new → StepWithin step old → Goes_on (TurnsAt step old) d old.nodes new.nodes

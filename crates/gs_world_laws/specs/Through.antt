@@ -1,5 +1,5 @@
 -- What stands at the master whatever disks of it fail, and what they tell then.
-use Rattle.std.specs.Prelude.{◌≡◌, ◌⊎◌, ◌≤◌, ℕ, MatchBool, false, List, length, take, Some, refl}
+use Rattle.std.specs.Prelude.{◌≡◌, ◌⊎◌, ◌≤◌, ℕ, Bool, MatchBool, false, not, List, length, take, Some, refl}
 use Rattle.std.proofs.Common.{inl}
 use Rattle.gs_base.specs.declared.numbers.ClientId.{ClientId}
 use Rattle.gs_base.specs.declared.numbers.Moment.{Moment}
@@ -38,6 +38,11 @@ module _ {D : Type 0} (seen : D → List ℕ) where
   TellsAt (Standing m) d = IsToldIn (text_seen seen m.journal) d
   TellsAt (Closed first second) d = IsToldIn (standing (seen first) (seen second)) d
   TellsAt Away d = ⊥
+
+-- the master stands, and no disk of it has failed
+abbrev pub is_sound_at : {D : Type 0} → MasterPlace D → Bool
+is_sound_at (Standing m) = not (is_failed m.state.fault)
+is_sound_at place = false
 
 -- ---- a step
 

@@ -252,7 +252,7 @@ module _ {D : Type 0} (seen : D → List ℕ) (failures : D → ℕ) (armed : Di
       ticked_master place turn does same (subst (λ n. Posts moment n (sent_by (told turn)) old.sent new.sent) is (as_told by outcome (told turn) tells posted))
   ticked (keepers.Server id) by outcome it is (turn, at, tells) posted =
       at_server id (λ s. ServerDoes (servers.tick s moment) s) turn (told turn) at (refused_none turn)
-      (λ s after found does. by_step id (servers.tick s moment) s after turn does (λ a b. (Ticks moment a b, (keepers.Server id, (moment, it)))))
+      (λ s after found does. by_step id (servers.tick s moment) s after turn does (λ a b. (Ticks moment a b, (moment, it))))
       (subst (λ n. Posts moment n (sent_by (told turn)) old.sent new.sent) is (as_told by outcome (told turn) tells posted))
 
   restarted : (node : StoreNode) (by : NodeId) (outcome : Upshot) → Is (happenings.Restart node) → by ≡ as_node node → RestartsAt seen failures armed node old.nodes outcome new.nodes → Posts moment by (sent_by outcome) old.sent new.sent → K
@@ -260,7 +260,7 @@ module _ {D : Type 0} (seen : D → List ℕ) (failures : D → ℕ) (armed : Di
       opened_master place turn does same (subst (λ n. Posts moment n (sent_by (told turn)) old.sent new.sent) is (as_told by outcome (told turn) tells posted))
   restarted (keepers.Server id) by outcome it is (done, at, tells) posted =
       at_server id (λ s d after. (d ≡ Ok tt) × (after ≡ servers.restart s)) done (silent done) at (λ refused. silent_none done)
-      (λ s after found does. inl (Restarts does.1 (silent_none done), (keepers.Server id, (moment, it))))
+      (λ s after found does. inl (Restarts does.1 (silent_none done), (moment, it)))
       (subst (λ n. Posts moment n (sent_by (silent done)) old.sent new.sent) is (as_told by outcome (silent done) tells posted))
 
   befalls : (id : ℕ) (by : NodeId) (change : Server → Result Server Refusal) (outcome : Upshot) (done : Result (Unit {0}) Refusal) → by ≡ ids.Server id

@@ -12,7 +12,7 @@ use Rattle.gs_msg.specs.declared.event.Happening.TheVariants as happenings
 use Rattle.gs_msg.specs.declared.message.Message.{Message}
 use Rattle.gs_msg.specs.declared.message.MsgId.{MsgId}
 use Rattle.gs_msg.specs.declared.node.NodeId.{NodeId}
-use Rattle.gs_msg.specs.declared.node.StoreNode.{StoreNode}
+use Rattle.gs_msg.specs.declared.node.StoreNode.TheVariants as keepers
 use Rattle.gs_msg.specs.declared.node.NodeId.TheVariants as ids
 use Rattle.gs_server_member.specs.Causes.{Calm, Cause, cause_by}
 use Rattle.gs_server.specs.Runs as at_server
@@ -63,12 +63,12 @@ cause_at {sent} {id} {s} chunk (Restarts is sends) = cause_by chunk at_server.Re
 abbrev pub ComesAs : Step → Happening → Type 0
 ComesAs step happening = (moment : Moment) × (step ≡ Comes (record { moment = moment; happening = happening }))
 
--- what happens at a server is what the step is
+-- what happens at a server is what the step is, and it comes to that server
 abbrev pub IsMet : {sent : Sent} {id : ℕ} {s after : Server} {messages : List Message} → Step → ServerGoes sent id s after messages → Type 0
 IsMet {sent} step (Hears message moment was to is sends) = (at : MsgId) × (message_of sent at ≡ Some message) × (step ≡ Comes (record { moment = moment; happening = happenings.Deliver at }))
-IsMet step (Ticks moment is sends) = (node : StoreNode) × ComesAs step (happenings.Tick node)
+IsMet {sent} {id} step (Ticks moment is sends) = ComesAs step (happenings.Tick (keepers.Server id))
 IsMet {sent} {id} step (Beats is sends) = ComesAs step (happenings.Beat id)
-IsMet step (Restarts is sends) = (node : StoreNode) × ComesAs step (happenings.Restart node)
+IsMet {sent} {id} step (Restarts is sends) = ComesAs step (happenings.Restart (keepers.Server id))
 IsMet {sent} {id} step (Loses handle is sends) = ComesAs step (happenings.Lose id handle)
 IsMet {sent} {id} step (Damages handle block is sends) = ComesAs step (happenings.Damage id handle block)
 

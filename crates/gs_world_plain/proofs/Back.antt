@@ -121,10 +121,10 @@ go_back_plainly x plain prepared now back before after last rolled = record {
     there : IsReached x prepared before
     there = reach_more x up.old prepared up.first before (up.step ∷ []) up.reached (prepared, before, up.moves, (refl, refl))
 
-    first : IsPlainStep size up.step up.old up.first before
+    first : IsPlainStep size up.step up.old prepared up.first before
     first = plain up.old prepared up.first before up.step up.reached up.moves
 
-    second : IsPlainStep size rolled.step now after last
+    second : IsPlainStep size rolled.step now back after last
     second = plain now back after last rolled.step (reach_more x prepared now before after up.steps there (runs_of x up.steps prepared now before after up.runs)) rolled.moves
 
     alone : EditsAlone x plain up.steps prepared before now after up.runs

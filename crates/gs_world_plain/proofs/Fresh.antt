@@ -184,7 +184,7 @@ never_back Rolling = refl
 
 module _ (sizes : HaveSizes) (law : AreNumbered) {D : Type 0} (x : Setup D) (step : Step) (old new : History D) (a b : Account) (r : IsReached x old a) (moves : Moves x step old a new b) (chunk : ℕ) where
   -- what the master writes
-  written : Writes (records_at step old) old.nodes.master a.durable b.durable
+  written : Writes (records_at step old) old.nodes.master new.nodes.master a.durable b.durable
   written = writes x r.begins.given step old new a.durable b.durable (reached_well x old a r) moves.steps (had sizes law x step old new a b r moves) (has sizes law x step old new a b r moves)
 
   once_made : (config : Config) (heard : Heard) (s : State) (t : Turn) → EndsOnce config (IsMadeWell config heard) s t → EndsOnce config (IsMade config heard) s t
@@ -205,9 +205,9 @@ module _ (sizes : HaveSizes) (law : AreNumbered) {D : Type 0} (x : Setup D) (ste
           let entries = map (Edited own_request) (scan_edits removed forgotten) in
           (part_out chunk (take many entries) s.durable b.durable (tested (leaves_view chunk) many entries (scan_usual chunk own_request (scan_edits removed forgotten))) (ap (replayed s.durable) (sym are) ∙ fit) out some).0
 
-      by_writes : Writes (records_at step old) old.nodes.master a.durable b.durable → is_listed a.durable chunk ≡ false
+      by_writes : Writes (records_at step old) old.nodes.master new.nodes.master a.durable b.durable → is_listed a.durable chunk ≡ false
       by_writes (Keeps same) = ap (λ (d : Durable). is_listed d chunk) (sym same) ∙ out
-      by_writes (Turns m heard t many all left first turn fits low stand are) =
+      by_writes (Turns m heard t many all left first turn fits low stand are but whole) =
           let well = once_stands m.config heard m.state t turn fits (subst IsKept (sym first) (kept_before sizes law x step old new a b r moves)) in
           ap (λ (d : Durable). is_listed d chunk) (sym first)
           ∙ by_cut m.config heard m.state (take many t.records) (cut_leaves m.config heard m.state t many b.durable well.turn low (ap (λ d. replayed d (take many t.records)) first ∙ stand))
@@ -344,9 +344,9 @@ module _ (sizes : HaveSizes) (law : AreNumbered) {D : Type 0} (x : Setup D) (ste
               by_move config said u move bound made last whole
           by_many (suc (suc n)) long low stand = absurd (omega arith)
 
-      by_writes : Writes (records_at step old) old.nodes.master a.durable b.durable → is_listed b.durable chunk ≡ true
+      by_writes : Writes (records_at step old) old.nodes.master new.nodes.master a.durable b.durable → is_listed b.durable chunk ≡ true
       by_writes (Keeps same) = absurd (none_back (sym same))
-      by_writes (Turns m heard t many all left first turn fits low stand are) = by_pace m.config heard m.state t many (paced m.config heard m.state t turn) first fits low stand
+      by_writes (Turns m heard t many all left first turn fits low stand are but whole) = by_pace m.config heard m.state t many (paced m.config heard m.state t turn) first fits low stand
 
   -- So it stays over a step.
   fresh_step : ((view : View) → is_listed a.durable chunk ≡ false → view_at a chunk ≡ Some view → length (settled_edits a chunk) ≤ length (edits_of a (copied_from old.sent chunk))) → (later : View) → is_listed b.durable chunk ≡ false → view_at b chunk ≡ Some later

@@ -26,3 +26,4 @@ mod Scans
 mod Copying
 mod Ends
 mod Back
+mod Refused

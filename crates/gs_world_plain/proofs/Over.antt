@@ -54,7 +54,7 @@ plainly config heard s t (Rests u said) = Rests u said
 plainly config heard s t (Moves u move said made) = Moves u move said made.made
 plainly config heard s t (Then u first next a b) = Then u first next (plainly config heard u first a) (plainly config heard first.after next b)
 
-any_taken : (f : PlainEntry → Bool) (many : ℕ) (xs : List PlainEntry) → list_any f xs ≡ false → list_any f (take many xs) ≡ false
+pub any_taken : (f : PlainEntry → Bool) (many : ℕ) (xs : List PlainEntry) → list_any f xs ≡ false → list_any f (take many xs) ≡ false
 any_taken f zero xs none = refl
 any_taken f (suc many) [] none = refl
 any_taken f (suc many) (x ∷ xs) none = by_head (f x) none (any_taken f many xs)
@@ -131,9 +131,9 @@ module _ {D : Type 0} (x : Setup D) (req : ReqId) where
 
 module _ (sizes : HaveSizes) (law : AreNumbered) {D : Type 0} (x : Setup D) (req : ReqId) where
   -- what a step writes
-  writes_none : (step : Step) (old new : History D) (a b : Account) → IsReached x old a → MovesTo x step old a new b → IsOverAt x req (as_left old.nodes.master) → Writes (records_at step old) old.nodes.master a.durable b.durable → WritesNoEdit req step old a b
+  writes_none : (step : Step) (old new : History D) (a b : Account) → IsReached x old a → MovesTo x step old a new b → IsOverAt x req (as_left old.nodes.master) → Writes (records_at step old) old.nodes.master new.nodes.master a.durable b.durable → WritesNoEdit req step old a b
   writes_none step old new a b r moves over (Keeps same) = record { written = 0; records = ap Some (sym same); none = refl }
-  writes_none step old new a b r moves over (Turns m heard t many all at first turn written low stands are) =
+  writes_none step old new a b r moves over (Turns m heard t many all at first turn written low stands are but whole) =
       let k = chained_over req m.config heard m.state t (once_chain m.config (IsMade m.config heard) m.state t turn) (subst (IsOverAt x req) at over).0 in
       let is = taken_of many all t.records (records_at step old) are low in
       record { written = many; records = ap (replayed a.durable) (sym is) ∙ stands; none = ap (list_any (tells_edit_of req)) (sym is) ∙ any_taken (tells_edit_of req) many t.records k.edits }

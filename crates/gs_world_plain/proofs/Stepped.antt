@@ -1,9 +1,11 @@
 -- Each step of a run is commands of the plain machine, where chunks that are put into files have their texts.
-use Rattle.std.proofs.Common.{◌≡◌, ◌∙◌, ◌++◌, ◌≤◌, inl, inr, ℕ, zero, suc, Bool, true, false, List, [], ◌∷◌, append-nil, length, map, take, refl, sym, ap, subst}
+use Rattle.std.proofs.Common.{◌≡◌, ◌∙◌, ◌++◌, ◌≤◌, arith, inl, inr, ℕ, zero, suc, Bool, true, false, List, [], ◌∷◌, append-nil, length, map, take, refl, sym, ap, subst}
 use Rattle.std.specs.Prelude.{None, is_some, Option, Some, if◌then◌else◌}
 use Rattle.std.specs.FinMap as fin
 use Rattle.std.specs.List.{AllByRecursion, list_all}
 use Rattle.std.proofs.lemmas.Bool.{and_parts, false≢true}
+use Rattle.std.proofs.lemmas.List.{take_all}
+use Rattle.gs_world_laws.specs.Through.{is_sound_at}
 use Rattle.gs_journal.specs.declared.version.Version.TheVariants.{Two}
 use Rattle.gs_master_laws.specs.Promises.{IsKept}
 use Rattle.gs_master_laws.specs.Reached.{GoWithin}
@@ -76,7 +78,7 @@ use Rattle.gs_world_plain.specs.Settling.{newly_settled}
 use Rattle.gs_world_plain.specs.Told.{PutWereTold}
 use Rattle.gs_world_plain.specs.Stepping.{AreCommandsOf, EndsBy, OfEachPlace, texts_between}
 use Rattle.gs_world_plain.specs.Views.{plain_view, texts_of}
-use Rattle.gs_world_plain.specs.Written.{records_at}
+use Rattle.gs_world_plain.specs.Written.{AreWhole, IsAllBut, records_at}
 
 -- of each chunk that stands in a file
 of_places : (c : Account) → IsKept c.durable → (P : ℕ → Type 0) → ((chunk : ℕ) → is_listed c.durable chunk ≡ true → P chunk) → OfEachPlace c P
@@ -103,12 +105,17 @@ module _ (sizes : HaveSizes) (law : AreNumbered) {D : Type 0} (x : Setup D) (of_
   before_same : prepares a.durable b.durable ≡ false → b.before ≡ a.before
   before_same none = ap (λ (c : Account). c.before) moves.account ∙ ap (λ q. (λ (chunk : ℕ). if q then edits_in a chunk (view_at a chunk) else a.before chunk)) none
 
-  plain_by : (many : ℕ) → replayed a.durable (take many (records_at step old)) ≡ Some b.durable → (c : AreCommandsOf size a b (take many (records_at step old))) → EndsAs size a b c.commands → IsPlainStep size step old a b
-  plain_by many replays c ends = record {
+  -- where no disk has failed behind it, so many records are none of it, or all, or all but a checkpoint
+  abbrev IsWhole : ℕ → Type 0
+  IsWhole many = is_sound_at new.nodes.master ≡ true → AreWhole (records_at step old) many
+
+  plain_by : (many : ℕ) → IsWhole many → replayed a.durable (take many (records_at step old)) ≡ Some b.durable → (c : AreCommandsOf size a b (take many (records_at step old))) → EndsAs size a b c.commands → IsPlainStep size step old new a b
+  plain_by many whole replays c ends = record {
     commands = c.commands;
     leads = c.leads;
     written = many;
     records = replays;
+    whole = whole;
     others = c.others;
     edits = c.edits;
     ends = ends;
@@ -151,8 +158,8 @@ module _ (sizes : HaveSizes) (law : AreNumbered) {D : Type 0} (x : Setup D) (of_
   abbrev PutTexts : List PlainEntry → Type 0
   PutTexts records = rolls_back a.durable b.durable ≡ false → AllByRecursion (OfPut HasTextOf) records
 
-  within : (many : ℕ) → PutTexts (take many (records_at step old)) → AllByRecursion (IsEntry Two) (take many (records_at step old)) → GoWithin a.durable (take many (records_at step old)) → replayed a.durable (take many (records_at step old)) ≡ Some b.durable → IsPlainStep size step old a b
-  within many puts written go replays =
+  within : (many : ℕ) → IsWhole many → PutTexts (take many (records_at step old)) → AllByRecursion (IsEntry Two) (take many (records_at step old)) → GoWithin a.durable (take many (records_at step old)) → replayed a.durable (take many (records_at step old)) ≡ Some b.durable → IsPlainStep size step old new a b
+  within many whole puts written go replays =
       let records = take many (records_at step old) in
       let phase = same_phase_over a.durable b.durable records first_kept written go replays in
       let goes_on = none_is_back a.durable b.durable phase in
@@ -167,7 +174,7 @@ module _ (sizes : HaveSizes) (law : AreNumbered) {D : Type 0} (x : Setup D) (of_
         grows = of_places b last_kept (λ chunk. settled_edits a chunk ++ newly_settled a b chunk ≡ settled_edits b chunk) (λ chunk listed. grows sizes law x step old new a b r moves chunk listed goes_on);
         before = before_same (none_begins a.durable b.durable phase);
       }) in
-      plain_by many replays leads (within_ends size a b leads.commands phase records all leads.others)
+      plain_by many whole replays leads (within_ends size a b leads.commands phase records all leads.others)
 
   -- ---- by one record
 
@@ -233,37 +240,38 @@ module _ (sizes : HaveSizes) (law : AreNumbered) {D : Type 0} (x : Setup D) (of_
 
   -- ---- a turn
 
-  by_one : (many : ℕ) (entry : PlainEntry) → entry ∷ [] ≡ take many (records_at step old) → replayed a.durable (entry ∷ []) ≡ Some b.durable → (applied a.durable entry ≡ Some b.durable → (c : AreCommandsOf size a b (entry ∷ [])) × EndsAs size a b c.commands) → IsPlainStep size step old a b
-  by_one many entry is replays leads =
+  by_one : (many : ℕ) (entry : PlainEntry) → entry ∷ [] ≡ take many (records_at step old) → IsAllBut (records_at step old) (entry ∷ []) → replayed a.durable (entry ∷ []) ≡ Some b.durable → (applied a.durable entry ≡ Some b.durable → (c : AreCommandsOf size a b (entry ∷ [])) × EndsAs size a b c.commands) → IsPlainStep size step old new a b
+  by_one many entry is but replays leads =
       let by_records = subst (λ records. (c : AreCommandsOf size a b records) × EndsAs size a b c.commands) is (leads (one_applies a.durable b.durable entry replays)) in
-      plain_by many (ap (replayed a.durable) (sym is) ∙ replays) by_records.0 by_records.1
+      plain_by many (λ sound. inr (subst (IsAllBut (records_at step old)) is but)) (ap (replayed a.durable) (sym is) ∙ replays) by_records.0 by_records.1
 
   -- nothing stands
-  none_stands : a.durable ≡ b.durable → IsPlainStep size step old a b
-  none_stands same = within 0 (λ goes_on. tt) tt tt (ap Some same)
+  none_stands : a.durable ≡ b.durable → IsPlainStep size step old new a b
+  none_stands same = within 0 (λ sound. inl refl) (λ goes_on. tt) tt tt (ap Some same)
 
   -- so many records stand of one
-  one_or_none : (many all : ℕ) (entry : PlainEntry) → entry ∷ [] ≡ take all (records_at step old) → replayed a.durable (take many (entry ∷ [])) ≡ Some b.durable → (applied a.durable entry ≡ Some b.durable → (c : AreCommandsOf size a b (entry ∷ [])) × EndsAs size a b c.commands) → IsPlainStep size step old a b
-  one_or_none zero all entry is stands leads = none_stands (durable_is stands)
-  one_or_none (suc zero) all entry is stands leads = by_one all entry is stands leads
-  one_or_none (suc (suc many)) all entry is stands leads = by_one all entry is stands leads
+  one_or_none : (many all : ℕ) (entry : PlainEntry) → entry ∷ [] ≡ take all (records_at step old) → IsAllBut (records_at step old) (entry ∷ []) → replayed a.durable (take many (entry ∷ [])) ≡ Some b.durable → (applied a.durable entry ≡ Some b.durable → (c : AreCommandsOf size a b (entry ∷ [])) × EndsAs size a b c.commands) → IsPlainStep size step old new a b
+  one_or_none zero all entry is but stands leads = none_stands (durable_is stands)
+  one_or_none (suc zero) all entry is but stands leads = by_one all entry is but stands leads
+  one_or_none (suc (suc many)) all entry is but stands leads = by_one all entry is but stands leads
 
-  by_move : (many all : ℕ) (config : _) (s : State) (move : Move) → is_bound move ≡ true → (move_turn config s move).records ≡ take all (records_at step old) → AllByRecursion (IsEntry Two) (move_turn config s move).records → replayed a.durable (take many (move_turn config s move).records) ≡ Some b.durable → IsPlainStep size step old a b
-  by_move many all config s (Prepares req moment) bound is written stands =
-      one_or_none many all _ is stands (λ applies. (let c = prepared _ _ _ written.0 applies in (c, prepare_ends size a b c.commands _ _ _ applies c.others (kept_then _ _ _ applies))))
-  by_move many all config s (Finalizes req) bound is written stands = one_or_none many all _ is stands (λ applies. (let c = finalized _ written.0 applies in (c, finalize_ends_as size a b c.commands _ applies)))
-  by_move many all config s (CommitsRollback req names) bound is written stands =
-      one_or_none many all _ is stands (λ applies. (let c = rolled_back _ _ written.0 applies in (c, commit_ends size a b c.commands _ _ first_kept applies c.others (restored_then _ _ applies))))
-  by_move many all config s move bound is written stands = absurd (false≢true bound)
+  by_move : (many all : ℕ) (config : _) (s : State) (move : Move) → is_bound move ≡ true → (move_turn config s move).records ≡ take all (records_at step old) → IsAllBut (records_at step old) (move_turn config s move).records → AllByRecursion (IsEntry Two) (move_turn config s move).records → replayed a.durable (take many (move_turn config s move).records) ≡ Some b.durable → IsPlainStep size step old new a b
+  by_move many all config s (Prepares req moment) bound is but written stands =
+      one_or_none many all _ is but stands (λ applies. (let c = prepared _ _ _ written.0 applies in (c, prepare_ends size a b c.commands _ _ _ applies c.others (kept_then _ _ _ applies))))
+  by_move many all config s (Finalizes req) bound is but written stands = one_or_none many all _ is but stands (λ applies. (let c = finalized _ written.0 applies in (c, finalize_ends_as size a b c.commands _ applies)))
+  by_move many all config s (CommitsRollback req names) bound is but written stands =
+      one_or_none many all _ is but stands (λ applies. (let c = rolled_back _ _ written.0 applies in (c, commit_ends size a b c.commands _ _ first_kept applies c.others (restored_then _ _ applies))))
+  by_move many all config s move bound is but written stands = absurd (false≢true bound)
 
   -- of a turn so many records stand
-  by_pace : (many all : ℕ) (config : _) (heard : Heard) (s : State) (t : Turn) → PutTexts (take many t.records) → Paced config heard s t → s.durable ≡ a.durable → t.records ≡ take all (records_at step old) → AllByRecursion (IsEntry Two) t.records → many ≤ length t.records
-      → replayed a.durable (take many t.records) ≡ Some b.durable → IsPlainStep size step old a b
-  by_pace many all config heard s t puts (Goes u v chain) first is written low stands =
+  by_pace : (many all : ℕ) (config : _) (heard : Heard) (s : State) (t : Turn) → PutTexts (take many t.records) → Paced config heard s t → s.durable ≡ a.durable → t.records ≡ take all (records_at step old) → IsAllBut (records_at step old) t.records → (is_sound_at new.nodes.master ≡ true → many ≡ length t.records) → AllByRecursion (IsEntry Two) t.records → many ≤ length t.records
+      → replayed a.durable (take many t.records) ≡ Some b.durable → IsPlainStep size step old new a b
+  by_pace many all config heard s t puts (Goes u v chain) first is but whole written low stands =
       let same : take many v.records ≡ take many (records_at step old) = taken_of many all v.records (records_at step old) is low in
-      within many (subst PutTexts same puts) (subst (AllByRecursion (IsEntry Two)) same (taken (IsEntry Two) many v.records written))
+      let so : IsWhole many = λ sound. inr (subst (IsAllBut (records_at step old)) (sym (ap (λ n. take n v.records) (whole sound) ∙ take_all (length v.records) v.records (omega arith)) ∙ same) but) in
+      within many so (subst PutTexts same puts) (subst (AllByRecursion (IsEntry Two)) same (taken (IsEntry Two) many v.records written))
       (subst (GoWithin a.durable) same (go_taken a.durable v.records many (subst (λ d. GoWithin d v.records) first (chain_within config heard u v chain written).0))) (ap (replayed a.durable) (sym same) ∙ stands)
-  by_pace many all config heard s t puts (Bounds u move said made bound) first is written low stands = by_move many all config u move bound is written stands
+  by_pace many all config heard s t puts (Bounds u move said made bound) first is but whole written low stands = by_move many all config u move bound is but written stands
 
   -- ---- a copy that takes the place of a chunk
 
@@ -372,15 +380,15 @@ module _ (sizes : HaveSizes) (law : AreNumbered) {D : Type 0} (x : Setup D) (of_
   cut_puts m heard records at first told (Scanned removed forgotten many well are fit) goes_on =
       subst (AllByRecursion (OfPut HasTextOf)) (sym are) (taken (OfPut HasTextOf) many (map (Edited own_request) (scan_edits removed forgotten)) (scan_put HasTextOf (scan_edits removed forgotten) (of_scan removed forgotten)))
 
-  same_there : Writes (records_at step old) old.nodes.master a.durable b.durable → IsPlainStep size step old a b
+  same_there : Writes (records_at step old) old.nodes.master new.nodes.master a.durable b.durable → IsPlainStep size step old new a b
   same_there (Keeps same) = none_stands (sym same)
-  same_there (Turns m heard t many all at first turn written low stands are) =
+  same_there (Turns m heard t many all at first turn written low stands are but whole) =
       let well = once_stands m.config heard m.state t turn written (subst IsKept (sym first) first_kept) in
       let cut = cut_leaves m.config heard m.state t many b.durable well.turn low (ap (λ d. replayed d (take many t.records)) first ∙ stands) in
       let told = subst (AllByRecursion ToldPut) (sym (taken_of many all t.records (records_at step old) are low)) (take_told many (records_at step old) (were_told old new a b step r moves)) in
-      by_pace many all m.config heard m.state t (cut_puts m heard (take many t.records) at first told cut) (paced m.config heard m.state t turn) first are written low stands
+      by_pace many all m.config heard m.state t (cut_puts m heard (take many t.records) at first told cut) (paced m.config heard m.state t turn) first are but whole written low stands
 
-  pub step_plain : IsPlainStep size step old a b
+  pub step_plain : IsPlainStep size step old new a b
   step_plain =
       same_there (writes x r.begins.given step old new a.durable b.durable (reached_well x old a r) moves.steps (had sizes law x step old new a b r moves) (has sizes law x step old new a b r moves))
 

@@ -29,12 +29,12 @@ module _ {D : Type 0} (x : Setup D) where
   -- Right behind a prepare the tree that stands is kept. From there to the rollback the run is commands that edit names and texts, so it is kept still; and behind the rollback it stands, and none is kept. Of the
   -- commands of the step of the prepare, of the run behind it and of the step of the rollback, those that edit no text are a prepare, then edits of names, and then a rollback.
   pub record GoesBackPlainly (prepared : History D) (before : Account) (now : History D) (after : Account) (back : History D) (last : Account) (rolled : HasRolledBack x prepared before now after back last) : Type 0 where
-    pub begins : IsPlainStep x.config.chunk rolled.upgrade.step rolled.upgrade.old rolled.upgrade.first before
+    pub begins : IsPlainStep x.config.chunk rolled.upgrade.step rolled.upgrade.old prepared rolled.upgrade.first before
     pub keeps : (shown before).kept ≡ Some (shown before).tree
     pub within : IsPlainRun x rolled.upgrade.steps prepared before now after (as_run rolled.upgrade.steps prepared before now after rolled.upgrade.runs)
     pub edits : list_all edits_only within.commands ≡ true
     pub still : (shown after).kept ≡ Some (shown before).tree
-    pub ends : IsPlainStep x.config.chunk rolled.step now after last
+    pub ends : IsPlainStep x.config.chunk rolled.step now back after last
     pub gives : shown last ≡ restored (shown after) (shown before).tree
     pub others : filter_map but_edit (begins.commands ++ (within.commands ++ ends.commands)) ≡ Prepare ∷ filter_map but_edit within.commands ++ Rollback ∷ []
 

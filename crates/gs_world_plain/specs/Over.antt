@@ -5,15 +5,16 @@ use Rattle.gs_base.specs.declared.numbers.ClientId.{ClientId}
 use Rattle.gs_base.specs.declared.numbers.ReqId.{ReqId}
 use Rattle.gs_master.specs.Masters.{MasterOf}
 use Rattle.gs_master_laws.specs.Standing.{IsOver}
-use Rattle.gs_master_moves.specs.Over.{tells_edit_of, was_told}
+use Rattle.gs_master_moves.specs.Over.{refuses, tells_edit_of, was_told}
 use Rattle.gs_master_spec.specs.Applied.{replayed}
+use Rattle.gs_msg.specs.declared.message.Message.{Message}
 use Rattle.gs_nodes.specs.declared.place.MasterPlace.TheVariants.{Standing}
 use Rattle.gs_world.specs.Histories.{History}
 use Rattle.gs_world.specs.Runs.{Step, Takes}
 use Rattle.gs_world_chunks.specs.Accounts.{Account}
-use Rattle.gs_world_chunks.specs.Running.{IsReached, Runs, Setup}
+use Rattle.gs_world_chunks.specs.Running.{IsReached, Moves, Runs, Setup}
 use Rattle.gs_world_lift.specs.Left.{as_left}
-use Rattle.gs_world_plain.specs.Written.{records_at}
+use Rattle.gs_world_plain.specs.Written.{messages_at, records_at}
 
 -- so many of the records of a step are written, and none of these tells an edit of the request
 pub record WritesNoEdit {D : Type 0} (req : ReqId) (step : Step) (old : History D) (a b : Account) : Type 0 where
@@ -31,6 +32,10 @@ module _ {D : Type 0} (x : Setup D) where
   abbrev pub OverMakesNoEdits : Type 0
   OverMakesNoEdits = (old new : History D) (a b : Account) (steps : List Step) (m : MasterOf D) (req : ReqId) → IsReached x old a → as_left old.nodes.master ≡ Standing m →
       IsOver m.state.durable m.state.volatile req → was_told m.state.durable req ≡ true → (runs : Runs x steps old a new b) → EachWritesNoEdit req steps old a new b runs
+
+  -- A step at which the master refuses a request, whether it hears it then or the request has waited, writes no edit of it.
+  abbrev pub RefusedMakeNoEdits : Type 0
+  RefusedMakeNoEdits = (old new : History D) (a b : Account) (step : Step) (req : ReqId) → IsReached x old a → Moves x step old a new b → list_any (λ (m : Message). refuses req m.body) (messages_at step old) ≡ true → WritesNoEdit req step old a b
 
 -- ---- Worked: where a client takes its answer nothing is written
 nothing_is_told : {D : Type 0} (req : ReqId) (client : ClientId) (old : History D) (a : Account) → WritesNoEdit req (Takes client) old a a

@@ -14,17 +14,20 @@ use Rattle.gs_world_chunks.specs.Running.{IsNew, IsReached, Moves, Runs, Setup}
 use Rattle.gs_world_plain.specs.Ends.{EndsAs}
 use Rattle.gs_world_plain.specs.Settling.{newly_settled, settled_at}
 use Rattle.gs_world_plain.specs.Views.{chunk_at, plain_view}
-use Rattle.gs_world_plain.specs.Written.{records_at}
+use Rattle.gs_world_laws.specs.Through.{is_sound_at}
+use Rattle.gs_world_plain.specs.Written.{AreWhole, records_at}
 
 -- The step is a list of commands of the plain machine, which lead from the plain view before it to the one behind it. Those that edit no text are what
--- its records say, each once and in their order; of the records those stand that were written. Those that edit a text are, at each place of a file, the
+-- its records say, each once and in their order; of the records those stand that were written: where no disk of the master has failed behind the step, all,
+-- or, where memory was wanting, none, or all but the checkpoint at their end. Those that edit a text are, at each place of a file, the
 -- edits that are settled there, each once and in their order: what is settled of a chunk then is what was, and these behind it, unless a rollback is committed.
 -- At a prepare one of them keeps the tree, and at the commit of a rollback one puts it back.
-pub record IsPlainStep {D : Type 0} (size : ℕ) (step : Step) (old : History D) (a b : Account) : Type 0 where
+pub record IsPlainStep {D : Type 0} (size : ℕ) (step : Step) (old new : History D) (a b : Account) : Type 0 where
   pub commands : List Command
   pub leads : all_commanded size commands (plain_view size a) ≡ Ok (plain_view size b)
   pub written : ℕ
   pub records : replayed a.durable (take written (records_at step old)) ≡ Some b.durable
+  pub whole : is_sound_at new.nodes.master ≡ true → AreWhole (records_at step old) written
   pub others : filter_map but_edit commands ≡ filter_map command_of (take written (records_at step old))
   pub edits : (p : Path) (index : ℕ) → filter_map (edit_at p index) commands ≡ map op_of (settled_at a b (chunk_at a p index))
   pub ends : EndsAs size a b commands
@@ -37,13 +40,13 @@ module _ {D : Type 0} (x : Setup D) where
 
   -- each step of each run is such, whatever disks of the master fail at it, or have failed: of a turn that is cut those of its records stand that were written;
   abbrev pub StepsArePlain : Type 0
-  StepsArePlain = (old new : History D) (a b : Account) (step : Step) → IsReached x old a → Moves x step old a new b → IsPlainStep x.config.chunk step old a b
+  StepsArePlain = (old new : History D) (a b : Account) (step : Step) → IsReached x old a → Moves x step old a new b → IsPlainStep x.config.chunk step old new a b
 
   -- and so a run is: at each of its steps commands by what it is, one after the other.
   abbrev pub ArePlainSteps : (steps : List Step) (old : History D) (a : Account) (new : History D) (b : Account) → Runs x steps old a new b → List Command → Type 0
   ArePlainSteps [] old a new b runs commands = commands ≡ []
   ArePlainSteps (step ∷ steps) old a new b (mid, c, one, rest) commands =
-      (first : IsPlainStep x.config.chunk step old a c) × (more : List Command) × (commands ≡ first.commands ++ more) × ArePlainSteps steps mid c new b rest more
+      (first : IsPlainStep x.config.chunk step old mid a c) × (more : List Command) × (commands ≡ first.commands ++ more) × ArePlainSteps steps mid c new b rest more
 
   pub record IsPlainRun (steps : List Step) (old : History D) (a : Account) (new : History D) (b : Account) (runs : Runs x steps old a new b) : Type 0 where
     pub commands : List Command

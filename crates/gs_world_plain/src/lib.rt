@@ -7,7 +7,7 @@ ghost use Rattle.gs_world_chunks.specs.Back.{GivesReplicasBack, NoOtherText};
 ghost use Rattle.gs_world_chunks.specs.Running.{Setup};
 ghost use Rattle.gs_world_plain.specs.Back.{RollbacksGoBackPlainly};
 ghost use Rattle.gs_world_plain.specs.Fresh.{AddedAreAsMade, CopiesAreOfPlaces, NewAreAsMade, PlacesAreHeld};
-ghost use Rattle.gs_world_plain.specs.Over.{OverMakesNoEdits};
+ghost use Rattle.gs_world_plain.specs.Over.{OverMakesNoEdits, RefusedMakeNoEdits};
 ghost use Rattle.gs_world_plain.specs.Plainly.{BeginsPlain, EditsOnePlace, RunsArePlain, StepsArePlain};
 ghost use Rattle.gs_world_plain.specs.Stepping.{CommitsLead, FinalizesLead, GrowingStepsLead, PreparesLead, StepsOfAccountsLead};
 ghost use Rattle.gs_world_plain.specs.Told.{PutWereTold, SettledWereMade, WaitingWereTold};
@@ -110,9 +110,11 @@ pub fn a_rollback_shows_what_its_prepare_showed<D>()
 }
 
 /// Once a request is over at a master of which no disk has failed, and a record has told its answer, as one tells a refusal wherever there is room, no step of the run makes an edit for it, whatever comes: its own call once
-/// more, deliveries of any message ever sent, ticks, restarts, and failing disks.
+/// more, deliveries of any message ever sent, ticks, restarts, and failing disks. And a step at which the master refuses a request, whether it hears it then or the request has waited, writes no edit of it, whatever disk
+/// fails.
 pub fn a_request_that_is_over_makes_no_edit_in_a_run<D>()
-    ensures { (x : Setup D) → OverMakesNoEdits x }
+    ensures over { (x : Setup D) → OverMakesNoEdits x }
+    ensures refused { (x : Setup D) → RefusedMakeNoEdits x }
 {
     configurations_have_sizes();
     a_message_edits_a_replica_by_what_it_says();
