@@ -112,8 +112,8 @@ module _ {D : Type 0} (seen : D → List ℕ) (failures : D → ℕ) (config : C
             subst StartsRow same (client_starts i below)
       ]
 
-  unfoldable pub is_new : 1 ≤ clients → clients ≤ 16 → IsNew seen failures config clients seeds
-  is_new some few = record { texts = (seen disks.0, seen disks.1); some = some; few = few; all = all; starts = starts }
+  pub is_new : 1 ≤ clients → clients ≤ 16 → IsNew seen failures setting seeds
+  is_new some few = record { some = some; few = few; all = all; starts = starts }
 
 -- ---- names, and nodes that have done nothing
 

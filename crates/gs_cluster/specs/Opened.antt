@@ -1,6 +1,5 @@
 -- The nodes of a store that has begun new, each with a channel into it, and the names of these channels.
 use Rattle.std.specs.Prelude.{◌≡◌, ◌≤◌, ◌+◌, ℕ, List, Option, Some, None, slice_get}
-use Rattle.gs_base.specs.declared.config.Config.{Config}
 use Rattle.gs_msg.specs.declared.node.NodeId.{NodeId}
 use Rattle.gs_msg.specs.declared.node.NodeId.TheVariants as ids
 use Rattle.gs_cluster_channel.specs.Named.{no_name}
@@ -12,20 +11,12 @@ use Rattle.gs_cluster_history.specs.Setting.{Setting, all_ids}
 use Rattle.gs_cluster_threads.specs.Wired.{numbers_of}
 use Rattle.gs_cluster_threads.specs.declared.wiring.Seed.{Seed}
 
-module _ {D : Type 0} (seen : D → List ℕ) (failures : D → ℕ) (config : Config) (clients : ℕ) (seeds : List (Seed (Role D))) where
-  abbrev setting : List ℕ × List ℕ → Setting
-  setting texts = record { config = config; clients = clients; texts = texts }
-
-  -- These are all nodes, in the order of their numbers, each as it begins over disks that are seen to say these texts. There are 1 to 16 clients.
-  pub record IsNew : Type 0 where
-    pub texts : List ℕ × List ℕ
-    pub some : 1 ≤ clients
-    pub few : clients ≤ 16
-    pub all : numbers_of seeds ≡ all_ids (setting texts)
-    pub starts : (s : Seed (Role D)) → Among seeds s → StartsAs seen failures (setting texts) s.line.me s.core s.turn.sent.items
-
-  abbrev pub setting_of : IsNew → Setting
-  setting_of begins = setting begins.texts
+-- These are all nodes, in the order of their numbers, each as it begins. There are 1 to 16 clients.
+pub record IsNew {D : Type 0} (seen : D → List ℕ) (failures : D → ℕ) (setting : Setting) (seeds : List (Seed (Role D))) : Type 0 where
+  pub some : 1 ≤ setting.clients
+  pub few : setting.clients ≤ 16
+  pub all : numbers_of seeds ≡ all_ids setting
+  pub starts : (s : Seed (Role D)) → Among seeds s → StartsAs seen failures setting s.line.me s.core s.turn.sent.items
 
 -- where the node of a number stands, with so many servers
 abbrev pub place_in : ℕ → NodeId → ℕ

@@ -1,6 +1,6 @@
-ghost use Rattle.std.specs.Prelude.{◌≡◌, ◌+◌, ◌++◌, ◌≤◌, IfOk, length, map, vec_len};
+ghost use Rattle.std.specs.Prelude.{◌≡◌, ◌+◌, ◌++◌, ◌≤◌, All, IfOk, length, map, vec_len};
 ghost use Rattle.gs_cluster.specs.Finished.{Finished};
-ghost use Rattle.gs_cluster.specs.Opened.{names_of, setting_of};
+ghost use Rattle.gs_cluster.specs.Opened.{IsNew, names_of};
 ghost use Rattle.gs_cluster.specs.Calling.{fresh_clients};
 ghost use Rattle.gs_cluster.specs.declared.caller.Caller.{Caller as ACaller};
 ghost use Rattle.gs_cluster_history.specs.Setting.{all_ids};
@@ -61,7 +61,8 @@ fn callers_of<N: Plan, D: Disk + Drop, R: Wait + Clock + Copy + Drop>(
     alloc: Global,
     nodes: Vec<Node<N, Role<D>>>,
 ) -> Result<Vec<Caller<N, D, R>>, AllocError>
-    ensures { IfOk result (λ v. map (λ (c : ACaller N D R). c.node) v.items ≡ nodes.items) }
+    ensures nodes { IfOk result (λ v. map (λ (c : ACaller N D R). c.node) v.items ≡ nodes.items) }
+    ensures moments { IfOk result (λ v. All (λ (c : ACaller N D R). c.moment ≡ record { 0 = 0 }) v.items) }
 {
     let mut callers = Vec::new(alloc);
     for node in nodes {
@@ -106,15 +107,13 @@ impl<N: Plan + Send + Sync + 'static, D: Disk + Drop + Send + 'static> Cluster<N
         gate: G,
         opened: Opened<D>,
     ) -> Result<(Cluster<N, D>, Vec<Caller<N, D, R>>), AllocError>
-        requires names { N.names ≡ names_of opened.config.servers opened.seeds.items }
-        requires setting { N.setting ≡ setting_of opened.config opened.clients opened.seeds.items opened.begins }
-        ensures { IfOk result (λ started. map (λ (c : ACaller N D R). c.node) started.1.items ≡ fresh_clients N.setting.clients) }
+        requires names { N.names ≡ names_of N.setting.config.servers opened.seeds.items }
+        requires config { opened.config ≡ N.setting.config }
+        requires new { IsNew D.seen D.failures N.setting opened.seeds.items }
+        ensures clients { IfOk result (λ started. map (λ (c : ACaller N D R). c.node) started.1.items ≡ fresh_clients N.setting.clients) }
+        ensures moments { IfOk result (λ started. All (λ (c : ACaller N D R). c.moment ≡ record { 0 = 0 }) started.1.items) }
     {
-        let Opened {
-            config,
-            clients: _,
-            seeds,
-        } = opened;
+        let Opened { config, seeds } = opened;
         let many = seeds.len();
         let nodes = wire(rt, alloc, seeds)?;
         let (keepers, clients) = parted(alloc, config.servers as usize + 1, nodes)?;

@@ -29,9 +29,7 @@ const LIMIT: u32 = 1_073_741_824;
 #[derive(Drop)]
 pub struct Opened<D: Disk + Drop> {
     pub config: Config,
-    pub clients: u32,
     pub seeds: Vec<Seed<Role<D>>>,
-    pub ghost begins: { IsNew D.seen D.failures config clients seeds.items },
 }
 
 /// A node with a new channel into it.
@@ -106,21 +104,17 @@ impl<D: Disk + Drop> Opened<D> {
         clients: u32,
         disks: (D, D),
     ) -> Result<Opened<D>, Refusal>
-        ensures sizes { IfOk result (λ opened. (opened.config ≡ config) × (opened.clients ≡ clients)) }
-        ensures texts { IfOk result (λ opened. opened.begins.texts ≡ (D.seen disks.0, D.seen disks.1)) }
-        ensures some { IfOk result (λ opened. (1 ≤ clients) × (clients ≤ 16)) }
+        ensures config { IfOk result (λ opened. opened.config ≡ config) }
+        ensures new { IfOk result (λ opened. IsNew D.seen D.failures (record { config = config; clients = clients; texts = (D.seen disks.0, D.seen disks.1) }) opened.seeds.items) }
     {
         if clients == 0 || clients > CLIENTS {
             return Err(Refusal::Config);
         }
         let mut seeds = Vec::new(alloc);
-        seeds.push(seed_master(alloc, config, disks)?)?;
+        let master = seed_master(alloc, config, disks)?;
+        seeds.push(master)?;
         seed_servers(alloc, config, &mut seeds)?;
         seed_clients(alloc, clients, &mut seeds)?;
-        Ok(Opened {
-            config,
-            clients,
-            seeds,
-        })
+        Ok(Opened { config, seeds })
     }
 }
