@@ -1,5 +1,5 @@
 -- What is listed, by the master that is asked.
-use Rattle.std.proofs.Common.{◌≡◌, ◌∙◌, inl, inr, zero, suc, ℕ, Bool, true, false, List, [], ◌∷◌, Option, Some, None, MatchOption, Result, Ok, Err, refl, sym, ap, subst, arith}
+use Rattle.std.proofs.Common.{◌≡◌, ◌∙◌, inl, inr, zero, suc, Bool, true, false, List, [], ◌∷◌, Option, Some, None, MatchOption, Result, Ok, Err, refl, sym, ap, subst, arith}
 use Rattle.std.specs.Prelude.{Contains, MatchBool, if◌then◌else◌}
 use Rattle.std.specs.FinMap as fin
 use Rattle.std.proofs.lemmas.Bool.{false≢true}
@@ -33,7 +33,6 @@ use Rattle.gs_path.specs.Path.{Path}
 use Rattle.gs_world.specs.Histories.{AtNode, ComesTo, History, told}
 use Rattle.gs_world.specs.Lasting.{IsToldIn}
 use Rattle.gs_world.specs.Runs.{Step}
-use Rattle.gs_world.specs.Sent.{message_of}
 use Rattle.gs_world_chunks.specs.Accounts.{Account}
 use Rattle.gs_world_chunks.specs.Back.{GivesNamesTold, HasRolledBack}
 use Rattle.gs_world_chunks.specs.Reading.{sent_at}

@@ -22,7 +22,7 @@ use Rattle.gs_msg.specs.declared.node.NodeId.TheVariants as nodes
 use Rattle.gs_nodes.specs.declared.place.MasterPlace.TheVariants.{Standing}
 use Rattle.gs_path.specs.Path.{Path}
 use Rattle.gs_world.specs.Histories.{Happens, History, Upshot}
-use Rattle.gs_world.specs.Runs.{Comes, Step}
+use Rattle.gs_world.specs.Runs.{Step}
 use Rattle.gs_world.specs.Sent.{message_of}
 use Rattle.gs_world_chunks.specs.Accounts.{Account, settled_edits, text_of, view_at}
 use Rattle.gs_world_chunks.specs.Back.{HasRolledBack}
