@@ -1,0 +1,12 @@
+//! What a client reads of a file is what the file has: a tree of texts is enough to say it. It knows nothing of nodes: each answer that the client gets is taken to be of what stands, as a status, a location, or what a
+//! member gives of a chunk.
+#![tactic(auto)]
+
+ghost use Rattle.gs_client_plain.specs.Files.{DigestsWhatStands, ReadsWhatStands, Stands};
+
+/// Where each answer to a client is of what stands, a file that it opens and reads gives what the file has from an offset on, and the digest of a block is that of the block: unless it is refused. Who answers, by which views and
+/// how often a member doesn't is nothing to it. So two reads of what is the same give the same.
+pub fn reads_give_what_stands()
+    ensures bytes { (f : Stands) → ReadsWhatStands f }
+    ensures digests { (f : Stands) → DigestsWhatStands f }
+{}
