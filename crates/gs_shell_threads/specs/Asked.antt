@@ -59,5 +59,5 @@ asked_in_threads size (lines.Step step) = Some (step_in_threads step)
 asked_in_threads size request = asked_by size request
 
 -- Worked: another refusal is answered at once.
-it_is_answered : (call : Call Answer) → upon (Say (Err refusals.NoUpgrade)) (λ came. if is_for_now came then call else Say came) ≡ Say (Err refusals.NoUpgrade)
+it_is_answered : (call : Call Answer) → upon (Say (Err refusals.NotFound)) (λ came. if is_for_now came then call else Say came) ≡ Say (Err refusals.NotFound)
 it_is_answered call = refl

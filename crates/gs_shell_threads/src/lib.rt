@@ -11,7 +11,7 @@ mod answering;
 mod desk;
 
 pub use desk::Desk;
-use gs_base::{ClientId, Config, Refusal};
+use gs_base::{ClientId, Config, Moment, Refusal};
 use gs_cluster::{Cluster, Opened};
 use gs_cluster_node::{Gate, Open, Plan};
 use gs_journal::{Disk, MemoryDisk};
@@ -51,9 +51,10 @@ fn serve<
         Ok(started) => started,
         Err(_) => return Err(RunFault::Refused(Refusal::Memory)),
     };
-    let Some(link) = callers.pop() else {
+    let Some(mut link) = callers.pop() else {
         unreachable!()
     };
+    link.at(Moment(0));
     let caller = Caller::new(alloc, ClientId(1), config);
     let mut desk = Desk { caller, link };
     let result = gs_shell_script::run(alloc, &mut desk, reader, writer);
