@@ -76,8 +76,8 @@ module _ {S : Type 0} (carries : S → Request → Reply → S → Type 0) where
       → LeadsOn whole old (total - counter) call came now → FollowsDialogue carries call now next mid → LeadsOn whole old (total - (counter + 1)) call next mid
   turns whole call old now mid total counter came next below is leads asked =
       more_asked whole call old now mid (total - (counter + 1)) came next is (subst (λ n. LeadsOn whole old n call came now) (one_less total counter below) leads) asked where
-    one_less : (total counter : ℕ) → counter < total → total - counter ≡ suc (total - (counter + 1))
-    one_less total counter below = omega arith
+        one_less : (total counter : ℕ) → counter < total → total - counter ≡ suc (total - (counter + 1))
+        one_less total counter below = omega arith
 
   -- it needn't be asked again
   pub stops : (whole call : Call Answer) (old now : S) (left : ℕ) (came : Result Answer Refusal) → is_for_now came ≡ false
@@ -95,8 +95,8 @@ module _ {S : Type 0} (carries : S → Request → Reply → S → Type 0) where
       → LeadsOn whole old (total - counter) call came now → FollowsDialogue carries whole old came now
   ends whole call old now total counter came above leads =
       over whole call old now came (subst (λ n. LeadsOn whole old n call came now) (none_left total counter above) leads) where
-    none_left : (total counter : ℕ) → total ≤ counter → total - counter ≡ 0
-    none_left total counter above = omega arith
+        none_left : (total counter : ℕ) → total ≤ counter → total - counter ≡ 0
+        none_left total counter above = omega arith
 
   -- a prepare whose commit came to something: it is given up where a chunk isn't quiet
   pub gives_it_up : (call : Call Answer) (old mid new : S) (came : Result Answer Refusal) (aborted : Result ℕ Refusal) → is_refused_unquiet came ≡ true
