@@ -5,10 +5,11 @@ use Rattle.gs_base.specs.declared.refusal.Refusal.TheVariants as refusals
 use Rattle.gs_client.specs.Trees as trees
 use Rattle.gs_client.specs.Trees.{Call}
 use Rattle.gs_client_dialogue.specs.Dialogues.{Say, both, upon}
-use Rattle.gs_shell_calls.specs.Asked.{asked_by, ends_so, is_unquiet, step_line}
+use Rattle.gs_shell_calls.specs.Asked.{asked_by, ends_so, is_unquiet, step_line, upgrade_line}
 use Rattle.gs_shell_calls.specs.declared.answer.Answer.{Answer}
 use Rattle.gs_shell_grammar.specs.Grammar.{Request}
 use Rattle.gs_shell_grammar.specs.Grammar as lines
+use Rattle.gs_shell_grammar.specs.declared.command.Upgrade.{Upgrade}
 use Rattle.gs_shell_grammar.specs.declared.command.Upgrade.TheVariants as upgrades
 use Rattle.gs_shell_grammar.specs.declared.command.UpgradeStep.{UpgradeStep}
 use Rattle.gs_shell_grammar.specs.declared.command.UpgradeStep.TheVariants as steps
@@ -40,11 +41,20 @@ more_turns = 9999
 abbrev pub gives_up : Result Answer Refusal → Call Answer
 gives_up came = if is_refused_unquiet came then upon trees.prepare_abort_call (ends_so came) else Say came
 
+abbrev pub commit_or_give_up : Call Answer
+commit_or_give_up = upon (until more_turns (step_line steps.PrepareCommit)) gives_up
+
 abbrev pub prepare_line : Call Answer
-prepare_line = both (step_line steps.PrepareBegin) (λ _. upon (until more_turns (step_line steps.PrepareCommit)) gives_up)
+prepare_line = both (step_line steps.PrepareBegin) (λ _. commit_or_give_up)
 
 abbrev pub rollback_line : Call Answer
 rollback_line = both (step_line steps.RollbackBegin) (λ _. until more_turns (step_line steps.RollbackCommit))
+
+abbrev pub upgrade_in_threads : Upgrade → Call Answer
+upgrade_in_threads upgrades.Query = upgrade_line upgrades.Query
+upgrade_in_threads upgrades.Prepare = prepare_line
+upgrade_in_threads upgrades.Finalize = upgrade_line upgrades.Finalize
+upgrade_in_threads upgrades.Rollback = rollback_line
 
 abbrev pub step_in_threads : UpgradeStep → Call Answer
 step_in_threads steps.PrepareBegin = step_line steps.PrepareBegin
@@ -53,11 +63,10 @@ step_in_threads steps.RollbackBegin = step_line steps.RollbackBegin
 step_in_threads steps.RollbackCommit = until more_turns (step_line steps.RollbackCommit)
 
 abbrev pub asked_in_threads : ℕ → Request → Option (Call Answer)
-asked_in_threads size (lines.RollingUpgrade upgrades.Prepare) = Some prepare_line
-asked_in_threads size (lines.RollingUpgrade upgrades.Rollback) = Some rollback_line
+asked_in_threads size (lines.RollingUpgrade upgrade) = Some (upgrade_in_threads upgrade)
 asked_in_threads size (lines.Step step) = Some (step_in_threads step)
 asked_in_threads size request = asked_by size request
 
 -- Worked: another refusal is answered at once.
-it_is_answered : (call : Call Answer) → upon (Say (Err refusals.NoUpgrade)) (λ came. if is_for_now came then call else Say came) ≡ Say (Err refusals.NoUpgrade)
+it_is_answered : (call : Call Answer) → upon (Say (Err refusals.NotFound)) (λ came. if is_for_now came then call else Say came) ≡ Say (Err refusals.NotFound)
 it_is_answered call = refl

@@ -10,7 +10,7 @@ use Rattle.gs_shell_threads.specs.declared.desk.Desk.{Desk}
 
 -- A client that has asked nothing asks what the lines say, and what is written answers the input line for line. All that its node took and did
 -- stands, with what the other nodes did, in one run of a store that has begun new.
-pub record Serves {N T D : Type 0} (seen : D → List ℕ) (failures : D → ℕ) (setting : Setting) (input : List ℕ) (old new : Option (List ℕ)) : Type 0 where
+pub record Serves (N T : Type 0) {D : Type 0} (seen : D → List ℕ) (failures : D → ℕ) (setting : Setting) (input : List ℕ) (old new : Option (List ℕ)) : Type 0 where
   pub begun : Desk N D T
   pub ended : Desk N D T
   pub client : begun.caller.client ≡ record { last = record { client = record { 0 = 1 }; number = 0 }; chunk = setting.config.chunk }

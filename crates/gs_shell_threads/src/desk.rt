@@ -3,7 +3,7 @@ ghost use Rattle.gs_client.specs.Sends.{Sends};
 ghost use Rattle.gs_client_dialogue.specs.Dialogues.{FollowsDialogue};
 ghost use Rattle.gs_cluster.specs.Linked.{carried};
 ghost use Rattle.gs_shell_calls.specs.Asked.{step_line};
-ghost use Rattle.gs_shell_threads.specs.Asked.{is_for_now, is_refused_unquiet, more_turns, prepare_line, rollback_line, step_in_threads, until};
+ghost use Rattle.gs_shell_threads.specs.Asked.{commit_or_give_up, is_for_now, is_refused_unquiet, more_turns, prepare_line, rollback_line, step_in_threads, until, upgrade_in_threads};
 ghost use Rattle.gs_shell_threads.specs.Lines.{Comes};
 ghost use Rattle.std.specs.Prelude.{◌≡◌};
 
@@ -61,8 +61,19 @@ impl<N: Plan, D: Disk + Drop, T: Wait + Clock + Drop> Desk<N, D, T> {
     fn prepare(&mut self) -> Result<Answer, Refusal>
         ensures { FollowsDialogue (Sends (carried D.seen D.failures)) prepare_line (self.old.caller.client, self.old.link) result (self.new.caller.client, self.new.link) }
     {
-        self.caller
-            .ask(&mut self.link, Command::Step(UpgradeStep::PrepareBegin))?;
+        match self
+            .caller
+            .ask(&mut self.link, Command::Step(UpgradeStep::PrepareBegin))
+        {
+            Ok(_) => self.commit_prepare(),
+            Err(refusal) => Err(refusal),
+        }
+    }
+
+    /// Commits a prepare that is begun; where a chunk isn't quiet to the end it is given up, whatever is answered to that.
+    fn commit_prepare(&mut self) -> Result<Answer, Refusal>
+        ensures { FollowsDialogue (Sends (carried D.seen D.failures)) commit_or_give_up (self.old.caller.client, self.old.link) result (self.new.caller.client, self.new.link) }
+    {
         let answer = self.ask_until(UpgradeStep::PrepareCommit);
         if is_unquiet(&answer) {
             let _given_up = self.caller.client.prepare_abort(&mut self.link);
@@ -74,9 +85,23 @@ impl<N: Plan, D: Disk + Drop, T: Wait + Clock + Drop> Desk<N, D, T> {
     fn roll_back(&mut self) -> Result<Answer, Refusal>
         ensures { FollowsDialogue (Sends (carried D.seen D.failures)) rollback_line (self.old.caller.client, self.old.link) result (self.new.caller.client, self.new.link) }
     {
-        self.caller
-            .ask(&mut self.link, Command::Step(UpgradeStep::RollbackBegin))?;
-        self.ask_until(UpgradeStep::RollbackCommit)
+        match self
+            .caller
+            .ask(&mut self.link, Command::Step(UpgradeStep::RollbackBegin))
+        {
+            Ok(_) => self.ask_until(UpgradeStep::RollbackCommit),
+            Err(refusal) => Err(refusal),
+        }
+    }
+
+    fn upgrade(&mut self, upgrade: Upgrade) -> Result<Answer, Refusal>
+        ensures { FollowsDialogue (Sends (carried D.seen D.failures)) (upgrade_in_threads upgrade) (self.old.caller.client, self.old.link) result (self.new.caller.client, self.new.link) }
+    {
+        match upgrade {
+            Upgrade::Prepare => self.prepare(),
+            Upgrade::Rollback => self.roll_back(),
+            _ => self.caller.ask(&mut self.link, Command::Upgrade(upgrade)),
+        }
     }
 
     fn step_upgrade(&mut self, step: UpgradeStep) -> Result<Answer, Refusal>
@@ -97,8 +122,7 @@ impl<N: Plan, D: Disk + Drop, T: Wait + Clock + Drop> Desk<N, D, T> {
                 self.link.at(Moment(moment));
                 Ok(Answer::Done)
             }
-            Command::Upgrade(Upgrade::Prepare) => self.prepare(),
-            Command::Upgrade(Upgrade::Rollback) => self.roll_back(),
+            Command::Upgrade(upgrade) => self.upgrade(upgrade),
             Command::Step(step) => self.step_upgrade(step),
             command => self.caller.ask(&mut self.link, command),
         }

@@ -1,8 +1,8 @@
 //! The shell of a store whose nodes run in threads: a script's lines in, their answers out.
 #![tactic(auto)]
 
-ghost use Rattle.std.specs.Prelude.{◌≡◌, IfSome, OnOk};
-ghost use Rattle.gs_cluster.specs.Opened.{names_of, setting_of};
+ghost use Rattle.std.specs.Prelude.{◌≡◌, [], IfSome, OnOk};
+ghost use Rattle.gs_cluster.specs.Opened.{IsNew, names_of};
 ghost use Rattle.gs_journal.specs.Memory.{bytes_of, times_failed};
 ghost use Rattle.gs_shell_threads.specs.Serving.{Serves};
 ghost use Rattle.std.specs.declared.marker.Brand.{Brand as TheBrand};
@@ -11,7 +11,7 @@ mod answering;
 mod desk;
 
 pub use desk::Desk;
-use gs_base::{ClientId, Config, Refusal};
+use gs_base::{ClientId, Config, Moment, Refusal};
 use gs_cluster::{Cluster, Opened};
 use gs_cluster_node::{Gate, Open, Plan};
 use gs_journal::{Disk, MemoryDisk};
@@ -41,19 +41,21 @@ fn serve<
     reader: &mut R,
     writer: &mut W,
 ) -> Result<(), RunFault>
-    requires names { N.names ≡ names_of opened.config.servers opened.seeds.items }
-    requires setting { N.setting ≡ setting_of opened.config opened.clients opened.seeds.items opened.begins }
-    requires one { opened.clients ≡ 1 }
-    ensures { OnOk result (IfSome (R.remaining reader.old) (λ input. Serves {N} {T} D.seen D.failures N.setting input (W.contents writer.old) (W.contents writer.new))) }
+    requires names { N.names ≡ names_of N.setting.config.servers opened.seeds.items }
+    requires config { opened.config ≡ N.setting.config }
+    requires new { IsNew D.seen D.failures N.setting opened.seeds.items }
+    requires one { N.setting.clients ≡ 1 }
+    ensures { OnOk result (IfSome (R.remaining reader.old) (λ input. Serves N T D.seen D.failures N.setting input (W.contents writer.old) (W.contents writer.new))) }
 {
     let config = opened.config;
     let (cluster, mut callers) = match Cluster::<N, D>::start(rt, alloc, gate, opened) {
         Ok(started) => started,
         Err(_) => return Err(RunFault::Refused(Refusal::Memory)),
     };
-    let Some(link) = callers.pop() else {
+    let Some(mut link) = callers.pop() else {
         unreachable!()
     };
+    link.at(Moment(0));
     let caller = Caller::new(alloc, ClientId(1), config);
     let mut desk = Desk { caller, link };
     let result = gs_shell_script::run(alloc, &mut desk, reader, writer);
@@ -81,7 +83,7 @@ pub fn run_threads<
     W: Write,
 >(rt: &T, alloc: Global, config: Config, reader: &mut R, writer: &mut W) -> Result<(), RunFault>
     ensures { OnOk result (IfSome (R.remaining reader.old) (λ input.
-        Serves {TheBrand} {T} bytes_of times_failed (record { config = config; clients = 1; texts = ([], []) }) input (W.contents writer.old) (W.contents writer.new))) }
+        Serves TheBrand T bytes_of times_failed (record { config = config; clients = 1; texts = ([], []) }) input (W.contents writer.old) (W.contents writer.new))) }
 {
     let disks = empty_disks(alloc);
     let opened = match Opened::new(alloc, config, 1, disks) {
