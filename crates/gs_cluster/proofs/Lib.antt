@@ -1,9 +1,0 @@
-pub mod Lists
-pub mod Listed
-pub mod Numbers
-pub mod Rows
-pub mod Members
-pub mod Ending
-pub mod Seeding
-pub mod Refused
-pub mod Hearing

@@ -1,5 +1,0 @@
-pub mod Calling
-pub mod Finished
-pub mod Linked
-pub mod Opened
-pub mod inner

@@ -1,3 +1,0 @@
-mod Answered
-mod Stepping
-pub mod Turns

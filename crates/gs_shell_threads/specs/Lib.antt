@@ -1,4 +1,0 @@
-pub mod Answering
-pub mod Asked
-pub mod Lines
-pub mod Serving
