@@ -4,8 +4,12 @@
 use gs_base::{Config, Refusal};
 use gs_shell::RunFault;
 use gs_shell_command::configured;
+use gs_shell_threads::run_threads;
 use std::io::{self, BufReader, BufWriter};
 use std::process::ExitCode;
+use std::sync::Wait;
+use std::thread::Threads;
+use std::time::Clock;
 
 /// Answers standard input on standard output, by a new store whose journal is kept in memory.
 fn serve(rt: &(impl Input + Print + AllocGlobal), config: Config) -> Result<(), RunFault> {
@@ -19,14 +23,33 @@ fn serve(rt: &(impl Input + Print + AllocGlobal), config: Config) -> Result<(), 
     gs_shell::run(alloc, config, &mut reader, &mut writer)
 }
 
+/// So too, by a store whose nodes run in threads.
+fn serve_in_threads<
+    R: Input + Print + AllocGlobal + Threads + Wait + Clock + Copy + Drop + Send + Sync + 'static,
+>(rt: &R, config: Config) -> Result<(), RunFault> {
+    let alloc = rt.alloc();
+    let Ok(mut reader) = BufReader::new(alloc, rt.reader()) else {
+        return Err(RunFault::Refused(Refusal::Memory));
+    };
+    let Ok(mut writer) = BufWriter::new(alloc, io::writer(rt)) else {
+        return Err(RunFault::Refused(Refusal::Memory));
+    };
+    run_threads(rt, alloc, config, &mut reader, &mut writer)
+}
+
 /// The status is 0 at the end of the input, 1 where a read or a write fails or the run can't begin, and 2 where the words of
 /// the command line are refused. Then nothing is read, and nothing stands on standard output.
 fn main(rt: HostRuntime) -> ExitCode {
-    let config = match configured(&rt, "chunkstore") {
-        Ok((config, _)) => config,
+    let (config, has_threads) = match configured(&rt, "chunkstore") {
+        Ok(asked) => asked,
         Err(status) => return status,
     };
-    match serve(&rt, config) {
+    let served = if has_threads {
+        serve_in_threads(&rt, config)
+    } else {
+        serve(&rt, config)
+    };
+    match served {
         Ok(()) => ExitCode::SUCCESS,
         Err(fault) => {
             let _ = eprintln!(rt; "chunkstore: {fault}");

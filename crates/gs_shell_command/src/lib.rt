@@ -1,7 +1,7 @@
 //! What the command line of a program asks for.
 #![tactic(auto)]
 
-ghost use Rattle.std.specs.Prelude.{◌≡◌, false, IfErr, IfOk};
+ghost use Rattle.std.specs.Prelude.{◌≡◌, IfErr};
 
 use gs_base::{Config, Refusal};
 use std::process::ExitCode;
@@ -25,15 +25,13 @@ fn explain(rt: &(impl Eprint + AllocGlobal), program: &str, words: &[String], re
     };
 }
 
-/// The configuration that the command line asks for, and whether the nodes run in threads, which no command line that is taken asks
-/// for yet. Where its words can't be read or are refused, standard error says why in the name of the program, and this is the status
-/// 2, with which the program is to end.
+/// The configuration that the command line asks for, and whether the nodes run in threads. Where its words can't be read or are refused,
+/// standard error says why in the name of the program, and this is the status 2, with which the program is to end.
 pub fn configured(
     rt: &(impl Eprint + Env + AllocGlobal),
     program: &str,
 ) -> Result<(Config, bool), ExitCode>
-    ensures unthreaded { IfOk result (λ asked. asked.1 ≡ false) }
-    ensures refused { IfErr result (λ code. code.status ≡ 2) }
+    ensures { IfErr result (λ code. code.status ≡ 2) }
 {
     let Ok(words) = words(rt) else {
         let _ = eprintln!(rt; "{program}: the arguments can't be read");

@@ -1,5 +1,5 @@
 -- What the words of a command line say.
-use Rattle.std.specs.Prelude.{◌≡◌, ◌≢◌, ◌^◌, ◌&&◌, ℕ, Bool, false, List, [], ◌∷◌, length, codes, bytes_eq, nat_lt, if◌then◌else◌, Option, Some, None, Result, Ok, Err, option_and_then}
+use Rattle.std.specs.Prelude.{◌≡◌, ◌≢◌, ◌^◌, ◌&&◌, ℕ, Bool, false, List, [], ◌∷◌, length, codes, bytes_eq, nat_lt, if◌then◌else◌, Option, Some, None, Result, Ok, Err, option_and_then, option_map}
 use Rattle.std.specs.Option.{option_map_or}
 use Rattle.std.specs.Str.{all_ascii_digits}
 use Rattle.std.specs.Str.Parse.{digits_value, without_leading_plus}
@@ -83,12 +83,15 @@ rows_sizes rows = do
   chunk ← number_in (codes "chunk") rows
   store_sizes servers racks replicas block chunk
 
--- There are no threads yet.
-abbrev pub rows_options : List Row → Option Sizes
-rows_options rows = if flag_in (codes "threads") rows then None else rows_sizes rows
+-- sizes, and whether the nodes run in threads
+abbrev pub Asked : Type 0
+Asked = Sizes × Bool
+
+abbrev pub rows_options : List Row → Option Asked
+rows_options rows = option_map (λ sizes. (sizes, flag_in (codes "threads") rows)) (rows_sizes rows)
 
 -- what the words of a command line say, of which the first is the program's own
-abbrev pub words_options : List Text → Option Sizes
+abbrev pub words_options : List Text → Option Asked
 words_options words = if is_empty (fault_of app words) then rows_options (matches_of app words) else None
 
 -- the configuration of the sizes, and Config exactly where there are none, unless memory ran out
@@ -98,10 +101,12 @@ SizedAs (Err refusal.Config) sizes = sizes ≡ None
 SizedAs (Err refusal.Memory) sizes = Unit {0}
 SizedAs (Err _) sizes = ⊥
 
--- So too with whether there are threads: no words that are taken ask for them.
-abbrev pub ConfiguresAs : Result (Config × Bool) Refusal → Option Sizes → Type 0
-ConfiguresAs (Ok asked) sizes = SizedAs (Ok asked.0) sizes × (asked.1 ≡ false)
-ConfiguresAs (Err e) sizes = SizedAs (Err e) sizes
+-- so too with whether the nodes run in threads
+abbrev pub ConfiguresAs : Result (Config × Bool) Refusal → Option Asked → Type 0
+ConfiguresAs (Ok asked) words = words ≡ Some (sizes_of asked.0, asked.1)
+ConfiguresAs (Err refusal.Config) words = words ≡ None
+ConfiguresAs (Err refusal.Memory) words = Unit {0}
+ConfiguresAs (Err _) words = ⊥
 
 -- why there are no matches: a fault of the words, or memory ran out
 abbrev pub Refuses : Refusal → Kinds → Type 0

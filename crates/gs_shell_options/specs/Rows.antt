@@ -1,30 +1,33 @@
 -- Command lines, and what they say.
-use Rattle.std.specs.Prelude.{◌≡◌, ◌∷◌, ℕ, Option, [], codes, Some, None, refl}
+use Rattle.std.specs.Prelude.{◌≡◌, ◌∷◌, ℕ, Bool, true, false, Option, [], codes, Some, None, refl}
 use Rattle.std.specs.Char.{encode_utf8}
 use Rattle.std.specs.Str.{chars}
 use Rattle.clap.specs.Faults.{defaults_fault, flags_fault, walk_fault}
 use Rattle.clap.specs.Takes.{flags_pass, walk_passes}
 use Rattle.clap.specs.Walk.{bundle_met, walked}
-use Rattle.gs_shell_options.specs.Options.{Sizes, app, rows_sizes, words_options}
+use Rattle.gs_shell_options.specs.Options.{Asked, app, rows_sizes, words_options}
 
-sizes : ℕ → ℕ → ℕ → ℕ → ℕ → Option Sizes
-sizes servers racks replicas block chunk =
-    Some (record { servers = servers; racks = racks; replicas = replicas; block = block; chunk = chunk })
+unfoldable in_threads : Bool → ℕ → ℕ → ℕ → ℕ → ℕ → Option Asked
+in_threads threads servers racks replicas block chunk =
+    Some (record { servers = servers; racks = racks; replicas = replicas; block = block; chunk = chunk }, threads)
+
+unfoldable sizes : ℕ → ℕ → ℕ → ℕ → ℕ → Option Asked
+sizes = in_threads false
 
 none_given : words_options (codes "chunkstore" ∷ []) ≡ sizes 3 1 3 65536 67108864
-unfolding sizes app rows_sizes walked bundle_met chars encode_utf8 flags_pass walk_passes flags_fault walk_fault defaults_fault
+unfolding sizes in_threads app rows_sizes walked bundle_met chars encode_utf8 flags_pass walk_passes flags_fault walk_fault defaults_fault
 none_given = refl
 
 all_given : words_options (codes "chunkstore" ∷ codes "--servers" ∷ codes "5" ∷ codes "--racks=2" ∷ codes "--replicas" ∷ codes "+2" ∷ codes "--chunk" ∷ codes "16" ∷ codes "--block=4" ∷ codes "--" ∷ []) ≡ sizes 5 2 2 4 16
-unfolding sizes app rows_sizes walked bundle_met chars encode_utf8 flags_pass walk_passes flags_fault walk_fault defaults_fault
+unfolding sizes in_threads app rows_sizes walked bundle_met chars encode_utf8 flags_pass walk_passes flags_fault walk_fault defaults_fault
 all_given = refl
 
 given_twice : words_options (codes "chunkstore" ∷ codes "--racks" ∷ codes "2" ∷ codes "--racks" ∷ codes "2" ∷ []) ≡ None
 unfolding app rows_sizes walked bundle_met chars encode_utf8 flags_pass walk_passes flags_fault walk_fault defaults_fault
 given_twice = refl
 
-threads : words_options (codes "chunkstore" ∷ codes "--threads" ∷ []) ≡ None
-unfolding app rows_sizes walked bundle_met chars encode_utf8 flags_pass walk_passes flags_fault walk_fault defaults_fault
+threads : words_options (codes "chunkstore" ∷ codes "--threads" ∷ []) ≡ in_threads true 3 1 3 65536 67108864
+unfolding in_threads app rows_sizes walked bundle_met chars encode_utf8 flags_pass walk_passes flags_fault walk_fault defaults_fault
 threads = refl
 
 help : words_options (codes "chunkstore" ∷ codes "--help" ∷ []) ≡ None

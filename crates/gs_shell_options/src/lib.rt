@@ -111,7 +111,7 @@ fn command<'a>(alloc: Global) -> Result<Command<'a>, AllocError>
         alloc,
         command,
         "threads",
-        "Runs the nodes in threads, which isn't there yet",
+        "Runs the master and each chunkserver in threads of their own",
     )
 }
 
@@ -162,31 +162,22 @@ fn config_in(matches: &ArgMatches<'_>) -> Result<Config, Refusal>
 
 /// The configuration that the words of the command line name, of which the first is the program's own, and whether the nodes
 /// run in threads. `Config` refuses an option that isn't there, one that is given twice, a value that is no whole number or
-/// lacks, `--help`, and sizes of which there is no store; and `--threads`, since there are none yet, so the flag is never set.
+/// lacks, `--help`, and sizes of which there is no store.
 pub fn options(alloc: Global, words: &[String]) -> Result<(Config, bool), Refusal>
     ensures { ConfiguresAs result (words_options (map string_bytes words.now)) }
 {
     let matches = matches_of(alloc, words)?;
-    if flag_in(&matches, "threads") {
-        return Err(Refusal::Config);
-    }
     let config = config_in(&matches)?;
-    Ok((config, false))
+    Ok((config, flag_in(&matches, "threads")))
 }
 
 /// What is wrong with words of which clap finds no fault, and which are refused.
-fn sizes_fault(matches: &ArgMatches<'_>) -> &'static str {
-    if flag_in(matches, "threads") {
-        "error: '--threads' isn't there yet\n"
-    } else {
-        "error: there is no store of these sizes\n"
-    }
-}
+const NO_SUCH_SIZES: &str = "error: there is no store of these sizes\n";
 
 /// What is wrong with words that are refused, or nothing where they ask for help.
 fn fault_text(alloc: Global, words: &[String]) -> Result<String, AllocError> {
     match command(alloc)?.try_get_matches_from(words) {
-        Ok(matches) => String::from_str(alloc, sizes_fault(&matches)),
+        Ok(_) => String::from_str(alloc, NO_SUCH_SIZES),
         Err(error) => match error.kind() {
             ErrorKind::OutOfMemory => Err(AllocError),
             ErrorKind::DisplayHelp => Ok(String::new(alloc)),

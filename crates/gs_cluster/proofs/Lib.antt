@@ -1,0 +1,9 @@
+pub mod Lists
+pub mod Listed
+pub mod Numbers
+pub mod Rows
+pub mod Members
+pub mod Ending
+pub mod Seeding
+pub mod Refused
+pub mod Hearing

@@ -1,0 +1,29 @@
+-- What a cluster has come to when its threads have ended.
+use Rattle.std.specs.Prelude.{◌≡◌, ℕ, List, length, Result, Ok, Err}
+use Rattle.gs_base.specs.declared.refusal.Refusal.{Refusal}
+use Rattle.gs_base.specs.declared.refusal.Refusal.TheVariants as refusals
+use Rattle.gs_msg.specs.declared.event.DiskId.{DiskId}
+use Rattle.gs_nodes.specs.Nodes.{nodes_of}
+use Rattle.gs_nodes.specs.declared.nodes.Nodes.{Nodes}
+use Rattle.gs_nodes.specs.declared.place.MasterPlace.{MasterPlace}
+use Rattle.gs_cluster_core.specs.Stores.{IsStoreRun}
+use Rattle.gs_cluster_core.specs.declared.role.Role.{Role}
+use Rattle.gs_cluster_history.specs.Histories.{Among, Kept}
+use Rattle.gs_cluster_history.specs.Merging.{places_of}
+use Rattle.gs_cluster_history.specs.Setting.{Setting}
+
+module _ {D : Type 0} (seen : D → List ℕ) (failures : D → ℕ) (setting : Setting) (callers : List (Kept (Role D))) where
+  -- The histories of all nodes, those of the callers among them, by their clocks, are a run of a store that has begun new; these nodes are
+  -- what it leads to.
+  pub record HasRun (nodes : Nodes D) : Type 0 where
+    pub kept : List (Kept (Role D))
+    pub among : (k : Kept (Role D)) → Among callers k → Among kept k
+    pub run : (armed : DiskId → ℕ → MasterPlace D → MasterPlace D) → IsStoreRun seen failures armed setting kept (places_of kept)
+    pub ends : (armed : DiskId → ℕ → MasterPlace D → MasterPlace D) → (run armed).end.nodes ≡ nodes_of nodes
+
+  -- `Stray` is said only where there aren't as many callers as clients.
+  abbrev pub Finished : Result (Nodes D) Refusal → Type 0
+  Finished (Ok nodes) = HasRun nodes
+  Finished (Err refusals.Memory) = Unit {0}
+  Finished (Err refusals.Stray) = length callers ≡ setting.clients → ⊥
+  Finished (Err refusal) = ⊥

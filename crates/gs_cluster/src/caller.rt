@@ -1,0 +1,97 @@
+ghost use Rattle.std.specs.Prelude.{◌≡◌};
+ghost use Rattle.gs_cluster.specs.Calling.{HearsAll, Replied};
+
+use gs_base::{Moment, Refusal, ReqId};
+use gs_client::{Link, Reply};
+use gs_cluster_core::Role;
+use gs_cluster_node::{Node, Open, Plan};
+use gs_cluster_threads::{LOOKS, rest};
+use gs_journal::Disk;
+use gs_msg::{Event, Happening, Request};
+use std::alloc::Global;
+use std::sync::Wait;
+use std::time::Clock;
+
+/// A client of a cluster, at its caller: what it asks goes out at its moment, and it waits for the reply, however long. Where nothing comes for
+/// long it asks once more by the same messages.
+#[derive(Drop)]
+pub struct Caller<N: Plan, D: Disk + Drop, R: Wait + Clock + Drop> {
+    pub(crate) rt: R,
+    pub(crate) alloc: Global,
+    pub(crate) node: Node<N, Role<D>>,
+    pub(crate) moment: Moment,
+}
+
+/// A copy of what came back, if something did.
+fn reply_at<D: Disk + Drop>(alloc: Global, role: &Role<D>) -> Option<Reply>
+    ensures { Replied role.now result }
+{
+    let Role::Client(client) = role else {
+        return None;
+    };
+    match client.reply()?.copy(alloc) {
+        Ok(reply) => Some(reply),
+        Err(_) => Some(Reply::Refused(Refusal::Memory)),
+    }
+}
+
+impl<N: Plan, D: Disk + Drop, R: Wait + Clock + Drop> Caller<N, D, R> {
+    /// Sets the moment of what it asks from now on.
+    pub fn at(&mut self, moment: Moment)
+        ensures node { self.new.node ≡ self.old.node }
+        ensures moment { self.new.moment ≡ moment }
+    {
+        self.moment = moment;
+    }
+
+    /// Hears what comes, until there is a reply.
+    fn wait(&mut self) -> Reply
+        ensures hears { HearsAll D.seen D.failures self.old.node result self.new.node }
+        ensures moment { self.new.moment ≡ self.old.moment }
+    {
+        let mut looks: u32 = 0;
+        let Caller {
+            rt,
+            alloc,
+            node,
+            moment: _,
+        } = self;
+        for _ in rt.forever() {
+            if let Some(reply) = reply_at(*alloc, node.core()) {
+                return reply;
+            }
+            match node.receive(rt, *alloc, &Open) {
+                Ok(Some(_)) => looks = 0,
+                Ok(None) => {
+                    looks += 1;
+                    rest(rt, looks);
+                    if looks >= LOOKS {
+                        node.again(rt, *alloc);
+                        looks = 0;
+                    }
+                }
+                Err(refusal) => return Reply::Refused(refusal),
+            }
+        }
+        unreachable!()
+    }
+}
+
+impl<N: Plan, D: Disk + Drop, R: Wait + Clock + Drop> Link for Caller<N, D, R> {
+    ghost use Rattle.gs_cluster.specs.Linked.{carried};
+
+    ghost Carries = { carried D.seen D.failures };
+
+    fn request(&mut self, req: ReqId, request: Request) -> Reply {
+        let event = Event {
+            moment: self.moment,
+            happening: Happening::Ask { req, request },
+        };
+        let asked = self.node.step(&self.rt, self.alloc, &Open, event);
+        match asked {
+            Ok(Ok(())) => self.wait(),
+            Ok(Err(refusal)) => Reply::Refused(refusal),
+            Err(refusal) => Reply::Refused(refusal),
+        }
+    }
+}

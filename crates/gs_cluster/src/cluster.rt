@@ -1,0 +1,148 @@
+ghost use Rattle.std.specs.Prelude.{◌≡◌, ◌+◌, ◌++◌, ◌≤◌, All, IfOk, length, map, vec_len};
+ghost use Rattle.gs_cluster.specs.Finished.{Finished};
+ghost use Rattle.gs_cluster.specs.Opened.{IsNew, names_of};
+ghost use Rattle.gs_cluster.specs.Calling.{fresh_clients};
+ghost use Rattle.gs_cluster.specs.declared.caller.Caller.{Caller as ACaller};
+ghost use Rattle.gs_cluster_history.specs.Setting.{all_ids};
+
+use crate::caller::Caller;
+use crate::nodes::nodes_from;
+use crate::opening::Opened;
+use gs_base::{Config, Moment, Refusal};
+use gs_cluster_core::Role;
+use gs_cluster_history::Core;
+use gs_cluster_node::{Gate, Node, Plan};
+use gs_cluster_threads::{Hosts, wire};
+use gs_journal::Disk;
+use gs_nodes::Nodes;
+use std::alloc::{AllocError, Global};
+use std::sync::Wait;
+use std::thread::Threads;
+use std::time::Clock;
+
+/// The master and the servers of a store, each on two threads.
+#[derive(Drop)]
+pub struct Cluster<N: Plan, D: Disk + Drop>
+where
+    Role<D>: Core,
+{
+    alloc: Global,
+    config: Config,
+    pub hosts: Hosts<N, Role<D>>,
+    ghost sizes: { config ≡ N.setting.config },
+    pub ghost many: { vec_len hosts.handles + N.setting.clients ≡ length (all_ids N.setting) },
+}
+
+/// So many first nodes, and those behind them.
+fn parted<N: Plan, D: Disk + Drop>(
+    alloc: Global,
+    many: usize,
+    nodes: Vec<Node<N, Role<D>>>,
+) -> Result<(Vec<Node<N, Role<D>>>, Vec<Node<N, Role<D>>>), AllocError>
+    requires { many ≤ vec_len nodes }
+    ensures all { IfOk result (λ p. p.0.items ++ p.1.items ≡ nodes.items) }
+    ensures many { IfOk result (λ p. vec_len p.0 ≡ many) }
+{
+    let mut first = Vec::new(alloc);
+    let mut rest = Vec::new(alloc);
+    for node in nodes {
+        if first.len() < many {
+            first.push(node)?;
+        } else {
+            rest.push(node)?;
+        }
+    }
+    Ok((first, rest))
+}
+
+/// The nodes of clients, which stand behind the others, go to callers at moment 0.
+fn callers_of<N: Plan, D: Disk + Drop, R: Wait + Clock + Copy + Drop>(
+    rt: &R,
+    alloc: Global,
+    nodes: Vec<Node<N, Role<D>>>,
+) -> Result<Vec<Caller<N, D, R>>, AllocError>
+    ensures nodes { IfOk result (λ v. map (λ (c : ACaller N D R). c.node) v.items ≡ nodes.items) }
+    ensures moments { IfOk result (λ v. All (λ (c : ACaller N D R). c.moment ≡ record { 0 = 0 }) v.items) }
+{
+    let mut callers = Vec::new(alloc);
+    for node in nodes {
+        callers.push(Caller {
+            rt: *rt,
+            alloc,
+            node,
+            moment: Moment(0),
+        })?;
+    }
+    Ok(callers)
+}
+
+fn nodes_of_callers<N: Plan, D: Disk + Drop, R: Wait + Clock + Drop>(
+    alloc: Global,
+    callers: Vec<Caller<N, D, R>>,
+) -> Result<Vec<Node<N, Role<D>>>, AllocError>
+    ensures { IfOk result (λ v. v.items ≡ map (λ (c : ACaller N D R). c.node) callers.items) }
+{
+    let mut nodes = Vec::new(alloc);
+    for caller in callers {
+        let Caller {
+            rt: _,
+            alloc: _,
+            node,
+            moment: _,
+        } = caller;
+        nodes.push(node)?;
+    }
+    Ok(nodes)
+}
+
+impl<N: Plan + Send + Sync + 'static, D: Disk + Drop + Send + 'static> Cluster<N, D> {
+    /// Starts a store that has begun new: two threads share its master, and two each server; the clients are the callers', at moment 0. The gate
+    /// is told of each step of a node. Where memory or a thread is wanting, the threads that were started end.
+    pub fn start<
+        R: Threads + Wait + Clock + Copy + Drop + Send + Sync + 'static,
+        G: Gate + Send + Sync + Drop + 'static,
+    >(
+        rt: &R,
+        alloc: Global,
+        gate: G,
+        opened: Opened<D>,
+    ) -> Result<(Cluster<N, D>, Vec<Caller<N, D, R>>), AllocError>
+        requires names { N.names ≡ names_of N.setting.config.servers opened.seeds.items }
+        requires config { opened.config ≡ N.setting.config }
+        requires new { IsNew D.seen D.failures N.setting opened.seeds.items }
+        ensures clients { IfOk result (λ started. map (λ (c : ACaller N D R). c.node) started.1.items ≡ fresh_clients N.setting.clients) }
+        ensures moments { IfOk result (λ started. All (λ (c : ACaller N D R). c.moment ≡ record { 0 = 0 }) started.1.items) }
+    {
+        let Opened { config, seeds } = opened;
+        let many = seeds.len();
+        let nodes = wire(rt, alloc, seeds)?;
+        let (keepers, clients) = parted(alloc, config.servers as usize + 1, nodes)?;
+        let callers = callers_of(rt, alloc, clients)?;
+        let hosts = Hosts::start(rt, alloc, gate, many, keepers)?;
+        let cluster = Cluster {
+            alloc,
+            config,
+            hosts,
+        };
+        Ok((cluster, callers))
+    }
+
+    /// Ends the threads, and gives the nodes as they have become, the clients of the callers among them: what each has taken, in the order of
+    /// the clocks, is a run of a store from its beginning to these nodes. `Stray` where a caller is missing.
+    pub fn finish<R: Threads + Wait + Clock + Drop>(
+        self,
+        rt: &R,
+        callers: Vec<Caller<N, D, R>>,
+    ) -> Result<Nodes<D>, Refusal>
+        ensures { Finished D.seen D.failures N.setting (map (λ (c : ACaller N D R). c.node) callers.items) result }
+    {
+        let Cluster {
+            alloc,
+            config,
+            hosts,
+        } = self;
+        let of_callers = nodes_of_callers(alloc, callers)?;
+        let members = hosts.finish(rt, of_callers)?;
+        Ok(nodes_from(alloc, config, members)?)
+    }
+}

@@ -1,0 +1,11 @@
+//! A store whose nodes run at once: the master and each chunkserver on two threads of their own, and clients at their callers.
+#![tactic(auto)]
+
+mod caller;
+mod cluster;
+mod nodes;
+mod opening;
+
+pub use caller::Caller;
+pub use cluster::Cluster;
+pub use opening::Opened;

@@ -1,0 +1,10 @@
+//! Tests of a store whose nodes run in threads. They stand here since a crate with tests is proved twice, and wait, each, for no more than
+//! its threads.
+#![tactic(auto)]
+
+#[cfg(test)]
+mod callers;
+#[cfg(test)]
+mod gate;
+#[cfg(test)]
+mod script;

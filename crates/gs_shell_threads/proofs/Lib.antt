@@ -1,0 +1,3 @@
+mod Answered
+mod Stepping
+pub mod Turns
