@@ -1,0 +1,45 @@
+-- What is noted of a node's history.
+use Rattle.std.specs.Prelude.{◌≡◌, ◌++◌, List, [], ◌∷◌, None, Ok, IsTrue, map, refl}
+use Rattle.gs_msg.specs.Posts.{posted}
+use Rattle.gs_msg.specs.declared.event.Happening.TheVariants as happenings
+use Rattle.gs_msg.specs.declared.message.Message.{Message}
+use Rattle.gs_msg.specs.declared.node.StoreNode.TheVariants as keepers
+use Rattle.gs_msg.specs.declared.outbox.Post.{Post}
+use Rattle.gs_msg.specs.declared.sent.Sent.{Sent}
+use Rattle.gs_cluster_history.specs.Histories.{Entry, Listed}
+use Rattle.gs_cluster_history.specs.Logs.{sent_at}
+use Rattle.gs_cluster_history.specs.Merging.{event_of}
+use Rattle.gs_cluster_history.specs.declared.took.Took.TheVariants.{Heard, Did}
+use Rattle.gs_cluster_notes.specs.declared.notes.Dated.{Dated}
+use Rattle.gs_cluster_notes.specs.declared.notes.Notes.{Notes}
+
+abbrev pub dated_of : Entry → Dated
+dated_of e = record { clock = e.clock; event = event_of e.took }
+
+-- as it stands among what was sent
+abbrev pub post_of : Listed → Post
+post_of l = posted l.moment l.message
+
+-- Notes that are whole tell all of a history, and all that was sent.
+abbrev pub Keeps : Notes → List Entry → List Listed → Type 0
+Keeps notes entries sent = IsTrue notes.is_whole → (notes.events.items ≡ map dated_of entries) × (notes.sent.posts ≡ map post_of sent)
+
+-- of several histories
+abbrev pub dated_all : List (List Entry) → List (List Dated)
+dated_all histories = map (λ es. map dated_of es) histories
+
+-- Worked: the master hears a message at clock 9, and sends one on it; it ticks at clock 10, and sends nothing.
+module _ (heard : Sent) (reply : Message) where
+  abbrev hears : Entry
+  hears = record { clock = 9; took = Heard heard; outcome = Ok (reply ∷ [], None) }
+
+  abbrev ticks : Entry
+  ticks = record { clock = 10; took = Did (record { moment = record { 0 = 6 }; happening = happenings.Tick keepers.Master }); outcome = Ok ([], None) }
+
+  its_events : map dated_of (hears ∷ ticks ∷ []) ≡
+      record { clock = 9; event = record { moment = heard.moment; happening = happenings.Deliver (record { sender = heard.from; place = heard.place }) } }
+      ∷ record { clock = 10; event = record { moment = record { 0 = 6 }; happening = happenings.Tick keepers.Master } } ∷ []
+  its_events = refl
+
+  its_posts : map post_of (sent_at hears ++ sent_at ticks) ≡ posted heard.moment reply ∷ []
+  its_posts = refl

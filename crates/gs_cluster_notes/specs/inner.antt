@@ -1,0 +1,3 @@
+-- What the crate's own functions say of one another's work. No clause of a public call cites this file.
+pub mod Firsts
+pub mod Noting

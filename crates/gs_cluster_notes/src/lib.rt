@@ -1,0 +1,8 @@
+//! What is noted of the histories of nodes that run at once, where that is wanted: each node's events by its clock, and all that it has sent.
+#![tactic(auto)]
+
+mod merging;
+mod notes;
+
+pub use merging::merged;
+pub use notes::{Dated, Notes};
