@@ -1,5 +1,6 @@
 -- One event more leaves a node sound.
-use Rattle.std.proofs.Common.{◌≡◌, ℕ, suc, ◌+◌, ◌<◌, List, [], ◌∷◌, ◌++◌, map, length, Result, refl, sym, ap, ◌∙◌, subst, arith}
+use Rattle.std.proofs.Common.{◌≡◌, ℕ, suc, ◌+◌, ◌<◌, List, [], ◌∷◌, ◌++◌, map, length, Option, Some, None, Result, refl, sym, ap, ◌∙◌, subst, arith, length-append, min}
+use Rattle.std.specs.Prelude.{IfSome}
 use Rattle.gs_base.specs.declared.numbers.Moment.{Moment}
 use Rattle.gs_base.specs.declared.refusal.Refusal.{Refusal}
 use Rattle.gs_msg.specs.declared.message.Message.{Message}
@@ -9,6 +10,11 @@ use Rattle.gs_cluster_channel.specs.Settled.{Hearing, Putting}
 use Rattle.gs_cluster_history.specs.declared.took.Took.{Took}
 use Rattle.gs_cluster_history.specs.declared.took.Took.TheVariants.{Heard, Did}
 use Rattle.gs_cluster_history.specs.Histories.{Entry, Kept, Leads, Listed, MayTake, Past, Takes, Upshot, listed, moment_of, out_of}
+use Rattle.gs_cluster_history.specs.Logs.{sent_at}
+use Rattle.gs_cluster_history.specs.Merging.{event_of}
+use Rattle.gs_cluster_notes.specs.Notes.{Keeps, dated_of}
+use Rattle.gs_cluster_notes.specs.declared.notes.Dated.{Dated}
+use Rattle.gs_cluster_notes.specs.declared.notes.Notes.{Notes}
 use Rattle.gs_cluster_node.specs.Nodes.{AllListed, IsSound, Stepped, heard_in, heard_of, last_clock, next_clock}
 use Rattle.gs_cluster_node.specs.inner.Acting.{Acts, AllOwn, AreAt, Counts, Goes, Routes}
 use Rattle.gs_cluster_node.proofs.Listing.{are_behind, still_listed, still_own}
@@ -35,29 +41,51 @@ map_length f (x ∷ xs) = ap suc (map_length f xs)
 pub first_count : (messages : List Message) (sent : List Listed) (count : ℕ) → count ≡ length messages → sent ≡ map (listed 0 (record { 0 = 0 })) messages → count ≡ length sent
 first_count messages sent count e same = e ∙ sym (map_length (listed 0 (record { 0 = 0 })) messages) ∙ ap length (sym same)
 
+-- what is noted of an event
+is_dated : (dated : Option Dated) (e : Entry) (took : Took) (clock : ℕ) → e.took ≡ took → e.clock ≡ clock → IfSome dated (λ d. d ≡ record { clock = clock; event = event_of took }) → IfSome dated (λ d. d ≡ dated_of e)
+is_dated None e took clock of at is = tt
+is_dated (Some d) e took clock of at is =
+    is ∙ ap (λ (t : Took). record { clock = clock; event = event_of t }) (sym of) ∙ ap (λ (c : ℕ). record { clock = c; event = event_of e.took }) (sym at)
+
 module _ {C : Type 0} (Does : Took → C → Upshot → C → Type 0) where
   leads_on : (me : NodeId) (p : Past C) (es : List Entry) (q r : Past C) (e : Entry) → Leads Does me p es q → Takes Does me q e r → Leads Does me p (es ++ e ∷ []) r
   leads_on me p [] q r e l t = (r, subst (λ (z : Past C). Takes Does me z e r) l t, refl)
   leads_on me p (x ∷ es) q r e (mid, u, l) t = (mid, u, leads_on me mid es q r e l t)
 
-  module _ (me : NodeId) (took : Took) (clock : ℕ) (old : C) (entries : List Entry) (sent : List Listed) (out : List Message) (moment : Moment) (said : Result (Unit {0}) Refusal)
+  module _ (me : NodeId) (took : Took) (clock : ℕ) (old_core : C) (entries : List Entry) (sent : List Listed) (out : List Message) (moment : Moment) (said : Result (Unit {0}) Refusal)
       (core : C) (new_entries : List Entry) (new_sent : List Listed) where
     -- what was sent stands at the end
-    same_sent : (a : Acts Does took clock old entries sent out moment said core new_entries new_sent) → new_sent ≡ sent ++ map (listed clock moment) out
+    same_sent : (a : Acts Does took clock old_core entries sent out moment said core new_entries new_sent) → new_sent ≡ sent ++ map (listed clock moment) out
     same_sent a =
         a.lists ∙ ap (λ c. sent ++ map (listed c (moment_of a.entry.took)) (out_of a.entry.outcome)) a.at
         ∙ ap (λ t. sent ++ map (listed clock (moment_of t)) (out_of a.entry.outcome)) a.of
         ∙ ap (λ m. sent ++ map (listed clock m) (out_of a.entry.outcome)) (sym a.when)
         ∙ ap (λ ms. sent ++ map (listed clock moment) ms) (sym a.sends)
 
-    pub acts_place : (count : ℕ) → Acts Does took clock old entries sent out moment said core new_entries new_sent → Counts count sent → count < last_clock → AreAt new_sent count clock moment out
+    pub acts_place : (count : ℕ) → Acts Does took clock old_core entries sent out moment said core new_entries new_sent → Counts count sent → count < last_clock → AreAt new_sent count clock moment out
     acts_place count a counts below = subst (λ s. AreAt s count clock moment out) (sym (same_sent a)) (are_behind sent count clock moment out (counts below))
 
-    pub acts_listed : (ways : List Putting) → Acts Does took clock old entries sent out moment said core new_entries new_sent → AllListed me sent ways → AllListed me new_sent ways
+    pub acts_listed : (ways : List Putting) → Acts Does took clock old_core entries sent out moment said core new_entries new_sent → AllListed me sent ways → AllListed me new_sent ways
     acts_listed ways a all = subst (λ s. AllListed me s ways) (sym (same_sent a)) (still_listed me sent (map (listed clock moment) out) ways all)
 
-    pub acts_own : (xs : List Sent) → Acts Does took clock old entries sent out moment said core new_entries new_sent → AllOwn me sent xs → AllOwn me new_sent xs
+    pub acts_own : (xs : List Sent) → Acts Does took clock old_core entries sent out moment said core new_entries new_sent → AllOwn me sent xs → AllOwn me new_sent xs
     acts_own xs a own = subst (λ s. AllOwn me s xs) (sym (same_sent a)) (still_own me sent (map (listed clock moment) out) xs own)
+
+    pub acts_counts : (count more next : ℕ) → Acts Does took clock old_core entries sent out moment said core new_entries new_sent → Counts count sent → more ≡ length out → next ≡ min (count + more) last_clock → Counts next new_sent
+    acts_counts count more next a counts many is below =
+        let had : count < last_clock = omega arith in
+        let long : length new_sent ≡ length sent + length (map (listed clock moment) out) = ap length (same_sent a) ∙ length-append sent (map (listed clock moment) out) in
+        let same = map_length (listed clock moment) out in
+        let before = counts had in
+        omega arith
+
+    -- notes of an event more tell the history with it
+    pub acts_kept : (dated : Option Dated) (old new : Notes) → Acts Does took clock old_core entries sent out moment said core new_entries new_sent → IfSome dated (λ d. d ≡ record { clock = clock; event = event_of took })
+        → ((e : Entry) (es : List Entry) (ls : List Listed) → IfSome dated (λ d. d ≡ dated_of e) → out_of e.outcome ≡ out → Keeps old es ls → Keeps new (es ++ e ∷ []) (ls ++ sent_at e))
+        → Keeps old entries sent → Keeps new new_entries new_sent
+    acts_kept dated old new a is more keeps =
+        subst (λ es. Keeps new es new_sent) (sym a.goes_on)
+        (subst (λ ls. Keeps new (entries ++ a.entry ∷ []) ls) (sym a.lists) (more a.entry entries sent (is_dated dated a.entry took clock a.of a.at is) (sym a.sends) keeps))
 
   -- a core that has acted has made one step
   pub has_stepped : (old : Kept C) (took : Took) (clock : ℕ) (said : Result (Unit {0}) Refusal) (core : C) (entries : List Entry) (sent : List Listed)

@@ -3,7 +3,8 @@ ghost use Rattle.gs_cluster_history.specs.Histories.{Among, doer};
 ghost use Rattle.gs_cluster_history.specs.Logs.{first_sent};
 ghost use Rattle.gs_cluster_history.specs.Setting.{all_ids};
 ghost use Rattle.gs_cluster_node.specs.Nodes.{AllListed, HaveSentNothing, IsSound, Receives, Steps, last_clock, leads_of};
-ghost use Rattle.gs_cluster_node.specs.inner.Acting.{AllOwn, Counts, Goes, Routes};
+ghost use Rattle.gs_cluster_node.specs.inner.Acting.{Agrees, Goes, Routes};
+ghost use Rattle.gs_cluster_notes.specs.Notes.{Keeps};
 
 use crate::acting::{Done, act};
 use crate::gate::Gate;
@@ -12,24 +13,32 @@ use crate::posting::{put_again, put_all, remember, same};
 use gs_base::{Moment, Refusal};
 use gs_cluster_channel::{Ear, Way};
 use gs_cluster_history::{Core, Log, Took, Turn};
+use gs_cluster_notes::Notes;
 use gs_msg::{Event, Happening, NodeId, Sent};
 use std::alloc::Global;
 use std::marker::Model;
 use std::sync::Wait;
 
+/// What a node keeps of what it did: its history, how much it has sent, copies of what it asked last, and its notes.
+#[derive(Drop)]
+struct Diary {
+    log: Log,
+    count: u64,
+    asked: Vec<Sent>,
+    notes: Notes,
+}
+
 /// A node with its history, its ear and its ways to all nodes. All that happens to it goes by its calls, so that its history
-/// leads from how it began to what it is. At run time nothing is kept of the history but the clock, how much was sent, and what
-/// was asked last.
+/// leads from how it began to what it is. At run time nothing is kept of the history but the clock, how much was sent, what was
+/// asked last, and notes of it where they are wanted.
 #[derive(Drop)]
 pub struct Node<N: Plan, C: Core + Drop> {
     me: NodeId,
     core: C,
     clock: u64,
     steps: u64,
-    count: u64,
     told: Moment,
-    log: Log,
-    asked: Vec<Sent>,
+    diary: Diary,
     ways: Vec<Way<N>>,
     ear: Ear<N>,
 }
@@ -39,16 +48,16 @@ impl<N: Plan, C: Core + Drop> Model for Node<N, C> {
     ghost use Rattle.gs_cluster_history.specs.Histories.{Kept};
     ghost use Rattle.gs_cluster_history.specs.Setting.{all_ids};
     ghost use Rattle.gs_cluster_node.specs.Nodes.{IsSound};
-    ghost use Rattle.gs_cluster_node.specs.inner.Acting.{AllOwn, Counts};
+    ghost use Rattle.gs_cluster_node.specs.inner.Acting.{Agrees};
 
     ghost Value = { Kept C };
 
     ghost coded = { coded_kept C.code };
 
-    ghost view = { λ n. record { me = n.me; past = record { core = n.core; clock = n.clock; sent = n.log.sent }; entries = n.log.entries } };
+    ghost view = { λ n. record { me = n.me; past = record { core = n.core; clock = n.clock; sent = n.diary.log.sent }; entries = n.diary.log.entries } };
 
-    ghost invariant = { λ n. IsSound C.Does (C.Starts N.setting) (all_ids N.setting) (record { me = n.me; past = record { core = n.core; clock = n.clock; sent = n.log.sent }; entries = n.log.entries }) n.ways.items n.ear
-        × Counts n.count n.log.sent × AllOwn n.me n.log.sent n.asked.items };
+    ghost invariant = { λ n. IsSound C.Does (C.Starts N.setting) (all_ids N.setting) (record { me = n.me; past = record { core = n.core; clock = n.clock; sent = n.diary.log.sent }; entries = n.diary.log.entries }) n.ways.items n.ear
+        × Agrees n.me n.diary };
 }
 
 /// A node that is taken apart, when nothing happens to it any more.
@@ -58,6 +67,7 @@ pub struct Parts<N: Plan, C: Core + Drop> {
     pub core: C,
     pub ways: Vec<Way<N>>,
     pub ear: Ear<N>,
+    pub notes: Notes,
 }
 
 fn doer(event: &Event) -> Option<NodeId>
@@ -115,41 +125,47 @@ fn above(clock: u64, other: u64) -> u64
 }
 
 /// A node takes something at a clock, its history goes on by that, and what it sends goes on its ways. Of what it asks it keeps
-/// copies.
+/// copies, and notes of all of it where they are wanted.
 fn go<N: Plan, C: Core, R: Wait>(
     rt: &R,
     alloc: Global,
     core: &mut C,
-    count: &mut u64,
-    log: &mut Log,
-    asked: &mut Vec<Sent>,
+    diary: &mut Diary,
     ways: &mut Vec<Way<N>>,
     me: &NodeId,
     clock: u64,
     took: Took,
 ) -> Result<(), Refusal>
-    requires counts { Counts count.old log.old.sent }
-    requires own { AllOwn me.now log.old.sent asked.old.items }
-    requires listed { AllListed me.now log.old.sent ways.old.items }
-    ensures goes { Goes C.Does took clock core.old log.old.entries log.old.sent result core.new log.new.entries log.new.sent }
-    ensures counts { Counts count.new log.new.sent }
-    ensures own { AllOwn me.now log.new.sent asked.new.items }
-    ensures routes { Routes me.now log.new.sent ways.old.items ways.new.items }
+    requires agrees { Agrees me.now diary.old }
+    requires listed { AllListed me.now diary.old.log.sent ways.old.items }
+    ensures goes { Goes C.Does took clock core.old diary.old.log.entries diary.old.log.sent result core.new diary.new.log.entries diary.new.log.sent }
+    ensures agrees { Agrees me.now diary.new }
+    ensures routes { Routes me.now diary.new.log.sent ways.old.items ways.new.items }
 {
+    let Diary {
+        log,
+        count,
+        asked,
+        notes,
+    } = diary;
     let first = *count;
     let asks = is_ask(&took);
+    let dated = notes.dated(alloc, clock, &took);
     let Done { out, moment, said } = act(alloc, core, log, clock, took);
     *count = first.saturating_add(out.len() as u64);
+    notes.note(alloc, dated, &out);
     remember(alloc, asks, asked, log, me, first, clock, moment, &out);
     put_all(rt, ways, log, me, first, clock, moment, out);
     said
 }
 
 impl<N: Plan, C: Core + Drop> Node<N, C> {
-    /// A node that has taken nothing: what it sends at first stands in its list at clock 0, and goes on its ways.
+    /// A node that has taken nothing: what it sends at first stands in its list at clock 0, and goes on its ways. It keeps notes where
+    /// that is said.
     pub fn new<R: Wait>(
         rt: &R,
         alloc: Global,
+        are_noted: bool,
         me: NodeId,
         core: C,
         turn: Turn,
@@ -167,16 +183,20 @@ impl<N: Plan, C: Core + Drop> Node<N, C> {
         let log = Log::new().first(&turn);
         let mut ways = ways;
         let count = turn.sent.len() as u64;
+        let notes = Notes::first(alloc, are_noted, &turn.sent);
         put_all(rt, &mut ways, &log, &me, 0, 0, Moment(0), turn.sent);
         Node {
             me,
             core,
             clock: 0,
             steps: 0,
-            count,
             told: Moment(0),
-            log,
-            asked: Vec::new(alloc),
+            diary: Diary {
+                log,
+                count,
+                asked: Vec::new(alloc),
+                notes,
+            },
             ways,
             ear,
         }
@@ -235,10 +255,8 @@ impl<N: Plan, C: Core + Drop> Node<N, C> {
             core,
             clock,
             steps,
-            count,
             told: _,
-            log,
-            asked,
+            diary,
             ways,
             ear: _,
         } = self;
@@ -247,7 +265,7 @@ impl<N: Plan, C: Core + Drop> Node<N, C> {
         *steps = steps.saturating_add(1);
         let took = Took::Did(event);
         let at = *clock;
-        Ok(go(rt, alloc, core, count, log, asked, ways, me, at, took))
+        Ok(go(rt, alloc, core, diary, ways, me, at, took))
     }
 
     /// Takes the message that has waited longest, and does what it comes to, in one. `None` where no message waits. `Exhausted`
@@ -268,10 +286,8 @@ impl<N: Plan, C: Core + Drop> Node<N, C> {
             core,
             clock,
             steps,
-            count,
             told,
-            log,
-            asked,
+            diary,
             ways,
             ear,
         } = self;
@@ -284,7 +300,7 @@ impl<N: Plan, C: Core + Drop> Node<N, C> {
         *told = sent.moment;
         let at = *clock;
         let took = Took::Heard(sent);
-        let said = go(rt, alloc, core, count, log, asked, ways, me, at, took);
+        let said = go(rt, alloc, core, diary, ways, me, at, took);
         Ok(Some(said))
     }
 
@@ -298,14 +314,12 @@ impl<N: Plan, C: Core + Drop> Node<N, C> {
             core: _,
             clock: _,
             steps: _,
-            count: _,
             told: _,
-            log,
-            asked,
+            diary,
             ways,
             ear: _,
         } = self;
-        put_again(rt, alloc, ways, log, me, asked);
+        put_again(rt, alloc, ways, &diary.log, me, &diary.asked);
     }
 
     /// Nothing more is heard or sent.
@@ -313,24 +327,30 @@ impl<N: Plan, C: Core + Drop> Node<N, C> {
         ensures sound { IsSound C.Does (C.Starts N.setting) (all_ids N.setting) self result.ways.items result.ear }
         ensures me { result.me ≡ self.me }
         ensures core { result.core ≡ self.past.core }
+        ensures notes { Keeps result.notes self.entries self.past.sent }
     {
         let Node {
             me,
             core,
             clock: _,
             steps: _,
-            count: _,
             told: _,
-            log: _,
-            asked: _,
+            diary,
             ways,
             ear,
         } = self;
+        let Diary {
+            log: _,
+            count: _,
+            asked: _,
+            notes,
+        } = diary;
         Parts {
             me,
             core,
             ways,
             ear,
+            notes,
         }
     }
 }

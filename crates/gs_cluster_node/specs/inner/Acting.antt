@@ -10,6 +10,8 @@ use Rattle.gs_cluster_history.specs.declared.took.Took.{Took}
 use Rattle.gs_cluster_history.specs.Histories.{Among, Entry, Listed, Upshot, listed, listing, moment_of, out_of, said_of}
 use Rattle.gs_cluster_history.specs.Logs.{sent_at}
 use Rattle.gs_cluster_node.specs.Nodes.{AllListed, last_clock, leads_of}
+use Rattle.gs_cluster_node.specs.declared.node.Diary.{Diary}
+use Rattle.gs_cluster_notes.specs.Notes.{Keeps}
 
 -- The count is of what was sent, as long as it is below the greatest number.
 abbrev pub Counts : ℕ → List Listed → Type 0
@@ -18,6 +20,12 @@ Counts count sent = count < last_clock → count ≡ length sent
 -- These messages are the node's own, and stand in what it has sent.
 abbrev pub AllOwn : NodeId → List Listed → List Sent → Type 0
 AllOwn me sent xs = (x : Sent) → Among xs x → (x.from ≡ me) × (slice_get sent x.place ≡ Some (listing x))
+
+-- What a node keeps of what it did is of its history.
+pub record Agrees (me : NodeId) (diary : Diary) : Type 0 where
+  pub counts : Counts diary.count diary.log.sent
+  pub own : AllOwn me diary.log.sent diary.asked.items
+  pub keeps : Keeps diary.notes diary.log.entries diary.log.sent
 
 pub record Acts {C : Type 0} (Does : Took → C → Upshot → C → Type 0) (took : Took) (clock : ℕ) (old : C) (entries : List Entry) (sent : List Listed)
     (out : List Message) (moment : Moment) (said : Result (Unit {0}) Refusal) (new : C) (new_entries : List Entry) (new_sent : List Listed) : Type 0 where

@@ -5,8 +5,7 @@ use Rattle.gs_cluster_node.proofs.node.Node.again.Goals as goal
 pub invariant_of-self : goal.invariant_of-self
 invariant_of-self g c =
     let inside = c.self.inside in
-    let k = kept_as inside.me inside.core inside.clock inside.log.sent inside.log.entries in (
+    let k = kept_as inside.me inside.core inside.clock inside.diary.log.sent inside.diary.log.entries in (
       again_sound g.C.Core.Does (g.C.Core.Starts g.N.Plan.setting) (all_ids g.N.Plan.setting) k inside.ways.items c.put_again.new.ways.items inside.ear c.self.invariant.0 c.put_again.ensures,
       c.self.invariant.1,
-      c.self.invariant.2,
     )

@@ -1,8 +1,10 @@
-use Rattle.std.proofs.Common.{◌≡◌, ◌++◌, List, [], refl, sym, ap, ◌∙◌, subst}
+use Rattle.std.proofs.Common.{◌≡◌, ◌++◌, List, [], refl, sym, ap, ◌∙◌, subst, map}
+use Rattle.gs_msg.specs.declared.message.Message.{Message}
 use Rattle.gs_cluster_channel.specs.Settled.{Hearing}
-use Rattle.gs_cluster_history.specs.Histories.{Entry, Listed, Leads}
+use Rattle.gs_cluster_history.specs.Histories.{Entry, Listed, Leads, listed}
 use Rattle.gs_cluster_history.specs.Logs.{first_sent}
 use Rattle.gs_cluster_node.specs.Nodes.{heard_of}
+use Rattle.gs_cluster_notes.specs.Notes.{Keeps}
 use Rattle.gs_cluster_node.specs.inner.Acting.{AreAt}
 use Rattle.gs_cluster_node.proofs.Listing.{are_behind, none_listed, own_none}
 use Rattle.gs_cluster_node.proofs.Stepping.{first_count, past_as}
@@ -34,6 +36,9 @@ invariant_of-result g c =
         heard = ap (λ (e : Hearing). e.taken) c.requires.ear ∙ ap heard_of (sym none);
         whole = c.requires.whole;
       },
-      (λ below. first_count c.args.turn.sent.items c.first-log.result.sent c.len-count.result (c.len-count.ensures ∙ c.args.turn.sent.ok.0) same),
-      own_none c.args.me c.first-log.result.sent _ c.new-2.ensures.items,
+      record {
+        counts = λ below. first_count c.args.turn.sent.items c.first-log.result.sent c.len-count.result (c.len-count.ensures ∙ c.args.turn.sent.ok.0) same;
+        own = own_none c.args.me c.first-log.result.sent _ c.new-2.ensures.items;
+        keeps = subst (λ (es : List Entry). Keeps c.first-notes.result es c.first-log.result.sent) (sym none) (subst (λ (ls : List Listed). Keeps c.first-notes.result [] ls) (sym same) (subst (λ (ms : List Message). Keeps c.first-notes.result [] (map (listed 0 (record { 0 = 0 })) ms)) c.deref.ensures.value c.first-notes.ensures));
+      },
     )

@@ -11,27 +11,26 @@ use Rattle.gs_cluster_node.proofs.node.Node.receive.Goals as goal
 pub invariant_of-self-2 : goal.invariant_of-self-2
 invariant_of-self-2 g c =
     let inside = c.self.inside in
-    let old = kept_as inside.me inside.core inside.clock inside.log.sent inside.log.entries in
+    let old = kept_as inside.me inside.core inside.clock inside.diary.log.sent inside.diary.log.entries in
     let next = c.above.ensures in
     let later : inside.clock < c.above.result = omega arith in
     let may : c.in-Some.sent.clock < c.above.result = omega arith in
     let took = c.take.ensures ∙ ap (λ (o : Option Sent). hears o inside.ear) c.in-Some.is in
-    let stepped = has_stepped g.C.Core.Does old (Heard c.in-Some.sent) c.above.result c.go-said.result c.go-said.new.core c.go-said.new.log.entries c.go-said.new.log.sent c.go-said.ensures.goes later next may in (
-      stays_sound g.C.Core.Does (g.C.Core.Starts g.N.Plan.setting) (all_ids g.N.Plan.setting) old (Heard c.in-Some.sent) c.go-said.result c.go-said.new.core c.above.result c.go-said.new.log.entries c.go-said.new.log.sent
+    let stepped = has_stepped g.C.Core.Does old (Heard c.in-Some.sent) c.above.result c.go-said.result c.go-said.new.core c.go-said.new.diary.log.entries c.go-said.new.diary.log.sent c.go-said.ensures.goes later next may in (
+      stays_sound g.C.Core.Does (g.C.Core.Starts g.N.Plan.setting) (all_ids g.N.Plan.setting) old (Heard c.in-Some.sent) c.go-said.result c.go-said.new.core c.above.result c.go-said.new.diary.log.entries c.go-said.new.diary.log.sent
           inside.ways.items c.go-said.new.ways.items inside.ear c.take.new.self
           c.self.invariant.0 stepped c.go-said.ensures.routes (ap (λ (e : Hearing). e.taken) took) (ap (λ (e : Hearing). e.me) took) (ap (λ (e : Hearing). e.parts) took),
-      c.go-said.ensures.counts,
-      c.go-said.ensures.own,
+      c.go-said.ensures.agrees,
     )
 
 pub returns : goal.returns
 returns g c =
     let inside = c.self.inside in
-    let old = kept_as inside.me inside.core inside.clock inside.log.sent inside.log.entries in
+    let old = kept_as inside.me inside.core inside.clock inside.diary.log.sent inside.diary.log.entries in
     let next = c.above.ensures in
     let later : inside.clock < c.above.result = omega arith in
     let may : c.in-Some.sent.clock < c.above.result = omega arith in
-    let stepped = has_stepped g.C.Core.Does old (Heard c.in-Some.sent) c.above.result c.go-said.result c.go-said.new.core c.go-said.new.log.entries c.go-said.new.log.sent c.go-said.ensures.goes later next may in (
+    let stepped = has_stepped g.C.Core.Does old (Heard c.in-Some.sent) c.above.result c.go-said.result c.go-said.new.core c.go-said.new.diary.log.entries c.go-said.new.diary.log.sent c.go-said.ensures.goes later next may in (
       c.in-Some.sent,
-      subst (λ (o : Kept g.row.C.Denot). Stepped g.C.Core.Does o (Heard c.in-Some.sent) c.go-said.result (kept_as inside.me c.go-said.new.core c.above.result c.go-said.new.log.sent c.go-said.new.log.entries)) c.self.view_is stepped,
+      subst (λ (o : Kept g.row.C.Denot). Stepped g.C.Core.Does o (Heard c.in-Some.sent) c.go-said.result (kept_as inside.me c.go-said.new.core c.above.result c.go-said.new.diary.log.sent c.go-said.new.diary.log.entries)) c.self.view_is stepped,
     )
