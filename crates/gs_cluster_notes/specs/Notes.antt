@@ -1,5 +1,5 @@
 -- What is noted of a node's history.
-use Rattle.std.specs.Prelude.{◌≡◌, ◌++◌, List, [], ◌∷◌, None, Ok, IsTrue, map, refl}
+use Rattle.std.specs.Prelude.{◌≡◌, ◌++◌, List, [], ◌∷◌, None, Ok, IsTrue, map, refl, ⊤}
 use Rattle.gs_msg.specs.Posts.{posted}
 use Rattle.gs_msg.specs.declared.event.Happening.TheVariants as happenings
 use Rattle.gs_msg.specs.declared.message.Message.{Message}
@@ -27,6 +27,15 @@ Keeps notes entries sent = IsTrue notes.is_whole → (notes.events.items ≡ map
 -- of several histories
 abbrev pub dated_all : List (List Entry) → List (List Dated)
 dated_all histories = map (λ es. map dated_of es) histories
+
+abbrev pub posts_all : List (List Listed) → List (List Post)
+posts_all sent = map (λ ls. map post_of ls) sent
+
+-- Each keeps the history in its place, and what was sent there.
+abbrev pub AllKeep : List Notes → List (List Entry) → List (List Listed) → Type 0
+AllKeep [] [] [] = ⊤
+AllKeep (n ∷ notes) (es ∷ histories) (ls ∷ sent) = Keeps n es ls × AllKeep notes histories sent
+AllKeep notes histories sent = ⊥
 
 -- Worked: the master hears a message at clock 9, and sends one on it; it ticks at clock 10, and sends nothing.
 module _ (heard : Sent) (reply : Message) where

@@ -3,6 +3,7 @@
 
 mod merging;
 mod notes;
+mod telling;
 
-pub use merging::merged;
 pub use notes::{Dated, Notes};
+pub use telling::{Told, told_by};

@@ -59,7 +59,7 @@ fn next_of(lists: &mut Vec<VecDeque<Dated>>) -> Option<Event>
 }
 
 /// The events of all histories by (clock, history), where each list is a history of its events with their clocks.
-pub fn merged(alloc: Global, lists: Vec<VecDeque<Dated>>) -> Result<Vec<Event>, AllocError>
+pub(crate) fn merged(alloc: Global, lists: Vec<VecDeque<Dated>>) -> Result<Vec<Event>, AllocError>
     ensures { IfOk result (λ events. (histories : List (List Entry)) → map deque_items lists.items ≡ dated_all histories → events.items ≡ map (λ (p : Place). event_of p.entry.took) (merged histories)) }
 {
     let mut lists = lists;
