@@ -9,8 +9,10 @@ use Rattle.gs_cluster_channel.specs.Settled.{AllGoTo, Hearing, PutBy, Putting}
 use Rattle.gs_cluster_history.specs.declared.took.Took.{Took}
 use Rattle.gs_cluster_history.specs.Histories.{Among, Kept, Upshot}
 use Rattle.gs_cluster_node.specs.Nodes.{IsSound, leads_of}
+use Rattle.gs_cluster_notes.specs.Notes.{Keeps}
+use Rattle.gs_cluster_notes.specs.declared.notes.Notes.{Notes}
 use Rattle.gs_cluster_threads.specs.declared.gathering.Member.{Member}
-use Rattle.gs_cluster_threads.specs.Gathered.{member_of}
+use Rattle.gs_cluster_threads.specs.Gathered.{AllTell, member_of}
 use Rattle.gs_cluster_threads.specs.inner.Settling.{AreAll, AreApart, IsPutBy, Splits}
 
 in_left : {X : Type 0} (xs ys : List X) (x : X) → Among xs x → Among (xs ++ ys) x
@@ -33,6 +35,13 @@ next_of all done rest x e = append_assoc done (x ∷ []) rest ∙ e
 
 -- ---- nodes are taken apart
 
+-- the notes of one node more
+tell_one : {C : Type 0} (ks : List (Kept C)) (notes : List Notes) (k : Kept C) (n : Notes) → AllTell ks notes → Keeps n k.entries k.past.sent → AllTell (ks ++ k ∷ []) (notes ++ n ∷ [])
+tell_one [] [] k n a s = (s, tt)
+tell_one [] (y ∷ notes) k n a s = absurd a
+tell_one (x ∷ ks) [] k n a s = absurd a
+tell_one (x ∷ ks) (y ∷ notes) k n a s = (a.0, tell_one ks notes k n a.1 s)
+
 module _ {C : Type 0} (Does : Took → C → Upshot → C → Type 0) (Starts : NodeId → C → List Message → Type 0) (all : List NodeId) where
   apart_one : (ks : List (Kept C)) (rows : List (List Putting)) (ears : List Hearing) (k : Kept C) (r : List Putting) (e : Hearing)
       → AreApart Does Starts all ks rows ears → IsSound Does Starts all k r e → AreApart Does Starts all (ks ++ k ∷ []) (rows ++ r ∷ []) (ears ++ e ∷ [])
@@ -44,39 +53,45 @@ module _ {C : Type 0} (Does : Took → C → Upshot → C → Type 0) (Starts : 
   apart_one (x ∷ ks) (y ∷ rows) (z ∷ ears) k r e a s = (a.0, apart_one ks rows ears k r e a.1 s)
 
   -- The rest of the nodes are whole.
-  pub record TakenApart (ks rest : List (Kept C)) (members : List (Member C)) (rows : List (List Putting)) (ears : List Hearing) : Type 0 where
+  pub record TakenApart (ks rest : List (Kept C)) (members : List (Member C)) (rows : List (List Putting)) (ears : List Hearing) (notes : List Notes) : Type 0 where
     pub done : List (Kept C)
     pub first : done ++ rest ≡ ks
     pub apart : AreApart Does Starts all done rows ears
     pub are : members ≡ map member_of done
+    pub told : AllTell done notes
 
-  pub none_apart : (ks rest : List (Kept C)) (members : List (Member C)) (rows : List (List Putting)) (ears : List Hearing) → rest ≡ ks → members ≡ [] → rows ≡ [] → ears ≡ [] → TakenApart ks rest members rows ears
-  none_apart ks rest members rows ears r m a e = record {
+  pub none_apart : (ks rest : List (Kept C)) (members : List (Member C)) (rows : List (List Putting)) (ears : List Hearing) (notes : List Notes) → rest ≡ ks → members ≡ [] → rows ≡ [] → ears ≡ [] → notes ≡ []
+      → TakenApart ks rest members rows ears notes
+  none_apart ks rest members rows ears notes r m a e n = record {
     done = [];
     first = r;
     apart = subst (λ (l : List (List Putting)). AreApart Does Starts all [] l ears) (sym a) (subst (λ (l : List Hearing). AreApart Does Starts all [] [] l) (sym e) tt);
     are = m;
+    told = subst (λ (l : List Notes). AllTell {C = C} [] l) (sym n) tt;
   }
 
-  pub one_apart : (ks rest : List (Kept C)) (members new : List (Member C)) (rows more : List (List Putting)) (ears others : List Hearing) (k : Kept C) (m : Member C) (r s : List Putting) (e : Hearing)
-      → TakenApart ks (k ∷ rest) members rows ears → IsSound Does Starts all k r e → m.me ≡ k.me → m.core ≡ k.past.core → s ≡ r
-      → new ≡ members ++ m ∷ [] → more ≡ rows ++ s ∷ [] → others ≡ ears ++ e ∷ [] → TakenApart ks rest new more others
-  one_apart ks rest members new rows more ears others k m r s e t sound me core row n o p = record {
+  pub one_apart : (ks rest : List (Kept C)) (members new : List (Member C)) (rows more : List (List Putting)) (ears others : List Hearing) (notes noted : List Notes) (k : Kept C) (m : Member C) (r s : List Putting) (e : Hearing) (own : Notes)
+      → TakenApart ks (k ∷ rest) members rows ears notes → IsSound Does Starts all k r e → m.me ≡ k.me → m.core ≡ k.past.core → s ≡ r → Keeps own k.entries k.past.sent
+      → new ≡ members ++ m ∷ [] → more ≡ rows ++ s ∷ [] → others ≡ ears ++ e ∷ [] → noted ≡ notes ++ own ∷ [] → TakenApart ks rest new more others noted
+  one_apart ks rest members new rows more ears others notes noted k m r s e own t sound me core row keeps n o p q = record {
     done = t.done ++ k ∷ [];
     first = next_of ks t.done rest k t.first;
     apart = subst (λ (l : List (List Putting)). AreApart Does Starts all (t.done ++ k ∷ []) l others) (sym (o ∙ ap (λ (x : List Putting). rows ++ x ∷ []) row))
         (subst (λ (l : List Hearing). AreApart Does Starts all (t.done ++ k ∷ []) (rows ++ r ∷ []) l) (sym p) (apart_one t.done rows ears k r e t.apart sound));
     are = n ∙ ap (λ (l : List (Member C)). l ++ m ∷ []) t.are ∙ ap (λ (z : Member C). map member_of t.done ++ z ∷ []) is ∙ sym (map_push member_of t.done k);
+    told = subst (AllTell (t.done ++ k ∷ [])) (sym q) (tell_one t.done notes k own t.told keeps);
   }
     where
       is : m ≡ member_of k
       is = ap (λ (x : NodeId). record { me = x; core = m.core }) me ∙ ap (λ (x : C). record { me = k.me; core = x }) core
 
-  pub all_apart : (ks : List (Kept C)) (members : List (Member C)) (rows : List (List Putting)) (ears : List Hearing) → TakenApart ks [] members rows ears → AreApart Does Starts all ks rows ears × (members ≡ map member_of ks)
-  all_apart ks members rows ears t =
+  pub all_apart : (ks : List (Kept C)) (members : List (Member C)) (rows : List (List Putting)) (ears : List Hearing) (notes : List Notes) → TakenApart ks [] members rows ears notes
+      → AreApart Does Starts all ks rows ears × (members ≡ map member_of ks) × AllTell ks notes
+  all_apart ks members rows ears notes t =
       let e : t.done ≡ ks = sym (append-nil t.done) ∙ t.first in (
         subst (λ (l : List (Kept C)). AreApart Does Starts all l rows ears) e t.apart,
         t.are ∙ ap (λ (l : List (Kept C)). map member_of l) e,
+        subst (λ (l : List (Kept C)). AllTell l notes) e t.told,
       )
 
 -- ---- each row loses its last way

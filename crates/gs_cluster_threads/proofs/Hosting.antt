@@ -1,11 +1,11 @@
 -- What comes back of threads.
-use Rattle.std.proofs.Common.{◌≡◌, ℕ, zero, suc, ◌+◌, ◌≤◌, List, [], ◌∷◌, ◌++◌, length, ap, ◌∙◌, sym, subst, arith}
-use Rattle.std.specs.Prelude.{slice_get}
+use Rattle.std.proofs.Common.{◌≡◌, ℕ, zero, suc, ◌+◌, ◌≤◌, List, [], ◌∷◌, ◌++◌, length, sym, subst, arith}
 use Rattle.std.proofs.lemmas.Option.{none-some}
 use Rattle.gs_msg.specs.declared.message.Message.{Message}
 use Rattle.gs_msg.specs.declared.node.NodeId.{NodeId}
 use Rattle.gs_cluster_history.specs.declared.took.Took.{Took}
 use Rattle.gs_cluster_history.specs.Histories.{Among, Kept, Upshot}
+use Rattle.gs_cluster_notes.specs.declared.notes.Notes.{Notes}
 use Rattle.gs_cluster_threads.specs.Gathered.{IsWhole}
 use Rattle.gs_cluster_threads.specs.declared.gathering.Member.{Member}
 
@@ -37,6 +37,6 @@ one_ended {C} callers threads nodes new k many more left less place room e put l
 }
 
 -- what is whole with all nodes is so with the callers' alone
-pub whole_for : {C : Type 0} (Does : Took → C → Upshot → C → Type 0) (Starts : NodeId → C → List Message → Type 0) (all : List NodeId) (callers nodes : List (Kept C)) (members : List (Member C))
-    → ((k : Kept C) → Among callers k → Among nodes k) → IsWhole Does Starts all nodes members → IsWhole Does Starts all callers members
-whole_for Does Starts all callers nodes members among w = record { nodes = w.nodes; among = λ k a. w.among k (among k a); numbers = w.numbers; kept = w.kept; match = w.match; are = w.are }
+pub whole_for : {C : Type 0} (Does : Took → C → Upshot → C → Type 0) (Starts : NodeId → C → List Message → Type 0) (all : List NodeId) (callers nodes : List (Kept C)) (members : List (Member C)) (notes : List Notes)
+    → ((k : Kept C) → Among callers k → Among nodes k) → IsWhole Does Starts all nodes members notes → IsWhole Does Starts all callers members notes
+whole_for Does Starts all callers nodes members notes among w = record { nodes = w.nodes; among = λ k a. w.among k (among k a); numbers = w.numbers; kept = w.kept; match = w.match; are = w.are; told = w.told }

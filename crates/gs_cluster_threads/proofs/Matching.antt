@@ -11,8 +11,9 @@ use Rattle.gs_cluster_history.specs.declared.took.Took.TheVariants.{Heard, Did}
 use Rattle.gs_cluster_history.specs.Histories.{Among, Entry, Kept, Upshot, line_of}
 use Rattle.gs_cluster_history.specs.Merging.{Matches, Stands, lines_of}
 use Rattle.gs_cluster_node.specs.Nodes.{IsSound, heard_in, heard_of}
+use Rattle.gs_cluster_notes.specs.declared.notes.Notes.{Notes}
 use Rattle.gs_cluster_threads.specs.declared.gathering.Member.{Member}
-use Rattle.gs_cluster_threads.specs.Gathered.{IsWhole, member_of}
+use Rattle.gs_cluster_threads.specs.Gathered.{AllTell, IsWhole, member_of}
 use Rattle.gs_cluster_threads.specs.inner.Placed.{InOrder}
 use Rattle.gs_cluster_threads.specs.inner.Settling.{AreAll, AreApart, IsPutBy}
 
@@ -107,13 +108,15 @@ module _ {C : Type 0} (Does : Took → C → Upshot → C → Type 0) (Starts : 
     they_match : Matches ks
     they_match k m e i = each_stands k e e.took m i refl
 
-  pub is_whole : (given ks : List (Kept C)) (members : List (Member C)) (rows : List (List Putting)) (ears : List Hearing)
-      → InOrder all given ks → AreApart Does Starts all ks rows ears → members ≡ map member_of ks → ((e : Hearing) → Among ears e → IsPutBy rows e) → IsWhole Does Starts all given members
-  is_whole given ks members rows ears order a are put = record {
+  pub is_whole : (given ks : List (Kept C)) (members : List (Member C)) (notes : List Notes) (rows : List (List Putting)) (ears : List Hearing)
+      → InOrder all given ks → AreApart Does Starts all ks rows ears → members ≡ map member_of ks → AllTell ks notes → ((e : Hearing) → Among ears e → IsPutBy rows e)
+      → IsWhole Does Starts all given members notes
+  is_whole given ks members notes rows ears order a are told put = record {
     nodes = ks;
     among = order.among;
     numbers = order.numbers;
     kept = λ k m. (of_node ks rows ears k a m).3.kept;
     match = they_match ks rows ears a put;
     are = are;
+    told = told;
   }

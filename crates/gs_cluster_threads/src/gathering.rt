@@ -7,6 +7,7 @@ use crate::placing::placed;
 use crate::settling::{Apart, settle_all, take_apart};
 use gs_cluster_history::Core;
 use gs_cluster_node::{Node, Plan};
+use gs_cluster_notes::Notes;
 use gs_msg::NodeId;
 use std::alloc::{AllocError, Global};
 
@@ -17,20 +18,28 @@ pub struct Member<C: Core + Drop> {
     pub core: C,
 }
 
-/// What all nodes have come to, in the order of their numbers.
+/// What all nodes have come to, in the order of their numbers, and what each has noted.
+#[derive(Drop)]
+pub struct Gathered<C: Core + Drop> {
+    pub members: Vec<Member<C>>,
+    pub notes: Vec<Notes>,
+}
+
+/// What these nodes have come to.
 pub(crate) fn gather<N: Plan, C: Core + Drop>(
     alloc: Global,
     nodes: Vec<Node<N, C>>,
-) -> Result<Vec<Member<C>>, AllocError>
+) -> Result<Gathered<C>, AllocError>
     requires { vec_len nodes ≡ length (all_ids N.setting) }
-    ensures { IfOk result (λ v. IsWhole C.Does (C.Starts N.setting) (all_ids N.setting) nodes.items v.items) }
+    ensures { IfOk result (λ g. IsWhole C.Does (C.Starts N.setting) (all_ids N.setting) nodes.items g.members.items g.notes.items) }
 {
     let nodes = placed(alloc, nodes)?;
     let Apart {
         members,
         rows,
         ears,
+        notes,
     } = take_apart(alloc, nodes)?;
     settle_all(alloc, ears, rows)?;
-    Ok(members)
+    Ok(Gathered { members, notes })
 }

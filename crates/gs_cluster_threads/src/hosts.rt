@@ -2,7 +2,7 @@ ghost use Rattle.std.specs.Prelude.{◌≡◌, ◌+◌, ◌≤◌, IfOk, OnOk, l
 ghost use Rattle.gs_cluster_history.specs.Setting.{all_ids};
 ghost use Rattle.gs_cluster_threads.specs.Gathered.{Finished};
 
-use crate::gathering::{Member, gather};
+use crate::gathering::{Gathered, gather};
 use crate::work::host;
 use gs_base::Refusal;
 use gs_cluster_history::Core;
@@ -114,12 +114,12 @@ impl<N: Plan + Send + Sync + 'static, C: Core + Drop + Send + 'static> Hosts<N, 
         }
     }
 
-    /// Ends the threads, and gives what all nodes have come to, those of the callers among them. `Stray` where a caller is missing.
+    /// Ends the threads, and gives what all nodes have come to, those of the callers among them, and what each has noted. `Stray` where a caller is missing.
     pub fn finish<R: Threads + Wait>(
         self,
         rt: &R,
         callers: Vec<Node<N, C>>,
-    ) -> Result<Vec<Member<C>>, Refusal>
+    ) -> Result<Gathered<C>, Refusal>
         ensures { Finished C.Does (C.Starts N.setting) (all_ids N.setting) (vec_len self.handles) callers.items result }
     {
         let Hosts {

@@ -19,12 +19,14 @@ fn two_nodes<N: Plan, C: Core + Drop>(first: Node<N, C>, second: Node<N, C>)
         core: _,
         ways: _,
         ear,
+        notes: _,
     } = first.into_parts();
     let Parts {
         me: _,
         core: _,
         ways: _,
         ear: other,
+        notes: _,
     } = second.into_parts();
     two_ears(ear, other);
 }

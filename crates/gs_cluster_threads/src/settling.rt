@@ -3,7 +3,7 @@ ghost use Rattle.std.specs.Prelude.{◌≡◌, ◌≢◌, IfOk, OnOk, List, [], 
 ghost use Rattle.gs_cluster_channel.specs.Settled.{Hearing, Putting};
 ghost use Rattle.gs_cluster_history.specs.Histories.{Among};
 ghost use Rattle.gs_cluster_history.specs.Setting.{all_ids};
-ghost use Rattle.gs_cluster_threads.specs.Gathered.{member_of};
+ghost use Rattle.gs_cluster_threads.specs.Gathered.{AllTell, member_of};
 ghost use Rattle.gs_cluster_threads.specs.inner.Settling.{AreAll, AreApart, IsPutBy, Splits};
 
 use crate::gathering::Member;
@@ -11,6 +11,7 @@ use crate::wiring::Row;
 use gs_cluster_channel::{Ear, Way, settle};
 use gs_cluster_history::Core;
 use gs_cluster_node::{Node, Parts, Plan};
+use gs_cluster_notes::Notes;
 use std::alloc::{AllocError, Global};
 
 /// Nodes that are taken apart, in their order.
@@ -19,6 +20,7 @@ pub(crate) struct Apart<N: Plan, C: Core + Drop> {
     pub(crate) members: Vec<Member<C>>,
     pub(crate) rows: Vec<Row<N>>,
     pub(crate) ears: Vec<Ear<N>>,
+    pub(crate) notes: Vec<Notes>,
 }
 
 pub(crate) fn take_apart<N: Plan, C: Core + Drop>(
@@ -27,25 +29,30 @@ pub(crate) fn take_apart<N: Plan, C: Core + Drop>(
 ) -> Result<Apart<N, C>, AllocError>
     ensures apart { IfOk result (λ a. AreApart C.Does (C.Starts N.setting) (all_ids N.setting) nodes.items a.rows.items a.ears.items) }
     ensures members { IfOk result (λ a. a.members.items ≡ map member_of nodes.items) }
+    ensures notes { IfOk result (λ a. AllTell nodes.items a.notes.items) }
 {
     let mut members = Vec::new(alloc);
     let mut rows = Vec::new(alloc);
     let mut ears = Vec::new(alloc);
+    let mut all_notes = Vec::new(alloc);
     for node in nodes {
         let Parts {
             me,
             core,
             ways,
             ear,
+            notes,
         } = node.into_parts();
         members.push(Member { me, core })?;
         rows.push(Row::new(ways))?;
         ears.push(ear)?;
+        all_notes.push(notes)?;
     }
     Ok(Apart {
         members,
         rows,
         ears,
+        notes: all_notes,
     })
 }
 

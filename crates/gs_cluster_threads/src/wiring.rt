@@ -133,6 +133,7 @@ fn rows_of<N: Plan, C: Core + Drop>(
 fn nodes_of<N: Plan, C: Core + Drop, R: Wait>(
     rt: &R,
     alloc: Global,
+    are_noted: bool,
     berths: Vec<Berth<N, C>>,
     rows: Vec<Row<N>>,
 ) -> Result<Vec<Node<N, C>>, AllocError>
@@ -149,16 +150,19 @@ fn nodes_of<N: Plan, C: Core + Drop, R: Wait>(
         };
         let Berth { ear, core, turn } = berth;
         let me = ear.me();
-        let node = Node::new(rt, alloc, me, core, turn, row.into_ways(), ear);
+        let ways = row.into_ways();
+        let node = Node::new(rt, alloc, are_noted, me, core, turn, ways, ear);
         nodes.push(node)?;
     }
     Ok(nodes)
 }
 
-/// All nodes of a cluster, in the order of their numbers. None of them has taken anything; what they send at first is on its way.
+/// All nodes of a cluster, in the order of their numbers. None of them has taken anything; what they send at first is on its way. They
+/// keep notes where that is said.
 pub fn wire<N: Plan, C: Core + Drop, R: Wait>(
     rt: &R,
     alloc: Global,
+    are_noted: bool,
     seeds: Vec<Seed<C>>,
 ) -> Result<Vec<Node<N, C>>, AllocError>
     requires all { numbers_of seeds.items ≡ all_ids N.setting }
@@ -168,5 +172,5 @@ pub fn wire<N: Plan, C: Core + Drop, R: Wait>(
 {
     let berths = berths_of(alloc, seeds)?;
     let (berths, rows) = rows_of(alloc, berths)?;
-    nodes_of(rt, alloc, berths, rows)
+    nodes_of(rt, alloc, are_noted, berths, rows)
 }

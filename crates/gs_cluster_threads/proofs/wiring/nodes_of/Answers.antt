@@ -32,13 +32,13 @@ new-node-requires-clause-mine g c =
 
 pub new-node-requires-clause-leads : goal.new-node-requires-clause-leads
 new-node-requires-clause-leads g c =
-    ap leads_of c.into_ways.ensures
+    ap leads_of c.into_ways-ways.ensures
     ∙ (row_taken (g.C.Core.Starts g.N.Plan.setting) (all_ids g.N.Plan.setting) c.args.berths.items c.loop-berth.berth-iterator.rest.items c.loop-berth.rows.items c.pop.new.self.items c.in-Some-pop.row c.loop-berth.nodes.items
     c.loop-berth.invariant c.in-Some-pop.ensures.items).0
 
 pub new-node-requires-clause-silent : goal.new-node-requires-clause-silent
 new-node-requires-clause-silent g c =
-    subst HaveSentNothing (sym c.into_ways.ensures)
+    subst HaveSentNothing (sym c.into_ways-ways.ensures)
     (row_taken (g.C.Core.Starts g.N.Plan.setting) (all_ids g.N.Plan.setting) c.args.berths.items c.loop-berth.berth-iterator.rest.items c.loop-berth.rows.items c.pop.new.self.items c.in-Some-pop.row c.loop-berth.nodes.items
     c.loop-berth.invariant c.in-Some-pop.ensures.items).1
 

@@ -1,4 +1,4 @@
-use Rattle.std.proofs.Common.{◌≡◌, ◌-◌, ℕ, ap, arith, map, sym, ◌∙◌}
+use Rattle.std.proofs.Common.{◌≡◌, ◌-◌, ℕ, ap, arith, map, ◌∙◌}
 use Rattle.std.specs.Prelude.{vec_len}
 use Rattle.gs_cluster_threads.specs.inner.Berths.{with_parts}
 use Rattle.gs_cluster_threads.proofs.Joining.{cut_parts, none_cut, one_cut}

@@ -18,4 +18,4 @@ loop-handle-preserved g c =
 
 pub returns : goal.returns
 returns g c =
-    whole_for g.C.Core.Does (g.C.Core.Starts g.N.Plan.setting) (all_ids g.N.Plan.setting) c.args.callers.items c.loop-handle.nodes.items _ c.loop-handle.invariant.among c.in_ok-gather.ensures
+    whole_for g.C.Core.Does (g.C.Core.Starts g.N.Plan.setting) (all_ids g.N.Plan.setting) c.args.callers.items c.loop-handle.nodes.items _ _ c.loop-handle.invariant.among c.in_ok-gather.ensures
