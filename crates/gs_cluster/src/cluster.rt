@@ -33,23 +33,23 @@ where
     pub ghost many: { vec_len hosts.handles + N.setting.clients ≡ length (all_ids N.setting) },
 }
 
-/// So many first nodes, and those behind them.
-fn parted<N: Plan, D: Disk + Drop>(
+/// So many first items, and those behind them.
+fn parted<T: Drop>(
     alloc: Global,
     many: usize,
-    nodes: Vec<Node<N, Role<D>>>,
-) -> Result<(Vec<Node<N, Role<D>>>, Vec<Node<N, Role<D>>>), AllocError>
-    requires { many ≤ vec_len nodes }
-    ensures all { IfOk result (λ p. p.0.items ++ p.1.items ≡ nodes.items) }
+    items: Vec<T>,
+) -> Result<(Vec<T>, Vec<T>), AllocError>
+    requires { many ≤ vec_len items }
+    ensures all { IfOk result (λ p. p.0.items ++ p.1.items ≡ items.items) }
     ensures many { IfOk result (λ p. vec_len p.0 ≡ many) }
 {
     let mut first = Vec::new(alloc);
     let mut rest = Vec::new(alloc);
-    for node in nodes {
+    for item in items {
         if first.len() < many {
-            first.push(node)?;
+            first.push(item)?;
         } else {
-            rest.push(node)?;
+            rest.push(item)?;
         }
     }
     Ok((first, rest))
