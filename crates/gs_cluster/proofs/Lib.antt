@@ -7,3 +7,4 @@ pub mod Ending
 pub mod Seeding
 pub mod Refused
 pub mod Hearing
+pub mod Moving
