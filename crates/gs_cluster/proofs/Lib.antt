@@ -8,3 +8,4 @@ pub mod Seeding
 pub mod Refused
 pub mod Hearing
 pub mod Moving
+pub mod Ended

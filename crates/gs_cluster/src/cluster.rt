@@ -10,6 +10,7 @@ use crate::nodes::nodes_from;
 use crate::opening::Opened;
 use gs_base::{Config, Moment, Refusal};
 use gs_cluster_core::Role;
+use gs_cluster_core::promises::matching_histories_are_a_run_of_the_store;
 use gs_cluster_history::Core;
 use gs_cluster_node::{Gate, Node, Plan};
 use gs_cluster_threads::{Hosts, wire};
@@ -143,6 +144,7 @@ impl<N: Plan + Send + Sync + 'static, D: Disk + Drop + Send + 'static> Cluster<N
         } = self;
         let of_callers = nodes_of_callers(alloc, callers)?;
         let members = hosts.finish(rt, of_callers)?;
+        matching_histories_are_a_run_of_the_store::<D>();
         Ok(nodes_from(alloc, config, members)?)
     }
 }
