@@ -1,0 +1,1 @@
+-- Worked: replies with which calls come to 28 or 29, and why.
