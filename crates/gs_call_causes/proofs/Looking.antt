@@ -113,20 +113,6 @@ found path index exchanges l h = elim h [ inl goes ↦ by_asked goes | inr lacks
         let asked : Request = requests.Call (calls.FindForReading path index) in (asked, reply, by_reply reply says.0, is ∙ ap (λ xs. (asked, reply) ∷ xs) says.1)
 
 module _ (e : Refusal) (shut : (e ≡ refusals.NoReplica) ⊎ (e ≡ refusals.Unsure)) where
-  pub chunks_has : (path : Path) → Holds e shut (chunks_call path)
-  chunks_has path =
-      both_has e shut (Grow (look (calls.Status path) status_in)) (λ status. both (Say (chunks_in status)) (λ chunks. Say (count_in chunks)))
-      (grown e shut (look (calls.Status path) status_in) (look_has e shut (calls.Status path) status_in refl reads_status))
-      (λ status. both_has e shut (Say (chunks_in status)) (λ chunks. Say (count_in chunks)) (said e shut (chunks_in status) (chunks_clear status)) (λ chunks. said e shut (count_in chunks) (count_clear chunks)))
-
-  pub known_has : (path : Path) (opened : Option ℕ) → Holds e shut (known_call path opened)
-  known_has path (Some chunks) = said e shut (Ok chunks) (ok_clear chunks)
-  known_has path None = chunks_has path
-
-  pub find_has : (path : Path) (index : ℕ) → Holds e shut (find_call path index)
-  find_has path index =
-      grown e shut (look (calls.FindForReading path index) (located_in index)) (look_has e shut (calls.FindForReading path index) (located_in index) refl (reads_located index))
-
   -- ---- a location, and the round of its members
 
   -- a round behind the location that it is of
@@ -162,20 +148,31 @@ module _ (e : Refusal) (shut : (e ≡ refusals.NoReplica) ⊎ (e ≡ refusals.Un
           subst (λ xs. Rounds l what l.view.members refusals.NoReplica e xs) (sym whole)
           (rounds l what l.view.members refusals.NoReplica e first (subst (λ g. Says (members_call l what l.view.members refusals.NoReplica) first (Err g)) (sym (err_is rest.0)) says))
 
+module _ {e : Refusal} {shut : (e ≡ refusals.NoReplica) ⊎ (e ≡ refusals.Unsure)} where
+  pub chunks_has : (path : Path) → Holds e shut (chunks_call path)
+  chunks_has path =
+      both_has (grown (look_has (calls.Status path) status_in refl reads_status)) (λ status.
+      both_has (said (chunks_clear status)) (λ chunks. said (count_clear chunks)))
+
+  pub known_has : (path : Path) (opened : Option ℕ) → Holds e shut (known_call path opened)
+  known_has path (Some chunks) = said (ok_clear chunks)
+  known_has path None = chunks_has path
+
+  find_has : (path : Path) (index : ℕ) → Holds e shut (find_call path index)
+  find_has path index = grown (look_has (calls.FindForReading path index) (located_in index) refl (reads_located index))
+
   pub anew_has : (path : Path) (index : ℕ) (what : Asked) → Holds e shut (anew_call path index what)
-  anew_has path index what = upon_has e shut (find_call path index) (onward (λ l. round_call l what)) each
+  anew_has path index what = upon_has (find_call path index) (onward (λ l. round_call l what)) each
     where
       each : (r : Result Located Refusal) (first second whole : Exchanges) → whole ≡ first ++ second → Says (find_call path index) first r
           → Says (onward {A = Located} {B = Given × Located} (λ l. round_call l what) r) second (Err e) → Caused e whole
       each (Ok l) first second whole is says rest =
           let s = found path index first l says in
-          round_caused path l what s.0 s.1 second whole s.2 (is ∙ ap (λ xs. xs ++ second) s.3) (round_is l what second rest)
+          round_caused e shut path l what s.0 s.1 second whole s.2 (is ∙ ap (λ xs. xs ++ second) s.3) (round_is e shut l what second rest)
       each (Err f) first second whole is says rest =
           the_whole e shut first second whole is rest.1 ((find_has path index).tells first (subst (λ g. Says (find_call path index) first (Err g)) (sym (err_is rest.0)) says))
 
   pub fetch_has : (path : Path) (known : Option Located) (index : ℕ) (what : Asked) → Holds e shut (fetch_call path known index what)
   fetch_has path None index what = anew_has path index what
   fetch_has path (Some l) index what =
-      chosen_has e shut (l.index == index) (upon (round_call l what) (otherwise (λ refusal. anew_call path index what))) (anew_call path index what)
-      (otherwise_has e shut (round_call l what) (λ refusal. anew_call path index what) (λ refusal. anew_has path index what))
-      (anew_has path index what)
+      chosen_has (l.index == index) (otherwise_has (round_call l what) (λ refusal. anew_has path index what)) (anew_has path index what)

@@ -126,39 +126,40 @@ module _ (e : Refusal) (shut : (e ≡ refusals.NoReplica) ⊎ (e ≡ refusals.Un
   why_unsure : (asked : Request) (reply : Reply) → e ≡ refusals.Unsure → WhyUnsure asked reply [] → Why e asked reply []
   why_unsure asked reply is why = subst (λ g. Why g asked reply []) (sym is) why
 
-  -- ---- one request
-
-  pub look_has : {A : Type 0} (call : Called) (says : Answer → Result A Refusal) → only_looks (requests.Call call) ≡ true → Reads says → Holds e shut (look call says)
-  look_has {A} call says looks reads = one_has e shut (requests.Call call) (λ reply. and_then says (looked reply)) why
-    where
-      why : (reply : Reply) → Err e ≡ and_then says (looked reply) → Why e (requests.Call call) reply []
-      why (replies.Answer answer) is = not_other e shut ((reads.clear answer).other e is)
-      why (replies.Outcome outcome) is = clash e shut refusals.Stray stray_other is
-      why (replies.Given given) is = clash e shut refusals.Stray stray_other is
-      why (replies.Refused refusal) is = refused_so (requests.Call call) refusal [] (err_is is) refl
-      why replies.Lost is = why_replica (requests.Call call) replies.Lost (err_is is) (WhyNoReplica.Unanswered looks refl refl)
-
   refused_change : (asked : Request) → may_change asked ≡ true → IsLast asked [] → (f : Refusal) → Unsettled f e → Why e asked (replies.Refused f) []
   refused_change asked may last f (Stays is) = refused_so asked f [] is last
   refused_change asked may last f (NoMemory memory is) = why_unsure asked (replies.Refused f) is (WhyUnsure.NoMemory may (ap (λ g. replies.Refused g) memory) refl)
   refused_change asked may last f (NoDisk disk is) = why_unsure asked (replies.Refused f) is (WhyUnsure.NoDisk may (ap (λ g. replies.Refused g) disk) refl)
 
+module _ {e : Refusal} {shut : (e ≡ refusals.NoReplica) ⊎ (e ≡ refusals.Unsure)} where
+  -- ---- one request
+
+  pub look_has : {A : Type 0} (call : Called) (says : Answer → Result A Refusal) → only_looks (requests.Call call) ≡ true → Reads says → Holds e shut (look call says)
+  look_has {A} call says looks reads = one_has (requests.Call call) (λ reply. and_then says (looked reply)) why
+    where
+      why : (reply : Reply) → Err e ≡ and_then says (looked reply) → Why e (requests.Call call) reply []
+      why (replies.Answer answer) is = not_other e shut ((reads.clear answer).other e is)
+      why (replies.Outcome outcome) is = clash e shut refusals.Stray stray_other is
+      why (replies.Given given) is = clash e shut refusals.Stray stray_other is
+      why (replies.Refused refusal) is = refused_so e shut (requests.Call call) refusal [] (err_is is) refl
+      why replies.Lost is = why_replica e shut (requests.Call call) replies.Lost (err_is is) (WhyNoReplica.Unanswered looks refl refl)
+
   pub change_has : {A : Type 0} (call : Called) (says : Answer → Result A Refusal) → may_change (requests.Call call) ≡ true → Reads says → Holds e shut (change call says)
-  change_has {A} call says may reads = one_has e shut (requests.Call call) (λ reply. and_then says (changed reply)) why
+  change_has {A} call says may reads = one_has (requests.Call call) (λ reply. and_then says (changed reply)) why
     where
       why : (reply : Reply) → Err e ≡ and_then says (changed reply) → Why e (requests.Call call) reply []
       why (replies.Answer answer) is = not_other e shut ((reads.clear answer).other e is)
       why (replies.Outcome outcome) is = clash e shut refusals.Stray stray_other is
       why (replies.Given given) is = clash e shut refusals.Stray stray_other is
-      why (replies.Refused refusal) is = refused_change (requests.Call call) may refl refusal (unsettled refusal e (err_is is))
-      why replies.Lost is = why_unsure (requests.Call call) replies.Lost (err_is is) (WhyUnsure.Unanswered may refl refl)
+      why (replies.Refused refusal) is = refused_change e shut (requests.Call call) may refl refusal (unsettled refusal e (err_is is))
+      why replies.Lost is = why_unsure e shut (requests.Call call) replies.Lost (err_is is) (WhyUnsure.Unanswered may refl refl)
 
   pub edit_has : (asked : Request) → may_change asked ≡ true → IsLast asked [] → Holds e shut (ask asked edited)
-  edit_has asked may last = one_has e shut asked edited why
+  edit_has asked may last = one_has asked edited why
     where
       why : (reply : Reply) → Err e ≡ edited reply → Why e asked reply []
       why (replies.Answer answer) is = clash e shut refusals.Stray stray_other is
       why (replies.Outcome outcome) is = never is
       why (replies.Given given) is = clash e shut refusals.Stray stray_other is
-      why (replies.Refused refusal) is = refused_change asked may last refusal (unsettled refusal e (err_is is))
-      why replies.Lost is = why_unsure asked replies.Lost (err_is is) (WhyUnsure.Unanswered may refl refl)
+      why (replies.Refused refusal) is = refused_change e shut asked may last refusal (unsettled refusal e (err_is is))
+      why replies.Lost is = why_unsure e shut asked replies.Lost (err_is is) (WhyUnsure.Unanswered may refl refl)
