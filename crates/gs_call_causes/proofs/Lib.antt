@@ -1,3 +1,5 @@
 pub mod Ways
 pub mod Replies
 mod Looking
+mod Reading
+mod Writing

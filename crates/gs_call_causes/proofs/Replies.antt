@@ -24,7 +24,7 @@ use Rattle.gs_call_causes.proofs.Ways.{Holds, IsClear, IsOther, clash, err_clear
 pub record Reads {A : Type 0} (says : Answer → Result A Refusal) : Type 0 where
   pub clear : (answer : Answer) → IsClear (says answer)
 
-stray : {A : Type 0} → IsClear {A = A} (Err refusals.Stray)
+pub stray : {A : Type 0} → IsClear {A = A} (Err refusals.Stray)
 stray = err_clear refusals.Stray stray_other
 
 pub reads_nothing : Reads nothing_in
