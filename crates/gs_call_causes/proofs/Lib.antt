@@ -1,5 +1,7 @@
 pub mod Ways
 pub mod Replies
-mod Looking
-mod Reading
-mod Writing
+pub mod Looking
+pub mod Reading
+pub mod Writing
+pub mod Carrying
+mod Calls

@@ -1,11 +1,30 @@
 //! What holds of all calls of a client.
-ghost use Rattle.gs_client.specs.Sends.{Sends};
-ghost use Rattle.gs_call_causes.specs.Carried.{Explains};
+ghost use Rattle.std.specs.Prelude.{Result};
+ghost use Rattle.gs_base.specs.declared.refusal.Refusal.{Refusal};
+ghost use Rattle.gs_msg.specs.declared.event.Request.{Request};
+ghost use Rattle.gs_client_dialogue.specs.Dialogues.{FollowsDialogue};
+ghost use Rattle.gs_client_dialogue.specs.Heard.{Says};
+ghost use Rattle.gs_client.specs.Edits.{Edits};
+ghost use Rattle.gs_client.specs.Sends.{Sends, next_request};
+ghost use Rattle.gs_client.specs.Trees.{Call as AnyCall};
+ghost use Rattle.gs_client.specs.declared.client.Client.{Client};
+ghost use Rattle.gs_client.specs.declared.link.Reply.{Reply};
 ghost use Rattle.gs_call_causes.specs.Calls.{OfEachCall};
+ghost use Rattle.gs_call_causes.specs.Carried.{Carried, Explains, Went};
+ghost use Rattle.gs_call_causes.specs.Causes.{Exchanges, Why};
 
 use gs_client::Link;
 
-/// Each 28 and 29 of a call comes from a reply in that call.
+/// A call is requests with their replies, one after the other as the link carries them, that are a way through its dialogue; and any such way is a call.
+pub fn a_call_is_a_way_through_its_dialogue<L: Link, A>()
+    ensures goes { (call : AnyCall A) (old : Client × L) (result : Result A Refusal) (new : Client × L) → FollowsDialogue (Sends L.Carries) call old result new → Went (Sends L.Carries) call old result new }
+    ensures comes { (call : AnyCall A) (old : Client × L) (result : Result A Refusal) (new : Client × L) → Went (Sends L.Carries) call old result new → FollowsDialogue (Sends L.Carries) call old result new }
+{}
+
+/// Over any link, each 28 and 29 of a call is from one of the replies that came in that very call, whose place is told: by the causes of these two, and no
+/// other. Nothing is assumed of the link. That reply came over the link: a client without a number that is left says so itself.
 pub fn an_unsure_answer_has_a_cause<L: Link>()
-    ensures { OfEachCall (Explains (Sends L.Carries)) }
+    ensures calls { OfEachCall (Explains (Sends L.Carries)) }
+    ensures edits { OfEachCall (Explains (Edits L.Carries)) }
+    ensures link { (refusal : Refusal) (old : Client × L) (asked : Request) (reply : Reply) (behind : Exchanges) (new : Client × L) → Why refusal asked reply behind → Sends L.Carries old asked reply new → L.Carries old.1 (next_request old.0) asked reply new.1 }
 {}
