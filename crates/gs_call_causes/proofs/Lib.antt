@@ -5,3 +5,4 @@ pub mod Reading
 pub mod Writing
 pub mod Carrying
 mod Calls
+mod Lines

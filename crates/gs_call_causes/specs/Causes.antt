@@ -105,12 +105,3 @@ abbrev pub Why : Refusal → Request → Reply → Exchanges → Type 0
 Why refusals.NoReplica asked reply behind = WhyNoReplica asked reply behind
 Why refusals.Unsure asked reply behind = WhyUnsure asked reply behind
 Why refusal asked reply behind = ⊥
-
--- The reply that a refusal is from, and its place: behind so many exchanges.
-pub record Caused (refusal : Refusal) (exchanges : Exchanges) : Type 0 where
-  pub before : Exchanges
-  pub asked : Request
-  pub reply : Reply
-  pub behind : Exchanges
-  pub is : exchanges ≡ before ++ (asked, reply) ∷ behind
-  pub why : Why refusal asked reply behind

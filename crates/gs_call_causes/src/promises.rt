@@ -1,5 +1,5 @@
 //! What holds of all calls of a client.
-ghost use Rattle.std.specs.Prelude.{Result};
+ghost use Rattle.std.specs.Prelude.{ℕ, IfSome, Result};
 ghost use Rattle.gs_base.specs.declared.refusal.Refusal.{Refusal};
 ghost use Rattle.gs_msg.specs.declared.event.Request.{Request};
 ghost use Rattle.gs_client_dialogue.specs.Dialogues.{FollowsDialogue};
@@ -9,6 +9,9 @@ ghost use Rattle.gs_client.specs.Sends.{Sends, next_request};
 ghost use Rattle.gs_client.specs.Trees.{Call as AnyCall};
 ghost use Rattle.gs_client.specs.declared.client.Client.{Client};
 ghost use Rattle.gs_client.specs.declared.link.Reply.{Reply};
+ghost use Rattle.gs_shell_grammar.specs.Grammar.{Request as Line};
+ghost use Rattle.gs_shell_calls.specs.Asked.{asked_by};
+ghost use Rattle.gs_shell_calls.specs.declared.answer.Answer.{Answer};
 ghost use Rattle.gs_call_causes.specs.Calls.{OfEachCall};
 ghost use Rattle.gs_call_causes.specs.Carried.{Carried, Explains, Went};
 ghost use Rattle.gs_call_causes.specs.Causes.{Exchanges, Why};
@@ -27,4 +30,9 @@ pub fn an_unsure_answer_has_a_cause<L: Link>()
     ensures calls { OfEachCall (Explains (Sends L.Carries)) }
     ensures edits { OfEachCall (Explains (Edits L.Carries)) }
     ensures link { (refusal : Refusal) (old : Client × L) (asked : Request) (reply : Reply) (behind : Exchanges) (new : Client × L) → Why refusal asked reply behind → Sends L.Carries old asked reply new → L.Carries old.1 (next_request old.0) asked reply new.1 }
+{}
+
+/// The same of what a line asks, which may be several calls.
+pub fn an_unsure_line_has_a_cause<L: Link>()
+    ensures { (size : ℕ) (line : Line) → IfSome (asked_by size line) (Explains (Sends L.Carries) Answer) }
 {}
