@@ -1,12 +1,9 @@
 -- All calls of a client.
-use Rattle.std.proofs.Common.{◌≡◌, ◌⊎◌, ℕ, List, Bool, Option, refl}
-use Rattle.gs_base.specs.declared.refusal.Refusal.{Refusal}
-use Rattle.gs_base.specs.declared.refusal.Refusal.TheVariants as refusals
+use Rattle.std.proofs.Common.{refl}
 use Rattle.gs_msg.specs.declared.call.Call.TheVariants as calls
 use Rattle.gs_msg.specs.declared.event.Request.{Request}
 use Rattle.gs_client.specs.declared.link.Reply.{Reply}
 use Rattle.gs_client.specs.Replies.{copied_in, deleted_in, epoch_in, names_in, nothing_in, path_in, phase_in, scanned_in, status_in}
-use Rattle.gs_client.specs.Trees.{Call}
 use Rattle.gs_call_causes.specs.Calls.{OfEachCall}
 use Rattle.gs_call_causes.specs.Carried.{Explains}
 use Rattle.gs_call_causes.proofs.Carrying.{explains}

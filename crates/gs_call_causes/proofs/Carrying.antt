@@ -1,5 +1,5 @@
 -- What carries the requests of a call, and the ways through it.
-use Rattle.std.proofs.Common.{◌≡◌, ◌∙◌, ◌⊎◌, inl, inr, ◌++◌, List, [], ◌∷◌, Result, Ok, Err, refl, sym, ap, subst}
+use Rattle.std.proofs.Common.{◌≡◌, ◌⊎◌, inl, inr, ◌++◌, [], ◌∷◌, Result, Err, refl, subst}
 use Rattle.gs_base.specs.declared.numbers.ReqId.{ReqId}
 use Rattle.gs_base.specs.declared.refusal.Refusal.{Refusal}
 use Rattle.gs_base.specs.declared.refusal.Refusal.TheVariants as refusals
@@ -13,7 +13,7 @@ use Rattle.gs_client.specs.Sends.{Sends, next_request}
 use Rattle.gs_client.specs.Trees.{Call}
 use Rattle.gs_call_causes.specs.Carried.{Carried, Explained, Explains, Went}
 use Rattle.gs_call_causes.specs.Causes.{Exchanges, Why, WhyNoReplica, WhyUnsure}
-use Rattle.gs_call_causes.proofs.Ways.{Caused, Holds}
+use Rattle.gs_call_causes.proofs.Ways.{Holds}
 
 module _ {S : Type 0} (carries : S → Request → Reply → S → Type 0) where
   -- ---- a call is a way through it

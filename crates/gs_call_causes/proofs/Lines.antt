@@ -1,5 +1,5 @@
 -- What a line asks.
-use Rattle.std.proofs.Common.{◌≡◌, ◌∙◌, ◌⊎◌, inl, inr, ◌++◌, ◌==◌, ℕ, List, [], ◌∷◌, Bool, true, false, length, Option, Some, None, Result, Ok, Err, refl, sym, ap, subst}
+use Rattle.std.proofs.Common.{◌≡◌, ◌⊎◌, ◌++◌, ◌==◌, ℕ, List, [], ◌∷◌, Bool, true, false, length, Result, Ok, Err, refl, sym, ap, subst}
 use Rattle.std.specs.Prelude.{◌&&◌, IfSome, if◌then◌else◌, nat_le}
 use Rattle.std.specs.List.{list_all, list_any}
 use Rattle.gs_base.specs.declared.refusal.Refusal.{Refusal}
@@ -7,7 +7,7 @@ use Rattle.gs_base.specs.declared.refusal.Refusal.TheVariants as refusals
 use Rattle.gs_path.specs.Element.{is_element, is_hidden, is_stored}
 use Rattle.gs_path.specs.Path.{Name, Path}
 use Rattle.gs_path.specs.Rules.{elements_of, judged, parse, parse_hidden, read_by, without_hidden}
-use Rattle.gs_client_dialogue.specs.Dialogues.{Grow, Say, upon}
+use Rattle.gs_client_dialogue.specs.Dialogues.{Say, upon}
 use Rattle.gs_client_dialogue.specs.Heard.{Says}
 use Rattle.gs_msg.specs.declared.call.Call.TheVariants as calls
 use Rattle.gs_msg.specs.declared.event.Request.{Request as Asked}
@@ -22,7 +22,7 @@ use Rattle.gs_shell_grammar.specs.declared.command.Upgrade.{Upgrade}
 use Rattle.gs_shell_grammar.specs.declared.command.Upgrade.TheVariants as upgrades
 use Rattle.gs_shell_grammar.specs.declared.command.UpgradeStep.{UpgradeStep}
 use Rattle.gs_shell_grammar.specs.declared.command.UpgradeStep.TheVariants as steps
-use Rattle.gs_shell_calls.specs.Asked.{asked_by, at_phase, done, ends_so, given_bytes, given_digest, hidden, is_unquiet, on, on_two, path_in, plain, prepare_line, rollback_line, scanned, step_line, unless_quiet, upgrade_line, with_file}
+use Rattle.gs_shell_calls.specs.Asked.{asked_by, at_phase, done, ends_so, given_bytes, given_digest, hidden, is_unquiet, on, on_two, plain, scanned, step_line, unless_quiet, upgrade_line, with_file}
 use Rattle.gs_shell_calls.specs.declared.answer.Answer.{Answer}
 use Rattle.gs_shell_calls.specs.declared.answer.Answer.TheVariants as answers
 use Rattle.gs_call_causes.specs.Carried.{Explains}

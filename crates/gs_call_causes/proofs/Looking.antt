@@ -1,10 +1,10 @@
 -- Where chunks are, and what their members give.
-use Rattle.std.proofs.Common.{◌≡◌, ◌∙◌, ◌⊎◌, inl, inr, ◌++◌, ◌==◌, ℕ, List, [], ◌∷◌, Bool, true, false, length, Option, Some, None, Result, Ok, Err, refl, sym, ap, subst, append_assoc, append-nil}
+use Rattle.std.proofs.Common.{◌≡◌, ◌∙◌, ◌⊎◌, inl, inr, ◌++◌, ◌==◌, ℕ, List, [], ◌∷◌, Bool, true, false, length, Option, Some, None, Result, Ok, Err, refl, sym, ap, subst, append-nil}
 use Rattle.std.specs.Prelude.{if◌then◌else◌, nat_le}
 use Rattle.gs_base.specs.declared.refusal.Refusal.{Refusal}
 use Rattle.gs_base.specs.declared.refusal.Refusal.TheVariants as refusals
 use Rattle.gs_path.specs.Path.{Path}
-use Rattle.gs_client_dialogue.specs.Dialogues.{Ask, Grow, Say, both, onward, otherwise, upon}
+use Rattle.gs_client_dialogue.specs.Dialogues.{Say, onward, otherwise}
 use Rattle.gs_client_dialogue.specs.Heard.{Says}
 use Rattle.gs_msg.specs.declared.answer.Answer.{Answer}
 use Rattle.gs_msg.specs.declared.answer.Answer.TheVariants as answers
@@ -23,9 +23,9 @@ use Rattle.gs_client.specs.declared.link.Reply.{Reply}
 use Rattle.gs_client.specs.declared.link.Reply.TheVariants as replies
 use Rattle.gs_client.specs.Looking.{anew_call, chunks_call, count_in, fetch_call, find_call, known_call, members_call, round_call}
 use Rattle.gs_client.specs.Replies.{chunks_in, given, located_in, looked, status_in}
-use Rattle.gs_client.specs.Trees.{Call, and_then, look}
+use Rattle.gs_client.specs.Trees.{and_then, look}
 use Rattle.gs_call_causes.specs.Causes.{Exchanges, IsFound, IsPassedOver, NoneGives, Why, WhyNoReplica, is_fetch, is_passed_over}
-use Rattle.gs_call_causes.proofs.Ways.{Caused, Holds, IsClear, IsOther, both_has, chosen_has, clash, err_clear, err_is, grown, memory_other, never, not_other, ok_clear, otherwise_has, said, stray_other, the_whole, upon_has, upon_splits}
+use Rattle.gs_call_causes.proofs.Ways.{Caused, Holds, IsClear, IsOther, both_has, chosen_has, err_clear, err_is, grown, never, ok_clear, otherwise_has, said, stray_other, the_whole, upon_has, upon_splits}
 use Rattle.gs_call_causes.proofs.Replies.{look_has, reads_located, reads_status, refused_so}
 use Rattle.std.specs.List.{AllByRecursion}
 

@@ -1,22 +1,19 @@
 -- What the replies to single requests come to.
-use Rattle.std.proofs.Common.{◌≡◌, ◌∙◌, ◌⊎◌, inl, inr, ◌++◌, ℕ, List, [], ◌∷◌, Bool, true, false, Option, Some, None, Result, Ok, Err, refl, sym, ap, subst}
+use Rattle.std.proofs.Common.{◌≡◌, ◌⊎◌, inl, inr, ℕ, [], true, Some, None, Result, Err, refl, sym, ap, subst}
 use Rattle.gs_base.specs.declared.refusal.Refusal.{Refusal}
 use Rattle.gs_base.specs.declared.refusal.Refusal.TheVariants as refusals
 use Rattle.gs_client_dialogue.specs.Dialogues.{ask}
-use Rattle.gs_client_dialogue.specs.Heard.{Says}
 use Rattle.gs_msg.specs.declared.answer.Answer.{Answer}
 use Rattle.gs_msg.specs.declared.answer.Answer.TheVariants as answers
-use Rattle.gs_msg.specs.declared.answer.Status.{Status}
-use Rattle.gs_msg.specs.declared.answer.Status.TheVariants as statuses
 use Rattle.gs_msg.specs.declared.call.Call.{Call as Called}
 use Rattle.gs_msg.specs.declared.event.Request.{Request}
 use Rattle.gs_msg.specs.declared.event.Request.TheVariants as requests
 use Rattle.gs_client.specs.declared.link.Reply.{Reply}
 use Rattle.gs_client.specs.declared.link.Reply.TheVariants as replies
-use Rattle.gs_client.specs.Replies.{changed, chunks_in, copied_in, deleted_in, edited, epoch_in, located_in, looked, names_in, nothing_in, path_in, phase_in, scanned_in, status_in, unsure_or}
-use Rattle.gs_client.specs.Trees.{Call, and_then, change, look}
+use Rattle.gs_client.specs.Replies.{changed, copied_in, deleted_in, edited, epoch_in, located_in, looked, names_in, nothing_in, path_in, phase_in, scanned_in, status_in, unsure_or}
+use Rattle.gs_client.specs.Trees.{and_then, change, look}
 use Rattle.gs_call_causes.specs.Causes.{Exchanges, IsLast, Why, WhyNoReplica, WhyUnsure, may_change, only_looks}
-use Rattle.gs_call_causes.proofs.Ways.{Caused, Holds, IsClear, IsOther, clash, err_clear, err_is, never, not_other, ok_clear, one_has, stray_other}
+use Rattle.gs_call_causes.proofs.Ways.{Holds, IsClear, clash, err_clear, err_is, never, not_other, ok_clear, one_has, stray_other}
 
 -- ---- what is read of an answer
 

@@ -1,5 +1,5 @@
 -- Calls put together of others, and what their refusals are from.
-use Rattle.std.proofs.Common.{◌≡◌, ◌∙◌, ◌⊎◌, inl, inr, ◌++◌, List, [], ◌∷◌, Bool, true, false, Result, Ok, Err, refl, sym, ap, subst, append_assoc, append-nil}
+use Rattle.std.proofs.Common.{◌≡◌, ◌∙◌, ◌⊎◌, inl, inr, ◌++◌, [], ◌∷◌, Bool, true, false, Result, Ok, Err, refl, sym, ap, subst, append_assoc, append-nil}
 use Rattle.std.specs.Prelude.{if◌then◌else◌}
 use Rattle.gs_base.specs.declared.refusal.Refusal.{Refusal}
 use Rattle.gs_base.specs.declared.refusal.Refusal.TheVariants as refusals
@@ -144,11 +144,13 @@ module _ {e : Refusal} {shut : (e ≡ refusals.NoReplica) ⊎ (e ≡ refusals.Un
 
   -- one request
   pub one_has : {A : Type 0} (asked : Request) (says : Reply → Result A Refusal) → ((reply : Reply) → Err e ≡ says reply → Why e asked reply []) → Holds e shut (ask asked says)
-  one_has asked says why = record { tells = λ exchanges h. record {
-    before = [];
-    asked = asked;
-    reply = h.0;
-    behind = [];
-    is = h.2 ∙ ap (λ xs. (asked, h.0) ∷ xs) h.3.1;
-    why = why h.0 h.3.0;
-  } }
+  one_has asked says why = record {
+    tells = λ exchanges h. record {
+      before = [];
+      asked = asked;
+      reply = h.0;
+      behind = [];
+      is = h.2 ∙ ap (λ xs. (asked, h.0) ∷ xs) h.3.1;
+      why = why h.0 h.3.0;
+    };
+  }

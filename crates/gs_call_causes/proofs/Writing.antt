@@ -1,5 +1,5 @@
 -- What is written to a file.
-use Rattle.std.proofs.Common.{◌≡◌, ◌⊎◌, ◌+◌, ◌-◌, ◌*◌, ◌/◌, ◌==◌, zero, suc, ℕ, List, Bool, true, false, length, Option, Some, None, Result, Ok, Err, refl}
+use Rattle.std.proofs.Common.{◌≡◌, ◌⊎◌, ◌+◌, ◌-◌, ◌*◌, ◌/◌, ◌==◌, zero, suc, ℕ, List, length, Option, Some, None, refl}
 use Rattle.std.specs.Prelude.{nat_lt}
 use Rattle.gs_base.specs.declared.numbers.Stamp.{Stamp}
 use Rattle.gs_base.specs.declared.refusal.Refusal.{Refusal}
@@ -12,12 +12,12 @@ use Rattle.gs_msg.specs.declared.op.Op.{Op}
 use Rattle.gs_msg.specs.declared.op.Op.TheVariants as ops
 use Rattle.gs_replica.specs.declared.op.EditOutcome.{EditOutcome}
 use Rattle.gs_replica.specs.declared.op.EditOutcome.TheVariants as outcomes
-use Rattle.gs_client_part.specs.Writing.{chunks_to, is_out, most_chunks, part_bytes, part_count, placed}
+use Rattle.gs_client_part.specs.Writing.{chunks_to, is_out, most_chunks, part_bytes, part_count}
 use Rattle.gs_client_part.specs.declared.located.Located.{Located}
 use Rattle.gs_client.specs.Replies.{is_stale, located_in}
 use Rattle.gs_client.specs.Trees.{Call}
-use Rattle.gs_client.specs.Writing.{again_call, append_call, append_from, avoided, edit_call, extend_call, extends_call, landed, part_call, part_op, parts_call, send_call, write_call, write_part_call, writing_call, written}
-use Rattle.gs_call_causes.proofs.Ways.{Holds, IsClear, again_has, both_has, chosen_has, err_clear, grown, ok_clear, range_other, said, stray_other}
+use Rattle.gs_client.specs.Writing.{append_call, append_from, avoided, extend_call, extends_call, landed, part_call, part_op, parts_call, send_call, write_call, write_part_call, writing_call, written}
+use Rattle.gs_call_causes.proofs.Ways.{Holds, IsClear, again_has, both_has, chosen_has, err_clear, grown, ok_clear, range_other, said}
 use Rattle.gs_call_causes.proofs.Replies.{change_has, edit_has, look_has, reads_located, stray}
 use Rattle.gs_call_causes.proofs.Looking.{known_has, tested}
 

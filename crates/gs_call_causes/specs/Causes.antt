@@ -1,6 +1,6 @@
 -- Why a call answers that no replica was reached (28), or that it isn't sure whether what it asked for stands (29): which of the replies that came in it
 -- that is from.
-use Rattle.std.specs.Prelude.{◌≡◌, ◌⊎◌, ◌++◌, ◌∷◌, ℕ, List, [], Bool, true, false}
+use Rattle.std.specs.Prelude.{◌≡◌, ◌∷◌, ℕ, List, [], Bool, true, false}
 use Rattle.std.specs.List.{AllByRecursion}
 use Rattle.gs_base.specs.declared.refusal.Refusal.{Refusal}
 use Rattle.gs_base.specs.declared.refusal.Refusal.TheVariants as refusals
