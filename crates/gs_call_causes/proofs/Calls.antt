@@ -4,6 +4,7 @@ use Rattle.gs_msg.specs.declared.call.Call.TheVariants as calls
 use Rattle.gs_msg.specs.declared.event.Request.{Request}
 use Rattle.gs_client.specs.declared.link.Reply.{Reply}
 use Rattle.gs_client.specs.Replies.{copied_in, deleted_in, epoch_in, names_in, nothing_in, path_in, phase_in, scanned_in, status_in}
+use Rattle.gs_client.specs.Trees.{Call}
 use Rattle.gs_call_causes.specs.Calls.{OfEachCall}
 use Rattle.gs_call_causes.specs.Carried.{Explains}
 use Rattle.gs_call_causes.proofs.Carrying.{explains}
@@ -36,4 +37,32 @@ each_call carries = record {
   digest = λ path opened located index block. explains carries _ (λ e shut. digest_has path opened located index block);
   write = λ size path opened offset bytes. explains carries _ (λ e shut. write_has size path opened offset bytes);
   append = λ size path opened bytes. explains carries _ (λ e shut. append_has size path opened bytes);
+}
+
+-- what follows of any call does of each of them
+pub each_follows : (P Q : (A : Type 0) → Call A → Type 0) → ((A : Type 0) (call : Call A) → P A call → Q A call) → OfEachCall P → OfEachCall Q
+each_follows P Q follows each = record {
+  mkdirs = λ path. follows _ _ (each.mkdirs path);
+  create = λ path. follows _ _ (each.create path);
+  rename = λ from to. follows _ _ (each.rename from to);
+  delete = λ path recursive. follows _ _ (each.delete path recursive);
+  undelete = λ path. follows _ _ (each.undelete path);
+  snapshot = λ from to. follows _ _ (each.snapshot from to);
+  list = λ path. follows _ _ (each.list path);
+  status = λ path. follows _ _ (each.status path);
+  scan = follows _ _ each.scan;
+  replicate = follows _ _ each.replicate;
+  query = follows _ _ each.query;
+  prepare_begin = follows _ _ each.prepare_begin;
+  prepare_commit = follows _ _ each.prepare_commit;
+  prepare_abort = follows _ _ each.prepare_abort;
+  finalize = follows _ _ each.finalize;
+  rollback_begin = follows _ _ each.rollback_begin;
+  rollback_commit = follows _ _ each.rollback_commit;
+  open_file = λ path. follows _ _ (each.open_file path);
+  stat = λ size path. follows _ _ (each.stat size path);
+  read = λ size path opened located offset many. follows _ _ (each.read size path opened located offset many);
+  digest = λ path opened located index block. follows _ _ (each.digest path opened located index block);
+  write = λ size path opened offset bytes. follows _ _ (each.write size path opened offset bytes);
+  append = λ size path opened bytes. follows _ _ (each.append size path opened bytes);
 }

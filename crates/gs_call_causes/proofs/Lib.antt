@@ -4,5 +4,5 @@ pub mod Looking
 pub mod Reading
 pub mod Writing
 pub mod Carrying
-mod Calls
-mod Lines
+pub mod Calls
+pub mod Lines

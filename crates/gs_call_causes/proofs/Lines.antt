@@ -116,7 +116,7 @@ module _ {e : Refusal} {shut : (e ≡ refusals.NoReplica) ⊎ (e ≡ refusals.Un
       each (Ok epoch) first second whole is says rest = never rest.0
       each (Err f) first second whole is says rest = by_test (is_unquiet f) f refl first second whole is says rest
 
-  upgrade_has : (upgrade : Upgrade) → Holds e shut (upgrade_line upgrade)
+  pub upgrade_has : (upgrade : Upgrade) → Holds e shut (upgrade_line upgrade)
   upgrade_has upgrades.Query = plain_has at_phase (look_has calls.Query phase_in refl reads_phase)
   upgrade_has upgrades.Prepare = both_has (change_has calls.PrepareBegin epoch_in refl reads_epoch) (λ _. commit_has)
   upgrade_has upgrades.Finalize = plain_has answers.Number (change_has calls.Finalize epoch_in refl reads_epoch)

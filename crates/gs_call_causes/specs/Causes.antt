@@ -21,7 +21,7 @@ Exchanges = List (Request × Reply)
 
 -- ---- requests
 
--- a call of the master that changes nothing
+-- a call of the master that counts as a look: it asks what stands, or where a chunk is
 abbrev pub only_looks : Request → Bool
 only_looks (requests.Call (calls.List path)) = true
 only_looks (requests.Call (calls.Status path)) = true
