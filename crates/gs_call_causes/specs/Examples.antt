@@ -6,6 +6,7 @@ use Rattle.gs_lease.specs.declared.view.View.{View}
 use Rattle.gs_msg.specs.declared.answer.Answer.TheVariants as answers
 use Rattle.gs_msg.specs.declared.call.Call.TheVariants as calls
 use Rattle.gs_msg.specs.declared.chunk.Asked.TheVariants as asks
+use Rattle.gs_msg.specs.declared.event.Request.{Request}
 use Rattle.gs_msg.specs.declared.event.Request.TheVariants as requests
 use Rattle.gs_client_dialogue.specs.Dialogues.{run}
 use Rattle.gs_client_part.specs.declared.located.Located.{Located}
@@ -16,6 +17,7 @@ use Rattle.gs_client.specs.Trees.{Call, list_call, mkdirs_call, rename_call}
 use Rattle.gs_client.specs.Writing.{write_call}
 use Rattle.gs_client.specs.declared.link.Reply.{Reply}
 use Rattle.gs_client.specs.declared.link.Reply.TheVariants as replies
+use Rattle.gs_call_causes.specs.Carried.{Explained}
 use Rattle.gs_call_causes.specs.Causes.{Why, WhyNoReplica, WhyUnsure}
 
 -- what a call comes to where these replies come, and behind the last of them none
@@ -29,6 +31,25 @@ a_look_is_refused = refl
 
 by_that : Why refusals.NoReplica (requests.Call (calls.List f)) (replies.Refused refusals.NoReplica) []
 by_that = WhyNoReplica.Refused refl refl
+
+-- over what refuses all so, from one state to the same
+abbrev pub refuses : Unit {0} → Request → Reply → Unit {0} → Type 0
+refuses old asked reply new = reply ≡ replies.Refused refusals.NoReplica
+
+it_is_explained : Explained refuses (list_call f) refusals.NoReplica tt tt
+it_is_explained = record {
+  before = [];
+  asked = requests.Call (calls.List f);
+  reply = replies.Refused refusals.NoReplica;
+  behind = [];
+  says = (replies.Refused refusals.NoReplica, [], refl, (refl, refl));
+  why = by_that;
+  from = tt;
+  to = tt;
+  led = refl;
+  came = refl;
+  left = refl;
+}
 
 nobody_answers_a_look : comes_to (list_call f) [] ≡ Err refusals.NoReplica
 nobody_answers_a_look = refl

@@ -18,14 +18,20 @@ ghost use Rattle.gs_call_causes.specs.Causes.{Exchanges, Why};
 
 use gs_client::Link;
 
-/// A call is requests with their replies, one after the other as the link carries them, that are a way through its dialogue; and any such way is a call.
+/// What a call comes to is told by its requests with their replies: they are a way through its dialogue, each carried by the link, one after the other; and
+/// each such way is a call.
 pub fn a_call_is_a_way_through_its_dialogue<L: Link, A>()
     ensures goes { (call : AnyCall A) (old : Client × L) (result : Result A Refusal) (new : Client × L) → FollowsDialogue (Sends L.Carries) call old result new → Went (Sends L.Carries) call old result new }
     ensures comes { (call : AnyCall A) (old : Client × L) (result : Result A Refusal) (new : Client × L) → Went (Sends L.Carries) call old result new → FollowsDialogue (Sends L.Carries) call old result new }
 {}
 
-/// Over any link, each 28 and 29 of a call is from one of the replies that came in that very call, whose place is told: by the causes of these two, and no
-/// other. Nothing is assumed of the link. That reply came over the link: a client without a number that is left says so itself.
+/// Over any link, each 28 and 29 of a call is from one of the replies that came in that very call, and its place among them is told. Nothing is assumed of
+/// the link.
+///
+/// A 28 is from a refusal that says so; from no answer to a call that only looks; or from the location of a chunk that has no members, or none of whose
+/// members gave or refused anything. A 29 is from a refusal that says so; or, of a request that may change something, from a refusal for memory or for a
+/// disk, or from no answer. Where memory of the client's own is wanting that is the answer (33), and so is that it has no number left (31): both are no
+/// cause, and the reply that is one came over the link.
 pub fn an_unsure_answer_has_a_cause<L: Link>()
     ensures calls { OfEachCall (Explains (Sends L.Carries)) }
     ensures edits { OfEachCall (Explains (Edits L.Carries)) }
