@@ -7,3 +7,5 @@ pub mod Ending
 pub mod Seeding
 pub mod Refused
 pub mod Hearing
+pub mod Answered
+mod Clients
