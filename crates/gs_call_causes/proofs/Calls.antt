@@ -14,29 +14,29 @@ use Rattle.gs_call_causes.proofs.Writing.{append_has, write_has}
 
 pub each_call : {S : Type 0} (carries : S → Request → Reply → S → Type 0) → OfEachCall (Explains carries)
 each_call carries = record {
-  mkdirs = λ path. explains carries _ (λ e shut. change_has (calls.Mkdirs path) nothing_in refl reads_nothing);
-  create = λ path. explains carries _ (λ e shut. change_has (calls.Create path) nothing_in refl reads_nothing);
-  rename = λ from to. explains carries _ (λ e shut. change_has (calls.Rename from to) nothing_in refl reads_nothing);
-  delete = λ path recursive. explains carries _ (λ e shut. change_has (calls.Delete path recursive) deleted_in refl reads_deleted);
-  undelete = λ path. explains carries _ (λ e shut. change_has (calls.Undelete path) path_in refl reads_path);
-  snapshot = λ from to. explains carries _ (λ e shut. change_has (calls.Snapshot from to) nothing_in refl reads_nothing);
-  list = λ path. explains carries _ (λ e shut. look_has (calls.List path) names_in refl reads_names);
-  status = λ path. explains carries _ (λ e shut. look_has (calls.Status path) status_in refl reads_status);
-  scan = explains carries _ (λ e shut. change_has calls.Scan scanned_in refl reads_scanned);
-  replicate = explains carries _ (λ e shut. change_has calls.Replicate copied_in refl reads_copied);
-  query = explains carries _ (λ e shut. look_has calls.Query phase_in refl reads_phase);
-  prepare_begin = explains carries _ (λ e shut. change_has calls.PrepareBegin epoch_in refl reads_epoch);
-  prepare_commit = explains carries _ (λ e shut. change_has calls.PrepareCommit epoch_in refl reads_epoch);
-  prepare_abort = explains carries _ (λ e shut. change_has calls.PrepareAbort epoch_in refl reads_epoch);
-  finalize = explains carries _ (λ e shut. change_has calls.Finalize epoch_in refl reads_epoch);
-  rollback_begin = explains carries _ (λ e shut. change_has calls.RollbackBegin epoch_in refl reads_epoch);
-  rollback_commit = explains carries _ (λ e shut. change_has calls.RollbackCommit epoch_in refl reads_epoch);
-  open_file = λ path. explains carries _ (λ e shut. open_has path);
-  stat = λ size path. explains carries _ (λ e shut. stat_has size path);
-  read = λ size path opened located offset many. explains carries _ (λ e shut. read_has size path opened located offset many);
-  digest = λ path opened located index block. explains carries _ (λ e shut. digest_has path opened located index block);
-  write = λ size path opened offset bytes. explains carries _ (λ e shut. write_has size path opened offset bytes);
-  append = λ size path opened bytes. explains carries _ (λ e shut. append_has size path opened bytes);
+  mkdirs = λ path. explains carries _ (λ e either. change_has (calls.Mkdirs path) nothing_in refl reads_nothing);
+  create = λ path. explains carries _ (λ e either. change_has (calls.Create path) nothing_in refl reads_nothing);
+  rename = λ from to. explains carries _ (λ e either. change_has (calls.Rename from to) nothing_in refl reads_nothing);
+  delete = λ path recursive. explains carries _ (λ e either. change_has (calls.Delete path recursive) deleted_in refl reads_deleted);
+  undelete = λ path. explains carries _ (λ e either. change_has (calls.Undelete path) path_in refl reads_path);
+  snapshot = λ from to. explains carries _ (λ e either. change_has (calls.Snapshot from to) nothing_in refl reads_nothing);
+  list = λ path. explains carries _ (λ e either. look_has (calls.List path) names_in refl reads_names);
+  status = λ path. explains carries _ (λ e either. look_has (calls.Status path) status_in refl reads_status);
+  scan = explains carries _ (λ e either. change_has calls.Scan scanned_in refl reads_scanned);
+  replicate = explains carries _ (λ e either. change_has calls.Replicate copied_in refl reads_copied);
+  query = explains carries _ (λ e either. look_has calls.Query phase_in refl reads_phase);
+  prepare_begin = explains carries _ (λ e either. change_has calls.PrepareBegin epoch_in refl reads_epoch);
+  prepare_commit = explains carries _ (λ e either. change_has calls.PrepareCommit epoch_in refl reads_epoch);
+  prepare_abort = explains carries _ (λ e either. change_has calls.PrepareAbort epoch_in refl reads_epoch);
+  finalize = explains carries _ (λ e either. change_has calls.Finalize epoch_in refl reads_epoch);
+  rollback_begin = explains carries _ (λ e either. change_has calls.RollbackBegin epoch_in refl reads_epoch);
+  rollback_commit = explains carries _ (λ e either. change_has calls.RollbackCommit epoch_in refl reads_epoch);
+  open_file = λ path. explains carries _ (λ e either. open_has path);
+  stat = λ size path. explains carries _ (λ e either. stat_has size path);
+  read = λ size path opened located offset many. explains carries _ (λ e either. read_has size path opened located offset many);
+  digest = λ path opened located index block. explains carries _ (λ e either. digest_has path opened located index block);
+  write = λ size path opened offset bytes. explains carries _ (λ e either. write_has size path opened offset bytes);
+  append = λ size path opened bytes. explains carries _ (λ e either. append_has size path opened bytes);
 }
 
 -- what follows of any call does of each of them

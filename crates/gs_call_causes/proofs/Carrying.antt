@@ -58,9 +58,9 @@ module _ {S : Type 0} (carries : S → Request → Reply → S → Type 0) where
 
   -- ---- why
 
-  explained : (e : Refusal) (shut : (e ≡ refusals.NoReplica) ⊎ (e ≡ refusals.Unsure)) {A : Type 0} (call : Call A) (old new : S) → Holds e shut call
+  explained : (e : Refusal) (either : (e ≡ refusals.NoReplica) ⊎ (e ≡ refusals.Unsure)) {A : Type 0} (call : Call A) (old new : S) → Holds e either call
       → FollowsDialogue carries call old (Err e) new → Explained carries call e old new
-  explained e shut call old new holds h =
+  explained e either call old new holds h =
       let w = went call old (Err e) new h in
       let c = holds.tells w.exchanges w.says in
       let a = at old c.before c.asked c.reply c.behind new (subst (λ xs. Carried carries old xs new) c.is w.carried) in
@@ -78,7 +78,7 @@ module _ {S : Type 0} (carries : S → Request → Reply → S → Type 0) where
         left = a.left;
       }
 
-  pub explains : {A : Type 0} (call : Call A) → ((e : Refusal) (shut : (e ≡ refusals.NoReplica) ⊎ (e ≡ refusals.Unsure)) → Holds e shut call) → Explains carries A call
+  pub explains : {A : Type 0} (call : Call A) → ((e : Refusal) (either : (e ≡ refusals.NoReplica) ⊎ (e ≡ refusals.Unsure)) → Holds e either call) → Explains carries A call
   explains call holds old new = (
     explained refusals.NoReplica (inl refl) call old new (holds refusals.NoReplica (inl refl)),
     explained refusals.Unsure (inr refl) call old new (holds refusals.Unsure (inr refl)),

@@ -69,12 +69,12 @@ module _ (l : Located) (asked : Asked) where
       -- a member that was passed over is one more of those
       passes : (reply : Reply) → exchanges ≡ (fetch_of l asked member, reply) ∷ rest → is_passed_over reply ≡ true → Rounds l asked members last e rest → Rounds l asked (member ∷ members) last e exchanges
       passes reply is passed (Nobody so none) = Nobody so (subst (λ xs. NoneGives l asked (member ∷ members) xs) (sym is) (refl, passed, none))
-      passes reply is passed (Somebody before to behind where_ all) = Somebody ((fetch_of l asked member, reply) ∷ before) to behind (is ∙ ap (λ xs. (fetch_of l asked member, reply) ∷ xs) where_) all
+      passes reply is passed (Somebody before to behind stands all) = Somebody ((fetch_of l asked member, reply) ∷ before) to behind (is ∙ ap (λ xs. (fetch_of l asked member, reply) ∷ xs) stands) all
 
       refuses : (f : Refusal) → exchanges ≡ (fetch_of l asked member, replies.Refused f) ∷ rest → Rounds l asked members f e rest → Rounds l asked (member ∷ members) last e exchanges
       refuses f is (Nobody so none) =
           Somebody [] member rest (is ∙ ap (λ g. (fetch_of l asked member, replies.Refused g) ∷ rest) (sym so)) (all_passed l asked members rest none)
-      refuses f is (Somebody before to behind where_ all) = Somebody ((fetch_of l asked member, replies.Refused f) ∷ before) to behind (is ∙ ap (λ xs. (fetch_of l asked member, replies.Refused f) ∷ xs) where_) all
+      refuses f is (Somebody before to behind stands all) = Somebody ((fetch_of l asked member, replies.Refused f) ∷ before) to behind (is ∙ ap (λ xs. (fetch_of l asked member, replies.Refused f) ∷ xs) stands) all
 
       by_reply : (reply : Reply) → exchanges ≡ (fetch_of l asked member, reply) ∷ rest → Says (otherwise (members_call l asked members) (given last reply)) rest (Err e)
           → ((next : Refusal) → Says (members_call l asked members next) rest (Err e) → Rounds l asked members next e rest) → Rounds l asked (member ∷ members) last e exchanges
@@ -112,19 +112,19 @@ found path index exchanges l h = elim h [ inl goes ↦ by_asked goes | inr lacks
     by_asked (reply, rest, is, says) =
         let asked : Request = requests.Call (calls.FindForReading path index) in (asked, reply, by_reply reply says.0, is ∙ ap (λ xs. (asked, reply) ∷ xs) says.1)
 
-module _ (e : Refusal) (shut : (e ≡ refusals.NoReplica) ⊎ (e ≡ refusals.Unsure)) where
+module _ (e : Refusal) (either : (e ≡ refusals.NoReplica) ⊎ (e ≡ refusals.Unsure)) where
   -- ---- a location, and the round of its members
 
   -- a round behind the location that it is of
   round_caused : (path : Path) (l : Located) (what : Asked) (asked : Request) (reply : Reply) (round exchanges : Exchanges) → IsFound path l asked reply
       → exchanges ≡ (asked, reply) ∷ round → Rounds l what l.view.members refusals.NoReplica e round → Caused e exchanges
-  round_caused path l what asked reply round exchanges there is (Somebody before to behind where_ all) = record {
+  round_caused path l what asked reply round exchanges there is (Somebody before to behind stands all) = record {
     before = (asked, reply) ∷ before;
     asked = fetch_of l what to;
     reply = replies.Refused e;
     behind = behind;
-    is = is ∙ ap (λ xs. (asked, reply) ∷ xs) where_;
-    why = refused_so e shut (fetch_of l what to) e behind refl all;
+    is = is ∙ ap (λ xs. (asked, reply) ∷ xs) stands;
+    why = refused_so e either (fetch_of l what to) e behind refl all;
   }
   round_caused path l what asked reply round exchanges there is (Nobody so none) = by_members l.view.members refl none
     where
@@ -138,7 +138,7 @@ module _ (e : Refusal) (shut : (e ≡ refusals.NoReplica) ⊎ (e ≡ refusals.Un
   -- the members that are asked in a round
   round_is : (l : Located) (what : Asked) (exchanges : Exchanges) → Says (round_call l what) exchanges (Err e) → Rounds l what l.view.members refusals.NoReplica e exchanges
   round_is l what exchanges h =
-      let s = upon_splits e shut (members_call l what l.view.members refusals.NoReplica) (onward (λ g. Say (Ok (g, l)))) exchanges h in by_result s.0 s.1 s.2 s.3 s.4 s.5
+      let s = upon_splits e either (members_call l what l.view.members refusals.NoReplica) (onward (λ g. Say (Ok (g, l)))) exchanges h in by_result s.0 s.1 s.2 s.3 s.4 s.5
     where
       by_result : (r : Result Given Refusal) (first second : Exchanges) → exchanges ≡ first ++ second → Says (members_call l what l.view.members refusals.NoReplica) first r
           → Says (onward {A = Given} {B = Given × Located} (λ g. Say (Ok (g, l))) r) second (Err e) → Rounds l what l.view.members refusals.NoReplica e exchanges
@@ -148,31 +148,31 @@ module _ (e : Refusal) (shut : (e ≡ refusals.NoReplica) ⊎ (e ≡ refusals.Un
           subst (λ xs. Rounds l what l.view.members refusals.NoReplica e xs) (sym whole)
           (rounds l what l.view.members refusals.NoReplica e first (subst (λ g. Says (members_call l what l.view.members refusals.NoReplica) first (Err g)) (sym (err_is rest.0)) says))
 
-module _ {e : Refusal} {shut : (e ≡ refusals.NoReplica) ⊎ (e ≡ refusals.Unsure)} where
-  pub chunks_has : (path : Path) → Holds e shut (chunks_call path)
+module _ {e : Refusal} {either : (e ≡ refusals.NoReplica) ⊎ (e ≡ refusals.Unsure)} where
+  pub chunks_has : (path : Path) → Holds e either (chunks_call path)
   chunks_has path =
       both_has (grown (look_has (calls.Status path) status_in refl reads_status)) (λ status.
       both_has (said (chunks_clear status)) (λ chunks. said (count_clear chunks)))
 
-  pub known_has : (path : Path) (opened : Option ℕ) → Holds e shut (known_call path opened)
+  pub known_has : (path : Path) (opened : Option ℕ) → Holds e either (known_call path opened)
   known_has path (Some chunks) = said (ok_clear chunks)
   known_has path None = chunks_has path
 
-  find_has : (path : Path) (index : ℕ) → Holds e shut (find_call path index)
+  find_has : (path : Path) (index : ℕ) → Holds e either (find_call path index)
   find_has path index = grown (look_has (calls.FindForReading path index) (located_in index) refl (reads_located index))
 
-  pub anew_has : (path : Path) (index : ℕ) (what : Asked) → Holds e shut (anew_call path index what)
+  pub anew_has : (path : Path) (index : ℕ) (what : Asked) → Holds e either (anew_call path index what)
   anew_has path index what = upon_has (find_call path index) (onward (λ l. round_call l what)) each
     where
       each : (r : Result Located Refusal) (first second whole : Exchanges) → whole ≡ first ++ second → Says (find_call path index) first r
           → Says (onward {A = Located} {B = Given × Located} (λ l. round_call l what) r) second (Err e) → Caused e whole
       each (Ok l) first second whole is says rest =
           let s = found path index first l says in
-          round_caused e shut path l what s.0 s.1 second whole s.2 (is ∙ ap (λ xs. xs ++ second) s.3) (round_is e shut l what second rest)
+          round_caused e either path l what s.0 s.1 second whole s.2 (is ∙ ap (λ xs. xs ++ second) s.3) (round_is e either l what second rest)
       each (Err f) first second whole is says rest =
-          the_whole e shut first second whole is rest.1 ((find_has path index).tells first (subst (λ g. Says (find_call path index) first (Err g)) (sym (err_is rest.0)) says))
+          the_whole e either first second whole is rest.1 ((find_has path index).tells first (subst (λ g. Says (find_call path index) first (Err g)) (sym (err_is rest.0)) says))
 
-  pub fetch_has : (path : Path) (known : Option Located) (index : ℕ) (what : Asked) → Holds e shut (fetch_call path known index what)
+  pub fetch_has : (path : Path) (known : Option Located) (index : ℕ) (what : Asked) → Holds e either (fetch_call path known index what)
   fetch_has path None index what = anew_has path index what
   fetch_has path (Some l) index what =
       chosen_has (l.index == index) (otherwise_has (round_call l what) (λ refusal. anew_has path index what)) (anew_has path index what)

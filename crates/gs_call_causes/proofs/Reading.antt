@@ -39,46 +39,46 @@ within_clear size many = tested (nat_le many size) many
 
 -- ---- a file
 
-module _ {e : Refusal} {shut : (e ≡ refusals.NoReplica) ⊎ (e ≡ refusals.Unsure)} where
-  pub open_has : (path : Path) → Holds e shut (open_call path)
+module _ {e : Refusal} {either : (e ≡ refusals.NoReplica) ⊎ (e ≡ refusals.Unsure)} where
+  pub open_has : (path : Path) → Holds e either (open_call path)
   open_has path = both_has (chunks_has path) (λ chunks. said (ok_clear _))
 
-  length_has : (size : ℕ) (path : Path) (known : Option Located) (chunks : ℕ) → Holds e shut (length_call size path known chunks)
+  length_has : (size : ℕ) (path : Path) (known : Option Located) (chunks : ℕ) → Holds e either (length_call size path known chunks)
   length_has size path known zero = said (ok_clear _)
   length_has size path known (suc last) =
       both_has (fetch_has path known last asks.Length) (λ f.
       both_has (said (length_clear f.0)) (λ many. both_has (said (within_clear size many)) (λ many. said (ok_clear _))))
 
-  end_has : (size : ℕ) (path : Path) (known : Option Located) (chunks offset many : ℕ) → Holds e shut (end_call size path known chunks offset many)
+  end_has : (size : ℕ) (path : Path) (known : Option Located) (chunks offset many : ℕ) → Holds e either (end_call size path known chunks offset many)
   end_has size path known chunks offset many =
       chosen_has (nat_le (offset + many) ((chunks - 1) * size)) (said (ok_clear _))
       (both_has (length_has size path known chunks) (λ l. chosen_has (nat_lt l.0 offset) (said (err_clear refusals.Range range_other)) (said (ok_clear _))))
 
-  stored_has : (path : Path) (known : Option Located) (index : ℕ) (asked : Asked) → Holds e shut (stored_call path known index asked)
+  stored_has : (path : Path) (known : Option Located) (index : ℕ) (asked : Asked) → Holds e either (stored_call path known index asked)
   stored_has path known index asked = both_has (fetch_has path known index asked) (λ f. both_has (said (bytes_clear asked f.0)) (λ bytes. said (ok_clear _)))
 
-  piece_has : (path : Path) (known : Option Located) (chunks index start many : ℕ) → Holds e shut (piece_call path known chunks index start many)
+  piece_has : (path : Path) (known : Option Located) (chunks index start many : ℕ) → Holds e either (piece_call path known chunks index start many)
   piece_has path known chunks index start many = both_has (stored_has path known index (asks.Bytes start many)) (λ s. said (ok_clear _))
 
-  pieces_has : (size : ℕ) (path : Path) (chunks end : ℕ) (known : Option Located) (index start count : ℕ) (read : List ℕ) → Holds e shut (pieces_call size path chunks end known index start count read)
+  pieces_has : (size : ℕ) (path : Path) (chunks end : ℕ) (known : Option Located) (index start count : ℕ) (read : List ℕ) → Holds e either (pieces_call size path chunks end known index start count read)
   pieces_has size path chunks end known index start zero read = said (ok_clear _)
   pieces_has size path chunks end known index start (suc count) read =
       both_has (piece_has path known chunks index start (piece_end size end index - start)) (λ p. grown (pieces_has size path chunks end (Some p.1) (index + 1) 0 count (read ++ p.0)))
 
-  pub read_has : (size : ℕ) (path : Path) (opened : Option ℕ) (known : Option Located) (offset many : ℕ) → Holds e shut (read_call size path opened known offset many)
+  pub read_has : (size : ℕ) (path : Path) (opened : Option ℕ) (known : Option Located) (offset many : ℕ) → Holds e either (read_call size path opened known offset many)
   read_has size path opened known offset many =
       both_has (known_has path opened) (λ chunks.
       both_has (end_has size path known chunks offset many) (λ f.
       pieces_has size path chunks f.0 f.1 (offset / size) (offset % size) (span size offset f.0) []))
 
-  pub digest_has : (path : Path) (opened : Option ℕ) (known : Option Located) (index block : ℕ) → Holds e shut (digest_call path opened known index block)
+  pub digest_has : (path : Path) (opened : Option ℕ) (known : Option Located) (index block : ℕ) → Holds e either (digest_call path opened known index block)
   digest_has path opened known index block =
       both_has (known_has path opened) (λ chunks.
       both_has (fetch_has path known index (asks.Digest block)) (λ f. both_has (said (digest_clear f.0)) (λ digest. said (ok_clear _))))
 
-  stat_of_has : (size : ℕ) (path : Path) (status : Status) → Holds e shut (stat_of size path status)
+  stat_of_has : (size : ℕ) (path : Path) (status : Status) → Holds e either (stat_of size path status)
   stat_of_has size path statuses.Directory = said (ok_clear _)
   stat_of_has size path (statuses.File chunks) = both_has (said (count_clear chunks)) (λ count. both_has (length_has size path None count) (λ l. said (ok_clear _)))
 
-  pub stat_has : (size : ℕ) (path : Path) → Holds e shut (stat_call size path)
+  pub stat_has : (size : ℕ) (path : Path) → Holds e either (stat_call size path)
   stat_has size path = both_has (grown (look_has (calls.Status path) status_in refl reads_status)) (stat_of_has size path)

@@ -108,11 +108,11 @@ unsettled refusals.Memory e is = NoMemory refl is
 unsettled refusals.Device e is = NoDisk refl is
 unsettled f e is = Stays is
 
-module _ (e : Refusal) (shut : (e ≡ refusals.NoReplica) ⊎ (e ≡ refusals.Unsure)) where
+module _ (e : Refusal) (either : (e ≡ refusals.NoReplica) ⊎ (e ≡ refusals.Unsure)) where
   -- ---- why
 
   pub refused_so : (asked : Request) (f : Refusal) (behind : Exchanges) → e ≡ f → IsLast asked behind → Why e asked (replies.Refused f) behind
-  refused_so asked f behind is last = subst (λ g. Why e asked (replies.Refused g) behind) is (elim shut [
+  refused_so asked f behind is last = subst (λ g. Why e asked (replies.Refused g) behind) is (elim either [
     | inl so ↦ subst (λ g. Why g asked (replies.Refused g) behind) (sym so) (WhyNoReplica.Refused refl last)
     | inr so ↦ subst (λ g. Why g asked (replies.Refused g) behind) (sym so) (WhyUnsure.Refused refl last)
   ])
@@ -128,35 +128,35 @@ module _ (e : Refusal) (shut : (e ≡ refusals.NoReplica) ⊎ (e ≡ refusals.Un
   refused_change asked may last f (NoMemory memory is) = why_unsure asked (replies.Refused f) is (WhyUnsure.NoMemory may (ap (λ g. replies.Refused g) memory) refl)
   refused_change asked may last f (NoDisk disk is) = why_unsure asked (replies.Refused f) is (WhyUnsure.NoDisk may (ap (λ g. replies.Refused g) disk) refl)
 
-module _ {e : Refusal} {shut : (e ≡ refusals.NoReplica) ⊎ (e ≡ refusals.Unsure)} where
+module _ {e : Refusal} {either : (e ≡ refusals.NoReplica) ⊎ (e ≡ refusals.Unsure)} where
   -- ---- one request
 
-  pub look_has : {A : Type 0} (call : Called) (says : Answer → Result A Refusal) → only_looks (requests.Call call) ≡ true → Reads says → Holds e shut (look call says)
+  pub look_has : {A : Type 0} (call : Called) (says : Answer → Result A Refusal) → only_looks (requests.Call call) ≡ true → Reads says → Holds e either (look call says)
   look_has {A} call says looks reads = one_has (requests.Call call) (λ reply. and_then says (looked reply)) why
     where
       why : (reply : Reply) → Err e ≡ and_then says (looked reply) → Why e (requests.Call call) reply []
-      why (replies.Answer answer) is = not_other e shut ((reads.clear answer).other e is)
-      why (replies.Outcome outcome) is = clash e shut refusals.Stray stray_other is
-      why (replies.Given given) is = clash e shut refusals.Stray stray_other is
-      why (replies.Refused refusal) is = refused_so e shut (requests.Call call) refusal [] (err_is is) refl
-      why replies.Lost is = why_replica e shut (requests.Call call) replies.Lost (err_is is) (WhyNoReplica.Unanswered looks refl refl)
+      why (replies.Answer answer) is = not_other e either ((reads.clear answer).other e is)
+      why (replies.Outcome outcome) is = clash e either refusals.Stray stray_other is
+      why (replies.Given given) is = clash e either refusals.Stray stray_other is
+      why (replies.Refused refusal) is = refused_so e either (requests.Call call) refusal [] (err_is is) refl
+      why replies.Lost is = why_replica e either (requests.Call call) replies.Lost (err_is is) (WhyNoReplica.Unanswered looks refl refl)
 
-  pub change_has : {A : Type 0} (call : Called) (says : Answer → Result A Refusal) → may_change (requests.Call call) ≡ true → Reads says → Holds e shut (change call says)
+  pub change_has : {A : Type 0} (call : Called) (says : Answer → Result A Refusal) → may_change (requests.Call call) ≡ true → Reads says → Holds e either (change call says)
   change_has {A} call says may reads = one_has (requests.Call call) (λ reply. and_then says (changed reply)) why
     where
       why : (reply : Reply) → Err e ≡ and_then says (changed reply) → Why e (requests.Call call) reply []
-      why (replies.Answer answer) is = not_other e shut ((reads.clear answer).other e is)
-      why (replies.Outcome outcome) is = clash e shut refusals.Stray stray_other is
-      why (replies.Given given) is = clash e shut refusals.Stray stray_other is
-      why (replies.Refused refusal) is = refused_change e shut (requests.Call call) may refl refusal (unsettled refusal e (err_is is))
-      why replies.Lost is = why_unsure e shut (requests.Call call) replies.Lost (err_is is) (WhyUnsure.Unanswered may refl refl)
+      why (replies.Answer answer) is = not_other e either ((reads.clear answer).other e is)
+      why (replies.Outcome outcome) is = clash e either refusals.Stray stray_other is
+      why (replies.Given given) is = clash e either refusals.Stray stray_other is
+      why (replies.Refused refusal) is = refused_change e either (requests.Call call) may refl refusal (unsettled refusal e (err_is is))
+      why replies.Lost is = why_unsure e either (requests.Call call) replies.Lost (err_is is) (WhyUnsure.Unanswered may refl refl)
 
-  pub edit_has : (asked : Request) → may_change asked ≡ true → IsLast asked [] → Holds e shut (ask asked edited)
+  pub edit_has : (asked : Request) → may_change asked ≡ true → IsLast asked [] → Holds e either (ask asked edited)
   edit_has asked may last = one_has asked edited why
     where
       why : (reply : Reply) → Err e ≡ edited reply → Why e asked reply []
-      why (replies.Answer answer) is = clash e shut refusals.Stray stray_other is
+      why (replies.Answer answer) is = clash e either refusals.Stray stray_other is
       why (replies.Outcome outcome) is = never is
-      why (replies.Given given) is = clash e shut refusals.Stray stray_other is
-      why (replies.Refused refusal) is = refused_change e shut asked may last refusal (unsettled refusal e (err_is is))
-      why replies.Lost is = why_unsure e shut asked replies.Lost (err_is is) (WhyUnsure.Unanswered may refl refl)
+      why (replies.Given given) is = clash e either refusals.Stray stray_other is
+      why (replies.Refused refusal) is = refused_change e either asked may last refusal (unsettled refusal e (err_is is))
+      why replies.Lost is = why_unsure e either asked replies.Lost (err_is is) (WhyUnsure.Unanswered may refl refl)

@@ -51,10 +51,10 @@ ok_clear x = record { other = λ e is. never is }
 pub err_clear : {A : Type 0} (f : Refusal) → IsOther f → IsClear {A = A} (Err f)
 err_clear f so = record { other = λ e is. subst IsOther (sym (err_is is)) so }
 
-module _ (e : Refusal) (shut : (e ≡ refusals.NoReplica) ⊎ (e ≡ refusals.Unsure)) where
+module _ (e : Refusal) (either : (e ≡ refusals.NoReplica) ⊎ (e ≡ refusals.Unsure)) where
   -- one of the two is no other refusal
   pub not_other : {Z : Type 0} → IsOther e → Z
-  not_other so = elim shut [ inl is ↦ absurd (so.replica is) | inr is ↦ absurd (so.sure is) ]
+  not_other so = elim either [ inl is ↦ absurd (so.replica is) | inr is ↦ absurd (so.sure is) ]
 
   pub clash : {A Z : Type 0} (f : Refusal) → IsOther f → ◌≡◌ {A = Result A Refusal} (Err e) (Err f) → Z
   clash f so is = not_other (subst IsOther (sym (err_is is)) so)
@@ -90,60 +90,60 @@ module _ (e : Refusal) (shut : (e ≡ refusals.NoReplica) ⊎ (e ≡ refusals.Un
     | inr lacks ↦ clash refusals.Memory memory_other lacks.0
   ]
 
-module _ {e : Refusal} {shut : (e ≡ refusals.NoReplica) ⊎ (e ≡ refusals.Unsure)} where
-  pub said : {A : Type 0} {r : Result A Refusal} → IsClear r → Holds e shut (Say r)
-  said clear = record { tells = λ exchanges h. not_other e shut (clear.other e h.0) }
+module _ {e : Refusal} {either : (e ≡ refusals.NoReplica) ⊎ (e ≡ refusals.Unsure)} where
+  pub said : {A : Type 0} {r : Result A Refusal} → IsClear r → Holds e either (Say r)
+  said clear = record { tells = λ exchanges h. not_other e either (clear.other e h.0) }
 
-  pub grown : {A : Type 0} {call : Call A} → Holds e shut call → Holds e shut (Grow call)
+  pub grown : {A : Type 0} {call : Call A} → Holds e either call → Holds e either (Grow call)
   grown {call = call} holds = record { tells = tells }
     where
       tells : (exchanges : Exchanges) → Says (Grow call) exchanges (Err e) → Caused e exchanges
-      tells exchanges h = elim h [ inl goes ↦ holds.tells exchanges goes | inr lacks ↦ clash e shut refusals.Memory memory_other lacks.0 ]
+      tells exchanges h = elim h [ inl goes ↦ holds.tells exchanges goes | inr lacks ↦ clash e either refusals.Memory memory_other lacks.0 ]
 
   -- a call behind another, by what both came to
   pub upon_has : {A B : Type 0} (call : Call A) (go : Result A Refusal → Call B)
       → ((r : Result A Refusal) (first second whole : Exchanges) → whole ≡ first ++ second → Says call first r → Says (go r) second (Err e) → Caused e whole)
-      → Holds e shut (upon call go)
-  upon_has call go each = record { tells = λ exchanges h. (let s = upon_splits e shut call go exchanges h in each s.0 s.1 s.2 exchanges s.3 s.4 s.5) }
+      → Holds e either (upon call go)
+  upon_has call go each = record { tells = λ exchanges h. (let s = upon_splits e either call go exchanges h in each s.0 s.1 s.2 exchanges s.3 s.4 s.5) }
 
-  pub both_has : {A B : Type 0} {call : Call A} {go : A → Call B} → Holds e shut call → ((x : A) → Holds e shut (go x)) → Holds e shut (both call go)
+  pub both_has : {A B : Type 0} {call : Call A} {go : A → Call B} → Holds e either call → ((x : A) → Holds e either (go x)) → Holds e either (both call go)
   both_has {A = A} {call = call} {go = go} one more = upon_has call (onward go) each
     where
       each : (r : Result A Refusal) (first second whole : Exchanges) → whole ≡ first ++ second → Says call first r → Says (onward go r) second (Err e) → Caused e whole
-      each (Ok x) first second whole is says rest = behind_others e shut first second whole is ((more x).tells second rest)
+      each (Ok x) first second whole is says rest = behind_others e either first second whole is ((more x).tells second rest)
       each (Err f) first second whole is says rest =
-          the_whole e shut first second whole is rest.1 (one.tells first (subst (λ g. Says call first (Err g)) (sym (err_is rest.0)) says))
+          the_whole e either first second whole is rest.1 (one.tells first (subst (λ g. Says call first (Err g)) (sym (err_is rest.0)) says))
 
   -- where the first call is refused, by the other one alone
-  pub otherwise_has : {A : Type 0} (call : Call A) {other : Refusal → Call A} → ((f : Refusal) → Holds e shut (other f)) → Holds e shut (upon call (otherwise other))
+  pub otherwise_has : {A : Type 0} (call : Call A) {other : Refusal → Call A} → ((f : Refusal) → Holds e either (other f)) → Holds e either (upon call (otherwise other))
   otherwise_has {A = A} call {other = other} more = upon_has call (otherwise other) each
     where
       each : (r : Result A Refusal) (first second whole : Exchanges) → whole ≡ first ++ second → Says call first r → Says (otherwise other r) second (Err e) → Caused e whole
       each (Ok x) first second whole is says rest = never rest.0
-      each (Err f) first second whole is says rest = behind_others e shut first second whole is ((more f).tells second rest)
+      each (Err f) first second whole is says rest = behind_others e either first second whole is ((more f).tells second rest)
 
   -- by both, where the other one is taken after some refusals alone
-  pub again_has : {A : Type 0} {call : Call A} (takes : Refusal → Bool) {other : Refusal → Call A} → Holds e shut call → ((f : Refusal) → Holds e shut (other f))
-      → Holds e shut (upon call (otherwise (λ f. if takes f then other f else Say (Err f))))
+  pub again_has : {A : Type 0} {call : Call A} (takes : Refusal → Bool) {other : Refusal → Call A} → Holds e either call → ((f : Refusal) → Holds e either (other f))
+      → Holds e either (upon call (otherwise (λ f. if takes f then other f else Say (Err f))))
   again_has {A = A} {call = call} takes {other = other} one more = upon_has call (otherwise (λ f. if takes f then other f else Say (Err f))) each
     where
       by_test : (b : Bool) (f : Refusal) (first second whole : Exchanges) → whole ≡ first ++ second → Says call first (Err f)
           → Says (if b then other f else Say (Err f)) second (Err e) → Caused e whole
-      by_test true f first second whole is says rest = behind_others e shut first second whole is ((more f).tells second rest)
+      by_test true f first second whole is says rest = behind_others e either first second whole is ((more f).tells second rest)
       by_test false f first second whole is says rest =
-          the_whole e shut first second whole is rest.1 (one.tells first (subst (λ g. Says call first (Err g)) (sym (err_is rest.0)) says))
+          the_whole e either first second whole is rest.1 (one.tells first (subst (λ g. Says call first (Err g)) (sym (err_is rest.0)) says))
 
       each : (r : Result A Refusal) (first second whole : Exchanges) → whole ≡ first ++ second → Says call first r
           → Says (otherwise (λ f. if takes f then other f else Say (Err f)) r) second (Err e) → Caused e whole
       each (Ok x) first second whole is says rest = never rest.0
       each (Err f) first second whole is says rest = by_test (takes f) f first second whole is says rest
 
-  pub chosen_has : {A : Type 0} (b : Bool) {this that : Call A} → Holds e shut this → Holds e shut that → Holds e shut (if b then this else that)
+  pub chosen_has : {A : Type 0} (b : Bool) {this that : Call A} → Holds e either this → Holds e either that → Holds e either (if b then this else that)
   chosen_has true one other = one
   chosen_has false one other = other
 
   -- one request
-  pub one_has : {A : Type 0} (asked : Request) (says : Reply → Result A Refusal) → ((reply : Reply) → Err e ≡ says reply → Why e asked reply []) → Holds e shut (ask asked says)
+  pub one_has : {A : Type 0} (asked : Request) (says : Reply → Result A Refusal) → ((reply : Reply) → Err e ≡ says reply → Why e asked reply []) → Holds e either (ask asked says)
   one_has asked says why = record {
     tells = λ exchanges h. record {
       before = [];

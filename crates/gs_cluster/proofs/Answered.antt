@@ -150,12 +150,12 @@ module _ {D : Type 0} (seen : D → List ℕ) (failures : D → ℕ) where
       by_hearing after is (Takes req reply brings so) = stays after is (so ∙ takes_nothing req reply n none)
 
   -- all of them
-  record Heard_ (id : ClientId) (number : ℕ) (took : List Entry) (old new : Kept (Role D)) : Type 0 where
+  record HasHeard (id : ClientId) (number : ℕ) (took : List Entry) (old new : Kept (Role D)) : Type 0 where
     more : List Entry
     grows : new.entries ≡ old.entries ++ more
     state : State id number (took ++ more) new.past.core
 
-  hears_all : (id : ClientId) (number : ℕ) (messages : List Sent) (took : List Entry) (old new : Kept (Role D)) → State id number took old.past.core → HearsThem seen failures messages old new → Heard_ id number took old new
+  hears_all : (id : ClientId) (number : ℕ) (messages : List Sent) (took : List Entry) (old new : Kept (Role D)) → State id number took old.past.core → HearsThem seen failures messages old new → HasHeard id number took old new
   hears_all id number [] took old new state same = record {
     more = [];
     grows = ap (λ (k : Kept (Role D)). k.entries) same ∙ sym (append-nil old.entries);
@@ -267,7 +267,7 @@ module _ {D : Type 0} (seen : D → List ℕ) (failures : D → ℕ) where
       b : Begun req.number old.past.core asked.past.core
       b = begun moment req request old.past.core step.entry.outcome asked.past.core does step.says
 
-      h : Heard_ b.id req.number [] asked new
+      h : HasHeard b.id req.number [] asked new
       h = hears_all b.id req.number all.messages [] asked new b.state all.hears
 
       whole : client_of new.past.core ≡ Some b.id

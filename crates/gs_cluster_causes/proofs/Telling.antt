@@ -130,11 +130,11 @@ module _ {D : Type 0} (seen : D → List ℕ) (failures : D → ℕ) where
     Goes : (moment : Moment) (req : ReqId) → Carries seen failures moment req request old reply new → Over old request reply new
     Ends : new ≡ old → reply ≡ replies.Refused refusals.Exhausted → Over old request reply new
 
-  record Heard_ (old : Kept (Role D)) (request : Request) (reply : Reply) (new : Kept (Role D)) : Type 0 where
+  record HasHeard (old : Kept (Role D)) (request : Request) (reply : Reply) (new : Kept (Role D)) : Type 0 where
     more : Grows old new
     told : Told more.took (client_of old.past.core) request reply
 
-  heard : (old : Kept (Role D)) (request : Request) (reply : Reply) (new : Kept (Role D)) → Over old request reply new → Heard_ old request reply new
+  heard : (old : Kept (Role D)) (request : Request) (reply : Reply) (new : Kept (Role D)) → Over old request reply new → HasHeard old request reply new
   heard old request reply new (Ends same is) = record {
     more = record { took = []; grows = ap (λ (k : Kept (Role D)). k.entries) same ∙ sym (append-nil old.entries); stays = ap (λ (k : Kept (Role D)). client_of k.past.core) same };
     told = ByClock is;
@@ -272,7 +272,7 @@ module _ {D : Type 0} (seen : D → List ℕ) (failures : D → ℕ) where
         first : Grows (node old) (node x.from)
         first = all_grow x.before old x.from x.led
 
-        h : Heard_ (node x.from) x.asked x.reply (node x.to)
+        h : HasHeard (node x.from) x.asked x.reply (node x.to)
         h = heard (node x.from) x.asked x.reply (node x.to) (over x.from x.asked x.reply x.to x.came)
 
         client : Option ClientId
@@ -297,7 +297,7 @@ module _ {D : Type 0} (seen : D → List ℕ) (failures : D → ℕ) where
     unsure : {A : Type 0} (call : Call A) (old new : S) → Explained carries call refusals.Unsure old new → InHistory UnsureOf (node old) (node new)
     unsure call old new x = by_why x.why
       where
-        h : Heard_ (node x.from) x.asked x.reply (node x.to)
+        h : HasHeard (node x.from) x.asked x.reply (node x.to)
         h = heard (node x.from) x.asked x.reply (node x.to) (over x.from x.asked x.reply x.to x.came)
 
         here : UnsureOf (client_of (node x.from).past.core) h.more.took → InHistory UnsureOf (node old) (node new)
