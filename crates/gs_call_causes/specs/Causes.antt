@@ -1,6 +1,6 @@
 -- Why a call answers that no replica was reached (28), or that it isn't sure whether what it asked for stands (29): which of the replies that came in it
 -- that is from.
-use Rattle.std.specs.Prelude.{◌≡◌, ◌∷◌, ℕ, List, [], Bool, true, false}
+use Rattle.std.specs.Prelude.{◌≡◌, ◌∷◌, ℕ, List, [], Bool, true, false, not}
 use Rattle.std.specs.List.{AllByRecursion}
 use Rattle.gs_base.specs.declared.refusal.Refusal.{Refusal}
 use Rattle.gs_base.specs.declared.refusal.Refusal.TheVariants as refusals
@@ -37,12 +37,7 @@ is_fetch request = false
 
 -- any other call of the master, and an edit
 abbrev pub may_change : Request → Bool
-may_change (requests.Call (calls.List path)) = false
-may_change (requests.Call (calls.Status path)) = false
-may_change (requests.Call (calls.FindForReading path index)) = false
-may_change (requests.Call (calls.FindForWriting path index refused)) = false
-may_change (requests.Call calls.Query) = false
-may_change (requests.Call call) = true
+may_change (requests.Call call) = not (only_looks (requests.Call call))
 may_change (requests.Write handle members primary stamp op bytes) = true
 may_change (requests.Fetch to handle stamp epoch asked) = false
 
