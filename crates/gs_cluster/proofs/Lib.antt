@@ -9,3 +9,5 @@ pub mod Refused
 pub mod Hearing
 pub mod Moving
 pub mod Ended
+pub mod Answered
+mod Clients
