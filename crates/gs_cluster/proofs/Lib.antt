@@ -7,3 +7,7 @@ pub mod Ending
 pub mod Seeding
 pub mod Refused
 pub mod Hearing
+pub mod Moving
+pub mod Ended
+pub mod Answered
+mod Clients

@@ -1,7 +1,9 @@
 -- Numbers of nodes, in their order.
-use Rattle.std.proofs.Common.{◌≡◌, ◌∙◌, ◌+◌, ◌-◌, ◌<◌, ◌≤◌, ◌⊎◌, ◌++◌, ◌&&◌, ℕ, zero, suc, true, List, [], ◌∷◌, Some, None, map, length, length-append, refl, sym, ap, subst, inl, inr, ⊎_elim, arith, slice_get}
+use Rattle.std.proofs.Common.{◌≡◌, ◌∙◌, ◌+◌, ◌-◌, ◌<◌, ◌≤◌, ◌⊎◌, ◌++◌, ◌&&◌, ℕ, zero, suc, Bool, true, false, List, [], ◌∷◌, Some, None, map, length, length-append, refl, sym, ap, subst, inl, inr, ⊎_elim, arith, slice_get}
+use Rattle.std.specs.Prelude.{nat_le}
+use Rattle.std.proofs.lemmas.Bool.{leb-true}
 use Rattle.std.proofs.lemmas.Option.{none-some, same_Some, slice_get_within}
-use Rattle.gs_base.specs.Configs.{is_config}
+use Rattle.gs_base.specs.Configs.{is_within}
 use Rattle.gs_base.specs.declared.config.Config.{Config}
 use Rattle.gs_msg.specs.declared.node.NodeId.{NodeId}
 use Rattle.gs_msg.specs.declared.node.NodeId.TheVariants as ids
@@ -44,6 +46,17 @@ client_at (suc many) i inside =
           (ap (slice_get (client_ids many ++ ids.Client (record { 0 = many + 1 }) ∷ [])) (sym long) ∙ at_last (client_ids many) (ids.Client (record { 0 = many + 1 })))
     ]
 
+both_left : (a b : Bool) → (a && b) ≡ true → a ≡ true
+both_left true b h = refl
+both_left false b h = absurd cc
+
+both_right : (a b : Bool) → (a && b) ≡ true → b ≡ true
+both_right true b h = h
+both_right false b h = absurd cc
+
+pub few_servers : (c : Config) → c.servers ≤ 16
+few_servers c = leb-true c.servers 16 (both_right (nat_le 1 c.servers) (nat_le c.servers 16) (both_left (is_within c.servers 1 16) _ c.valid))
+
 module _ (setting : Setting) where
   abbrev servers : ℕ
   servers = setting.config.servers
@@ -56,6 +69,12 @@ module _ (setting : Setting) where
       let s = servers_long servers in
       let c = clients_long clients in
       omega (arith, length-append (server_ids servers) (client_ids clients))
+
+  pub few_nodes : clients ≤ 16 → length (all_ids setting) < 1024
+  few_nodes few =
+      let long = all_long in
+      let s = few_servers setting.config in
+      omega arith
 
   pub server_stands : (i : ℕ) → i < servers → slice_get (all_ids setting) (suc i) ≡ Some (ids.Server i)
   server_stands i inside =

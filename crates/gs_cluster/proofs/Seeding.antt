@@ -2,7 +2,6 @@
 use Rattle.std.proofs.Common.{◌≡◌, ◌∙◌, ◌+◌, ◌<◌, ◌≤◌, ◌++◌, ℕ, zero, suc, List, [], ◌∷◌, Option, Some, None, Ok, map, option_map, length, length-append, refl, sym, ap, subst, inl, inr, arith, slice_get}
 use Rattle.std.proofs.lemmas.List.{map-append}
 use Rattle.std.proofs.lemmas.Option.{none-some, same_Some, slice_get_past, slice_get_within}
-use Rattle.crossbeam_channel.specs.Claims.{Pass}
 use Rattle.gs_base.specs.declared.config.Config.{Config}
 use Rattle.gs_client.specs.Nodes.{Node, silent}
 use Rattle.gs_msg.specs.declared.message.Message.{Message}
@@ -115,6 +114,13 @@ module _ {D : Type 0} (seen : D → List ℕ) (failures : D → ℕ) (config : C
   pub is_new : 1 ≤ clients → clients ≤ 16 → IsNew seen failures setting seeds
   is_new some few = record { some = some; few = few; all = all; starts = starts }
 
+-- the master, then the servers, then the clients
+pub rows_joined : {D : Type 0} (config : Config) (clients : ℕ) (none one more all : List (Seed (Role D))) (first : Seed (Role D))
+    → none ≡ [] → one ≡ none ++ first ∷ [] → rows_of more ≡ rows_of one ++ server_rows config config.servers → rows_of all ≡ rows_of more ++ client_rows clients
+    → rows_of all ≡ row_of first ∷ (server_rows config config.servers ++ client_rows clients)
+rows_joined {D} config clients none one more whole first nothing push servers rest =
+    rest ∙ ap (λ (rs : List (Row D)). rs ++ client_rows clients) (servers ∙ ap (λ (ss : List (Seed (Role D))). rows_of ss ++ server_rows config config.servers) (push ∙ ap (λ (ss : List (Seed (Role D))). ss ++ first ∷ []) nothing))
+
 -- ---- names, and nodes that have done nothing
 
 module _ {D : Type 0} (seen : D → List ℕ) (failures : D → ℕ) (setting : Setting) (seeds : List (Seed (Role D))) (all : numbers_of seeds ≡ all_ids setting)
@@ -152,7 +158,7 @@ module _ {D : Type 0} (seen : D → List ℕ) (failures : D → ℕ) (setting : 
       ∙ ap (λ (c : Role D). record { me = ids.Client (record { 0 = i + 1 }); past = record { core = c; clock = 0; sent = first_sent s.turn }; entries = [] }) b.0
       ∙ ap (λ (ms : List Message). record { me = ids.Client (record { 0 = i + 1 }); past = record { core = Client (silent (record { 0 = i + 1 })); clock = 0; sent = map (listed 0 (record { 0 = 0 })) ms }; entries = [] }) b.1
 
-  seeds_long : length seeds ≡ 1 + setting.config.servers + setting.clients
+  pub seeds_long : length seeds ≡ 1 + setting.config.servers + setting.clients
   seeds_long = sym (length_map (λ (x : Seed (Role D)). x.line.me) seeds) ∙ ap (λ (ns : List NodeId). length ns) all ∙ all_long setting
 
   module _ (keepers rest : List (Kept (Role D))) (parts : keepers ++ rest ≡ map fresh seeds) (many : length keepers ≡ setting.config.servers + 1) where
@@ -179,3 +185,11 @@ module _ {D : Type 0} (seen : D → List ℕ) (failures : D → ℕ) (setting : 
 
     pub are_fresh : rest ≡ fresh_clients setting.clients
     are_fresh = same_lists rest (fresh_clients setting.clients) client_each
+
+-- ---- how many there are
+
+pub enough : (opened servers clients len items seeds : ℕ) → opened ≡ servers → len ≡ items → items ≡ seeds → seeds ≡ 1 + servers + clients → opened + 1 ≤ len
+enough opened servers clients len items seeds same own fresh all = omega arith
+
+pub all_together : (hosts keepers opened servers clients all : ℕ) → hosts ≡ keepers → keepers ≡ opened + 1 → opened ≡ servers → all ≡ 1 + servers + clients → hosts + clients ≡ all
+all_together hosts keepers opened servers clients all first second same long = omega arith

@@ -1,5 +1,5 @@
 -- What a cluster has come to when its threads have ended.
-use Rattle.std.specs.Prelude.{◌≡◌, ℕ, List, length, Result, Ok, Err}
+use Rattle.std.specs.Prelude.{◌≡◌, ℕ, List, length, map, Result, Ok, Err}
 use Rattle.gs_base.specs.declared.refusal.Refusal.{Refusal}
 use Rattle.gs_base.specs.declared.refusal.Refusal.TheVariants as refusals
 use Rattle.gs_msg.specs.declared.event.DiskId.{DiskId}
@@ -10,14 +10,15 @@ use Rattle.gs_cluster_core.specs.Stores.{IsStoreRun}
 use Rattle.gs_cluster_core.specs.declared.role.Role.{Role}
 use Rattle.gs_cluster_history.specs.Histories.{Among, Kept}
 use Rattle.gs_cluster_history.specs.Merging.{places_of}
-use Rattle.gs_cluster_history.specs.Setting.{Setting}
+use Rattle.gs_cluster_history.specs.Setting.{Setting, all_ids}
 
 module _ {D : Type 0} (seen : D → List ℕ) (failures : D → ℕ) (setting : Setting) (callers : List (Kept (Role D))) where
-  -- The histories of all nodes, those of the callers among them, by their clocks, are a run of a store that has begun new; these nodes are
+  -- The histories of all nodes, in the order of their numbers and those of the callers among them, by their clocks, are a run of a store that has begun new; these nodes are
   -- what it leads to.
   pub record HasRun (nodes : Nodes D) : Type 0 where
     pub kept : List (Kept (Role D))
     pub among : (k : Kept (Role D)) → Among callers k → Among kept k
+    pub numbers : map (λ (k : Kept (Role D)). k.me) kept ≡ all_ids setting
     pub run : (armed : DiskId → ℕ → MasterPlace D → MasterPlace D) → IsStoreRun seen failures armed setting kept (places_of kept)
     pub ends : (armed : DiskId → ℕ → MasterPlace D → MasterPlace D) → (run armed).end.nodes ≡ nodes_of nodes
 

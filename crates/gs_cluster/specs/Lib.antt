@@ -1,4 +1,5 @@
 pub mod Calling
+pub mod Answered
 pub mod Finished
 pub mod Linked
 pub mod Opened

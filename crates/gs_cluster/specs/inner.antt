@@ -1,3 +1,4 @@
 -- What the crate's own functions say of one another's work. No clause of a public call cites this file.
+pub mod Looking
 pub mod Members
 pub mod Seeds

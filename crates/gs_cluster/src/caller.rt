@@ -1,5 +1,6 @@
-ghost use Rattle.std.specs.Prelude.{◌≡◌};
+ghost use Rattle.std.specs.Prelude.{◌≡◌, ◌<◌};
 ghost use Rattle.gs_cluster.specs.Calling.{HearsAll, Replied};
+ghost use Rattle.gs_cluster.specs.inner.Looking.{Looks, most_looks};
 
 use gs_base::{Moment, Refusal, ReqId};
 use gs_client::{Link, Reply};
@@ -35,6 +36,31 @@ fn reply_at<D: Disk + Drop>(alloc: Global, role: &Role<D>) -> Option<Reply>
     }
 }
 
+/// Hears a message, if one waits. Else it rests a little, and where it has looked for long, what was asked goes out once more. How often it has
+/// looked since it heard or asked.
+fn look<N: Plan, D: Disk + Drop, R: Wait + Clock>(
+    rt: &R,
+    alloc: Global,
+    node: &mut Node<N, Role<D>>,
+    looks: u32,
+) -> Result<u32, Refusal>
+    requires { looks < most_looks }
+    ensures { Looks D.seen D.failures node.old result node.new }
+{
+    match node.receive(rt, alloc, &Open) {
+        Ok(Some(_)) => return Ok(0),
+        Ok(None) => {}
+        Err(refusal) => return Err(refusal),
+    }
+    let many = looks + 1;
+    rest(rt, many);
+    if many < LOOKS {
+        return Ok(many);
+    }
+    node.again(rt, alloc);
+    Ok(0)
+}
+
 impl<N: Plan, D: Disk + Drop, R: Wait + Clock + Drop> Caller<N, D, R> {
     /// Sets the moment of what it asks from now on.
     pub fn at(&mut self, moment: Moment)
@@ -60,16 +86,8 @@ impl<N: Plan, D: Disk + Drop, R: Wait + Clock + Drop> Caller<N, D, R> {
             if let Some(reply) = reply_at(*alloc, node.core()) {
                 return reply;
             }
-            match node.receive(rt, *alloc, &Open) {
-                Ok(Some(_)) => looks = 0,
-                Ok(None) => {
-                    looks += 1;
-                    rest(rt, looks);
-                    if looks >= LOOKS {
-                        node.again(rt, *alloc);
-                        looks = 0;
-                    }
-                }
+            match look(rt, *alloc, node, looks) {
+                Ok(many) => looks = many,
                 Err(refusal) => return Reply::Refused(refusal),
             }
         }

@@ -10,6 +10,7 @@ use crate::nodes::nodes_from;
 use crate::opening::Opened;
 use gs_base::{Config, Moment, Refusal};
 use gs_cluster_core::Role;
+use gs_cluster_core::promises::matching_histories_are_a_run_of_the_store;
 use gs_cluster_history::Core;
 use gs_cluster_node::{Gate, Node, Plan};
 use gs_cluster_threads::{Hosts, wire};
@@ -33,23 +34,23 @@ where
     pub ghost many: { vec_len hosts.handles + N.setting.clients ≡ length (all_ids N.setting) },
 }
 
-/// So many first nodes, and those behind them.
-fn parted<N: Plan, D: Disk + Drop>(
+/// So many first items, and those behind them.
+fn parted<T: Drop>(
     alloc: Global,
     many: usize,
-    nodes: Vec<Node<N, Role<D>>>,
-) -> Result<(Vec<Node<N, Role<D>>>, Vec<Node<N, Role<D>>>), AllocError>
-    requires { many ≤ vec_len nodes }
-    ensures all { IfOk result (λ p. p.0.items ++ p.1.items ≡ nodes.items) }
+    items: Vec<T>,
+) -> Result<(Vec<T>, Vec<T>), AllocError>
+    requires { many ≤ vec_len items }
+    ensures all { IfOk result (λ p. p.0.items ++ p.1.items ≡ items.items) }
     ensures many { IfOk result (λ p. vec_len p.0 ≡ many) }
 {
     let mut first = Vec::new(alloc);
     let mut rest = Vec::new(alloc);
-    for node in nodes {
+    for item in items {
         if first.len() < many {
-            first.push(node)?;
+            first.push(item)?;
         } else {
-            rest.push(node)?;
+            rest.push(item)?;
         }
     }
     Ok((first, rest))
@@ -143,6 +144,7 @@ impl<N: Plan + Send + Sync + 'static, D: Disk + Drop + Send + 'static> Cluster<N
         } = self;
         let of_callers = nodes_of_callers(alloc, callers)?;
         let members = hosts.finish(rt, of_callers)?;
+        matching_histories_are_a_run_of_the_store::<D>();
         Ok(nodes_from(alloc, config, members)?)
     }
 }

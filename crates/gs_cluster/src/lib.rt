@@ -5,6 +5,7 @@ mod caller;
 mod cluster;
 mod nodes;
 mod opening;
+pub mod promises;
 
 pub use caller::Caller;
 pub use cluster::Cluster;

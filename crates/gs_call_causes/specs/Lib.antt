@@ -1,0 +1,4 @@
+pub mod Causes
+pub mod Carried
+pub mod Calls
+pub mod Examples

@@ -1,0 +1,76 @@
+-- What the threads and callers of a cluster leave is a run of a store, and the nodes that it leads to.
+use Rattle.std.proofs.Common.{◌≡◌, ◌≢◌, ◌∙◌, ◌+◌, ◌++◌, ◌⊎◌, inl, inr, ℕ, List, [], ◌∷◌, Some, Err, length, map, refl, sym, ap, subst, slice_get}
+use Rattle.gs_base.specs.declared.config.Config.{Config}
+use Rattle.gs_base.specs.declared.refusal.Refusal.{Refusal}
+use Rattle.gs_base.specs.declared.refusal.Refusal.TheVariants as refusals
+use Rattle.gs_client.specs.Nodes.{Node}
+use Rattle.gs_msg.specs.declared.event.DiskId.{DiskId}
+use Rattle.gs_msg.specs.declared.node.NodeId.{NodeId}
+use Rattle.gs_msg.specs.declared.node.NodeId.TheVariants as ids
+use Rattle.gs_nodes.specs.Nodes.{Nodes, nodes_of}
+use Rattle.gs_nodes.specs.declared.nodes.Nodes as held
+use Rattle.gs_nodes.specs.declared.place.MasterPlace.{MasterPlace}
+use Rattle.gs_server.specs.Servers.{Server}
+use Rattle.gs_cluster_core.specs.Roles.{DoesAs, StartsAs}
+use Rattle.gs_cluster_core.specs.Stores.{Differ, IsStoreRun}
+use Rattle.gs_cluster_core.specs.declared.role.Role.{Role}
+use Rattle.gs_cluster_core.specs.declared.role.Role.TheVariants.{Master, Server as AServer, Client}
+use Rattle.gs_cluster_history.specs.Histories.{Among, Kept}
+use Rattle.gs_cluster_history.specs.Merging.{AllKept, Matches, places_of}
+use Rattle.gs_cluster_history.specs.Setting.{Setting, all_ids, store_ids}
+use Rattle.gs_cluster_threads.specs.Gathered.{IsWhole, member_of}
+use Rattle.gs_cluster_threads.specs.declared.gathering.Member.{Member}
+use Rattle.gs_cluster.specs.Finished.{Finished, HasRun}
+use Rattle.gs_cluster.specs.inner.Members.{AreOf, cores_of, masters_in}
+use Rattle.gs_cluster.proofs.Ending.{are_of, sized}
+use Rattle.gs_cluster.proofs.Numbers.{all_differ}
+
+head_of : {A : Type 0} (x y : A) (xs ys : List A) → ◌≡◌ {A = List A} (x ∷ xs) (y ∷ ys) → x ≡ y
+head_of x y xs ys e = cc
+
+first_there : {C : Type 0} (ks : List (Kept C)) (me : NodeId) (rest : List NodeId) → map (λ (k : Kept C). k.me) ks ≡ me ∷ rest → (k : Kept C) × (slice_get ks 0 ≡ Some k) × (k.me ≡ me)
+first_there [] me rest h = absurd cc
+first_there (k ∷ ks) me rest h = (k, refl, head_of k.me me _ _ h)
+
+cores_are : {D : Type 0} (ks : List (Kept (Role D))) → cores_of (map member_of ks) ≡ map (λ (k : Kept (Role D)). k.past.core) ks
+cores_are [] = refl
+cores_are (k ∷ ks) = ap (λ l. k.past.core ∷ l) (cores_are ks)
+
+module _ {D : Type 0} (seen : D → List ℕ) (failures : D → ℕ) where
+  -- histories that match are a run of the store
+  abbrev pub AreARun : Type 0
+  AreARun =
+      (armed : DiskId → ℕ → MasterPlace D → MasterPlace D) (setting : Setting) (ks : List (Kept (Role D))) → AllKept (DoesAs seen failures) (StartsAs seen failures setting) ks → Matches ks
+      → Differ (map (λ (k : Kept (Role D)). k.me) ks) → (i : ℕ) (k : Kept (Role D)) → slice_get ks i ≡ Some k → k.me ≡ ids.Master → IsStoreRun seen failures armed setting ks (places_of ks)
+
+  module _ (law : AreARun) (setting : Setting) (callers : List (Kept (Role D))) (members : List (Member (Role D)))
+      (w : IsWhole (DoesAs seen failures) (StartsAs seen failures setting) (all_ids setting) callers members) where
+    run_of : (armed : DiskId → ℕ → MasterPlace D → MasterPlace D) → IsStoreRun seen failures armed setting w.nodes (places_of w.nodes)
+    run_of armed =
+        let first = first_there w.nodes ids.Master _ w.numbers in
+        law armed setting w.nodes w.kept w.match (subst (λ ns. Differ ns) (sym w.numbers) (all_differ setting)) 0 first.0 first.1 first.2
+
+    roles_are : (armed : DiskId → ℕ → MasterPlace D → MasterPlace D) → AreOf (run_of armed).end.nodes (cores_of members)
+    roles_are armed = ap (λ (ms : List (Member (Role D))). cores_of ms) w.are ∙ cores_are w.nodes ∙ are_of seen failures armed setting w.nodes (places_of w.nodes) w.numbers (run_of armed)
+
+    not_none : (place : MasterPlace D) (roles rest : List (Role D)) → roles ≡ Master place ∷ rest → masters_in roles ≢ []
+    not_none place roles rest is none = let e = ap (λ (rs : List (Role D)). masters_in rs) (sym is) ∙ none in absurd cc
+
+    pub has_master : masters_in (cores_of members) ≢ []
+    has_master = not_none _ (cores_of members) _ (roles_are (λ disk call place. place))
+
+    pub has_run : (config : Config) (nodes : held.Nodes D) → config ≡ setting.config → ((n : Nodes D) → n.config ≡ config → AreOf n (cores_of members) → nodes_of nodes ≡ n)
+        → HasRun seen failures setting callers nodes
+    has_run config nodes sizes from = record {
+      kept = w.nodes;
+      among = w.among;
+      numbers = w.numbers;
+      run = run_of;
+      ends = λ armed. sym (from (run_of armed).end.nodes (sized seen failures armed setting w.nodes (places_of w.nodes) w.numbers (run_of armed) ∙ sym sizes) (roles_are armed));
+    }
+
+  -- why it didn't end well
+  pub refused : (setting : Setting) (callers : List (Kept (Role D))) (threads : ℕ) (refusal : Refusal) → (refusal ≡ refusals.Memory) ⊎ ((refusal ≡ refusals.Stray) × (threads + length callers ≡ length (all_ids setting) → ⊥))
+      → threads + setting.clients ≡ length (all_ids setting) → Finished seen failures setting callers (Err refusal)
+  refused setting callers threads refusal (inl is) many = subst (λ r. Finished seen failures setting callers (Err r)) (sym is) tt
+  refused setting callers threads refusal (inr (is, other)) many = subst (λ r. Finished seen failures setting callers (Err r)) (sym is) (λ same. other (ap (λ n. threads + n) same ∙ many))
