@@ -18,6 +18,7 @@ use Rattle.gs_cluster_core.specs.declared.role.Role.TheVariants.{Master, Server 
 use Rattle.gs_cluster_history.specs.Histories.{Among, Kept}
 use Rattle.gs_cluster_history.specs.Merging.{AllKept, Matches, places_of}
 use Rattle.gs_cluster_history.specs.Setting.{Setting, all_ids, store_ids}
+use Rattle.gs_cluster_notes.specs.declared.notes.Notes.{Notes}
 use Rattle.gs_cluster_threads.specs.Gathered.{IsWhole, member_of}
 use Rattle.gs_cluster_threads.specs.declared.gathering.Member.{Member}
 use Rattle.gs_cluster.specs.Finished.{Finished, HasRun}
@@ -43,14 +44,14 @@ module _ {D : Type 0} (seen : D → List ℕ) (failures : D → ℕ) where
       (armed : DiskId → ℕ → MasterPlace D → MasterPlace D) (setting : Setting) (ks : List (Kept (Role D))) → AllKept (DoesAs seen failures) (StartsAs seen failures setting) ks → Matches ks
       → Differ (map (λ (k : Kept (Role D)). k.me) ks) → (i : ℕ) (k : Kept (Role D)) → slice_get ks i ≡ Some k → k.me ≡ ids.Master → IsStoreRun seen failures armed setting ks (places_of ks)
 
-  module _ (law : AreARun) (setting : Setting) (callers : List (Kept (Role D))) (members : List (Member (Role D)))
-      (w : IsWhole (DoesAs seen failures) (StartsAs seen failures setting) (all_ids setting) callers members) where
-    run_of : (armed : DiskId → ℕ → MasterPlace D → MasterPlace D) → IsStoreRun seen failures armed setting w.nodes (places_of w.nodes)
+  module _ (law : AreARun) (setting : Setting) (callers : List (Kept (Role D))) (members : List (Member (Role D))) (notes : List Notes)
+      (w : IsWhole (DoesAs seen failures) (StartsAs seen failures setting) (all_ids setting) callers members notes) where
+    pub run_of : (armed : DiskId → ℕ → MasterPlace D → MasterPlace D) → IsStoreRun seen failures armed setting w.nodes (places_of w.nodes)
     run_of armed =
         let first = first_there w.nodes ids.Master _ w.numbers in
         law armed setting w.nodes w.kept w.match (subst (λ ns. Differ ns) (sym w.numbers) (all_differ setting)) 0 first.0 first.1 first.2
 
-    roles_are : (armed : DiskId → ℕ → MasterPlace D → MasterPlace D) → AreOf (run_of armed).end.nodes (cores_of members)
+    pub roles_are : (armed : DiskId → ℕ → MasterPlace D → MasterPlace D) → AreOf (run_of armed).end.nodes (cores_of members)
     roles_are armed = ap (λ (ms : List (Member (Role D))). cores_of ms) w.are ∙ cores_are w.nodes ∙ are_of seen failures armed setting w.nodes (places_of w.nodes) w.numbers (run_of armed)
 
     not_none : (place : MasterPlace D) (roles rest : List (Role D)) → roles ≡ Master place ∷ rest → masters_in roles ≢ []

@@ -35,7 +35,7 @@ new_long : (many : ℕ) → length (new_clients many) ≡ many
 new_long zero = refl
 new_long (suc many) = let before = new_long many in omega (arith, length-append (new_clients many) (silent (record { 0 = many + 1 }) ∷ []))
 
-found_in_map : {X Y : Type 0} (f : X → Y) (xs : List X) (i : ℕ) (y : Y) → slice_get (map f xs) i ≡ Some y → (x : X) × (slice_get xs i ≡ Some x) × (f x ≡ y)
+pub found_in_map : {X Y : Type 0} (f : X → Y) (xs : List X) (i : ℕ) (y : Y) → slice_get (map f xs) i ≡ Some y → (x : X) × (slice_get xs i ≡ Some x) × (f x ≡ y)
 found_in_map f [] i y h = absurd (none-some y h)
 found_in_map f (x ∷ xs) zero y h = (x, refl, same_Some (f x) y h)
 found_in_map f (x ∷ xs) (suc i) y h = found_in_map f xs i y h
@@ -103,14 +103,14 @@ module _ {D : Type 0} (seen : D → List ℕ) (failures : D → ℕ) (armed : Di
 
   -- ---- as many as there are
 
-  other_server : Among (map (λ (k : Kept (Role D)). k.me) ks) (ids.Server many) → ⊥
+  pub other_server : Among (map (λ (k : Kept (Role D)). k.me) ks) (ids.Server many) → ⊥
   other_server (k, at) = elim (stands setting k (ids.Server many) (ap (λ l. slice_get l k) (sym numbers) ∙ at)) [
     | AMaster first is ↦ absurd (cc)
     | IsServer i below place is ↦ let same = ap number is in absurd (omega arith)
     | AClient i below place is ↦ absurd (cc)
   ]
 
-  other_client : Among (map (λ (k : Kept (Role D)). k.me) ks) (ids.Client (record { 0 = setting.clients + 1 })) → ⊥
+  pub other_client : Among (map (λ (k : Kept (Role D)). k.me) ks) (ids.Client (record { 0 = setting.clients + 1 })) → ⊥
   other_client (k, at) = elim (stands setting k (ids.Client (record { 0 = setting.clients + 1 })) (ap (λ l. slice_get l k) (sym numbers) ∙ at)) [
     | AMaster first is ↦ absurd (cc)
     | IsServer i below place is ↦ absurd (cc)

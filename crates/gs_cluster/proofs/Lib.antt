@@ -11,3 +11,7 @@ pub mod Moving
 pub mod Ended
 pub mod Answered
 mod Clients
+pub mod Ordered
+pub mod Senders
+pub mod SentBy
+pub mod Whole

@@ -1,21 +1,26 @@
 ghost use Rattle.std.specs.Prelude.{◌≡◌, ◌+◌, ◌++◌, ◌≤◌, All, IfOk, length, map, vec_len};
-ghost use Rattle.gs_cluster.specs.Finished.{Finished};
+ghost use Rattle.gs_cluster.specs.Finished.{Finished, FinishedWhole};
 ghost use Rattle.gs_cluster.specs.Opened.{IsNew, names_of};
 ghost use Rattle.gs_cluster.specs.Calling.{fresh_clients};
 ghost use Rattle.gs_cluster.specs.declared.caller.Caller.{Caller as ACaller};
 ghost use Rattle.gs_cluster_history.specs.Setting.{all_ids};
+ghost use Rattle.gs_journal.specs.Faults.{Failing};
 
 use crate::caller::Caller;
 use crate::nodes::nodes_from;
 use crate::opening::Opened;
+use crate::posts::posts_from;
 use gs_base::{Config, Moment, Refusal};
 use gs_cluster_core::Role;
 use gs_cluster_core::promises::matching_histories_are_a_run_of_the_store;
 use gs_cluster_history::Core;
 use gs_cluster_node::{Gate, Node, Plan};
-use gs_cluster_threads::{Hosts, wire};
-use gs_journal::Disk;
+use gs_cluster_notes::{Told, told_by};
+use gs_cluster_threads::{Gathered, Hosts, wire};
+use gs_journal::{Disk, FailingDisk};
+use gs_msg::Event;
 use gs_nodes::Nodes;
+use gs_world::World;
 use std::alloc::{AllocError, Global};
 use std::sync::Wait;
 use std::thread::Threads;
@@ -35,7 +40,7 @@ where
 }
 
 /// So many first items, and those behind them.
-fn parted<T: Drop>(
+pub(crate) fn parted<T: Drop>(
     alloc: Global,
     many: usize,
     items: Vec<T>,
@@ -114,9 +119,13 @@ impl<N: Plan + Send + Sync + 'static, D: Disk + Drop + Send + 'static> Cluster<N
         ensures clients { IfOk result (λ started. map (λ (c : ACaller N D R). c.node) started.1.items ≡ fresh_clients N.setting.clients) }
         ensures moments { IfOk result (λ started. All (λ (c : ACaller N D R). c.moment ≡ record { 0 = 0 }) started.1.items) }
     {
-        let Opened { config, seeds } = opened;
+        let Opened {
+            config,
+            seeds,
+            are_noted,
+        } = opened;
         let many = seeds.len();
-        let nodes = wire(rt, alloc, seeds)?;
+        let nodes = wire(rt, alloc, are_noted, seeds)?;
         let (keepers, clients) = parted(alloc, config.servers as usize + 1, nodes)?;
         let callers = callers_of(rt, alloc, clients)?;
         let hosts = Hosts::start(rt, alloc, gate, many, keepers)?;
@@ -143,8 +152,35 @@ impl<N: Plan + Send + Sync + 'static, D: Disk + Drop + Send + 'static> Cluster<N
             hosts,
         } = self;
         let of_callers = nodes_of_callers(alloc, callers)?;
-        let members = hosts.finish(rt, of_callers)?;
+        let Gathered { members, notes } = hosts.finish(rt, of_callers)?;
+        drop(notes);
         matching_histories_are_a_run_of_the_store::<D>();
         Ok(nodes_from(alloc, config, members)?)
+    }
+}
+
+impl<N: Plan + Send + Sync + 'static, D: Disk + Drop + Send + 'static> Cluster<N, FailingDisk<D>> {
+    /// Ends the threads, and gives the store as it has become, with all that its nodes have ever sent, and the events that led to it: in the order of
+    /// the clocks they are a run of a store from its beginning to this one, which goes on on one thread. `Stray` where a caller is missing, `Memory`
+    /// too where no notes were wanted, or memory was wanting for one.
+    pub fn finish_whole<R: Threads + Wait + Clock + Drop>(
+        self,
+        rt: &R,
+        callers: Vec<Caller<N, FailingDisk<D>, R>>,
+    ) -> Result<(World<D>, Vec<Event>), Refusal>
+        ensures { FinishedWhole D.seen D.failures N.setting (map (λ (c : ACaller N (Failing D) R). c.node) callers.items) result }
+    {
+        let Cluster {
+            alloc,
+            config,
+            hosts,
+        } = self;
+        let of_callers = nodes_of_callers(alloc, callers)?;
+        let Gathered { members, notes } = hosts.finish(rt, of_callers)?;
+        matching_histories_are_a_run_of_the_store::<FailingDisk<D>>();
+        let nodes = nodes_from(alloc, config, members)?;
+        let Told { events, sent } = told_by(alloc, notes)?;
+        let sent = posts_from(alloc, config.servers as usize, sent)?;
+        Ok((World { nodes, sent }, events))
     }
 }

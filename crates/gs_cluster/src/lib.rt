@@ -5,6 +5,7 @@ mod caller;
 mod cluster;
 mod nodes;
 mod opening;
+mod posts;
 pub mod promises;
 
 pub use caller::Caller;

@@ -30,6 +30,8 @@ const LIMIT: u32 = 1_073_741_824;
 pub struct Opened<D: Disk + Drop> {
     pub config: Config,
     pub seeds: Vec<Seed<Role<D>>>,
+    /// Whether its nodes are to keep notes of what happens to them, so that it can go on on one thread when its threads have ended.
+    pub are_noted: bool,
 }
 
 /// A node with a new channel into it.
@@ -115,6 +117,10 @@ impl<D: Disk + Drop> Opened<D> {
         seeds.push(master)?;
         seed_servers(alloc, config, &mut seeds)?;
         seed_clients(alloc, clients, &mut seeds)?;
-        Ok(Opened { config, seeds })
+        Ok(Opened {
+            config,
+            seeds,
+            are_noted: false,
+        })
     }
 }
