@@ -1,6 +1,7 @@
 // What notes of several nodes tell.
-ghost use Rattle.std.specs.Prelude.{◌≡◌, IfOk, List, map};
+ghost use Rattle.std.specs.Prelude.{◌≡◌, IfErr, IfOk, List, map};
 ghost use Rattle.std.specs.VecDeque.{deque_items};
+ghost use Rattle.gs_base.specs.declared.refusal.Refusal.TheVariants as refusals;
 ghost use Rattle.gs_msg.specs.Posts.{Posted};
 ghost use Rattle.gs_cluster_history.specs.Histories.{Entry, Listed};
 ghost use Rattle.gs_cluster_history.specs.Merging.{Place, event_of, merged};
@@ -27,6 +28,7 @@ fn parts_of(
 ) -> Result<(Vec<VecDeque<Dated>>, Vec<Outbox>), Refusal>
     ensures events { IfOk result (λ p. (histories : List (List Entry)) (sent : List (List Listed)) → AllKeep notes.items histories sent → map deque_items p.0.items ≡ dated_all histories) }
     ensures sent { IfOk result (λ p. (histories : List (List Entry)) (sent : List (List Listed)) → AllKeep notes.items histories sent → map (λ (o : Posted). o.posts) p.1.items ≡ posts_all sent) }
+    ensures refused { IfErr result (λ refusal. refusal ≡ refusals.Memory) }
 {
     let mut lists = Vec::new(alloc);
     let mut outboxes = Vec::new(alloc);
@@ -50,6 +52,7 @@ fn parts_of(
 pub fn told_by(alloc: Global, notes: Vec<Notes>) -> Result<Told, Refusal>
     ensures events { IfOk result (λ told. (histories : List (List Entry)) (sent : List (List Listed)) → AllKeep notes.items histories sent → told.events.items ≡ map (λ (p : Place). event_of p.entry.took) (merged histories)) }
     ensures sent { IfOk result (λ told. (histories : List (List Entry)) (sent : List (List Listed)) → AllKeep notes.items histories sent → map (λ (o : Posted). o.posts) told.sent.items ≡ posts_all sent) }
+    ensures refused { IfErr result (λ refusal. refusal ≡ refusals.Memory) }
 {
     let (lists, sent) = parts_of(alloc, notes)?;
     let events = merged(alloc, lists)?;
