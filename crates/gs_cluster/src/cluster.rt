@@ -152,8 +152,11 @@ impl<N: Plan + Send + Sync + 'static, D: Disk + Drop + Send + 'static> Cluster<N
             hosts,
         } = self;
         let of_callers = nodes_of_callers(alloc, callers)?;
-        let Gathered { members, notes } = hosts.finish(rt, of_callers)?;
-        drop(notes);
+        let gathered = match hosts.finish(rt, of_callers) {
+            Ok(gathered) => gathered,
+            Err(refusal) => return Err(refusal),
+        };
+        let Gathered { members, notes: _ } = gathered;
         matching_histories_are_a_run_of_the_store::<D>();
         Ok(nodes_from(alloc, config, members)?)
     }
@@ -176,10 +179,18 @@ impl<N: Plan + Send + Sync + 'static, D: Disk + Drop + Send + 'static> Cluster<N
             hosts,
         } = self;
         let of_callers = nodes_of_callers(alloc, callers)?;
-        let Gathered { members, notes } = hosts.finish(rt, of_callers)?;
+        let gathered = match hosts.finish(rt, of_callers) {
+            Ok(gathered) => gathered,
+            Err(refusal) => return Err(refusal),
+        };
+        let Gathered { members, notes } = gathered;
         matching_histories_are_a_run_of_the_store::<FailingDisk<D>>();
         let nodes = nodes_from(alloc, config, members)?;
-        let Told { events, sent } = told_by(alloc, notes)?;
+        let told = match told_by(alloc, notes) {
+            Ok(told) => told,
+            Err(refusal) => return Err(refusal),
+        };
+        let Told { events, sent } = told;
         let sent = posts_from(alloc, config.servers as usize, sent)?;
         Ok((World { nodes, sent }, events))
     }

@@ -1,0 +1,44 @@
+use denote.Exit.{no}
+use denote.Param.{param}
+use denote.Param.Send.{arg_send, param_send}
+use Rattle.std.proofs.Common.{List, Err, map, subst, vec_len}
+use Rattle.gs_journal.specs.Faults.{Failing}
+use Rattle.gs_world.specs.Histories.{failures_of, seen_of}
+use Rattle.gs_cluster_core.specs.Roles.{DoesAs, StartsAs}
+use Rattle.gs_cluster_core.specs.declared.role.Role.{Role}
+use Rattle.gs_cluster_history.specs.Histories.{Kept}
+use Rattle.gs_cluster_history.specs.Setting.{all_ids}
+use Rattle.gs_cluster_threads.specs.Gathered.{IsWhole}
+use Rattle.gs_cluster_threads.specs.Gathered as gathered
+use Rattle.gs_cluster.specs.declared.caller.Caller.{Caller}
+use Rattle.gs_cluster.proofs.Ended.{has_master}
+use Rattle.gs_cluster.proofs.Refused.{finished_not}
+use Rattle.gs_cluster.proofs.Whole.{has_whole, not_whole}
+use Rattle.gs_cluster.proofs.cluster.Cluster.finish_whole.Goals as goal
+
+pub returns-in-Err : goal.returns-in-Err
+returns-in-Err g c =
+    let seen = seen_of g.D.Disk.seen in
+    let failures = failures_of g.D.Disk.failures in
+    let setting = g.N.Plan.setting in
+    let callers = map (λ (k : Caller g.row.N.Denot (Failing g.row.D.Denot) g.row.R.Denot). k.node) c.args.callers.items in
+    let refusal = c.in-Err.refusal in
+    let threads = vec_len c.args.self.hosts.handles in
+    let said = subst (λ (l : List (Kept (Role (Failing g.row.D.Denot)))). gathered.Finished (DoesAs seen failures) (StartsAs seen failures setting) (all_ids setting) threads l (Err refusal)) c.in_ok-of_callers.ensures c.in-Err.ensures in
+    not_whole g.D.Disk.seen g.D.Disk.failures setting callers threads refusal (finished_not (DoesAs seen failures) (StartsAs seen failures setting) (all_ids setting) threads callers refusal said) c.args.self.many
+
+pub nodes_from-requires : goal.nodes_from-requires
+nodes_from-requires g c =
+    has_master (seen_of g.D.Disk.seen) (failures_of g.D.Disk.failures) c.matching_histories_are_a_run_of_the_store.ensures g.N.Plan.setting c.in_ok-of_callers.of_callers.items c.in-Ok.gathered.members.items c.in-Ok.gathered.notes.items c.in-Ok.ensures
+
+pub returns : goal.returns
+returns g c =
+    let seen = seen_of g.D.Disk.seen in
+    let failures = failures_of g.D.Disk.failures in
+    let setting = g.N.Plan.setting in
+    let callers = map (λ (k : Caller g.row.N.Denot (Failing g.row.D.Denot) g.row.R.Denot). k.node) c.args.callers.items in
+    let members = c.in-Ok.gathered.members.items in
+    let notes = c.in-Ok.gathered.notes.items in
+    let whole = subst (λ (l : List (Kept (Role (Failing g.row.D.Denot)))). IsWhole (DoesAs seen failures) (StartsAs seen failures setting) (all_ids setting) l members notes) c.in_ok-of_callers.ensures c.in-Ok.ensures in
+    has_whole g.D.Disk.seen g.D.Disk.failures c.matching_histories_are_a_run_of_the_store.ensures setting callers members notes whole c.args.self.config (record { nodes = c.in_ok-nodes.nodes; sent = c.in_ok-sent.sent }) _ _ c.args.self.sizes
+    c.in_ok-nodes.ensures c.in-Ok-told_by.ensures.events c.in-Ok-told_by.ensures.sent c.in_ok-sent.ensures
