@@ -36,8 +36,8 @@ module _ {N D T : Type 0} (seen : D → List ℕ) (failures : D → ℕ) (settin
       → Serves N T seen failures setting input old new
   serves asker config nodes popped fresh moments one same client handed run input old new writes =
       let here : map (λ (c : Caller N D T). c.node) (left ++ link ∷ []) ≡ fresh_clients 1 =
-          subst (λ n. map (λ (c : Caller N D T). c.node) (left ++ link ∷ []) ≡ fresh_clients n) one
-          (subst (λ s. map (λ (c : Caller N D T). c.node) s ≡ fresh_clients setting.clients) popped fresh) in
+      subst (λ n. map (λ (c : Caller N D T). c.node) (left ++ link ∷ []) ≡ fresh_clients n) one
+      (subst (λ s. map (λ (c : Caller N D T). c.node) s ≡ fresh_clients setting.clients) popped fresh) in
       let none = none_before (λ (c : Caller N D T). c.node) left link _ here in
       record {
         begun = record { caller = asker; link = link };
@@ -48,6 +48,6 @@ module _ {N D T : Type 0} (seen : D → List ℕ) (failures : D → ℕ) (settin
         writes = writes;
         nodes = nodes;
         run =
-          subst (λ l. HasRun seen failures setting (map (λ (c : Caller N D T). c.node) (l ++ ended.link ∷ [])) nodes) none
-          (subst (λ s. HasRun seen failures setting (map (λ (c : Caller N D T). c.node) s) nodes) handed run);
+            subst (λ l. HasRun seen failures setting (map (λ (c : Caller N D T). c.node) (l ++ ended.link ∷ [])) nodes) none
+            (subst (λ s. HasRun seen failures setting (map (λ (c : Caller N D T). c.node) s) nodes) handed run);
       }
