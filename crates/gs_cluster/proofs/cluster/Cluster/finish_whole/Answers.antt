@@ -16,6 +16,9 @@ use Rattle.gs_cluster.proofs.Refused.{finished_not}
 use Rattle.gs_cluster.proofs.Whole.{has_whole, not_whole}
 use Rattle.gs_cluster.proofs.cluster.Cluster.finish_whole.Goals as goal
 
+pub finish-requires-send-C : goal.finish-requires-send-C
+finish-requires-send-C g c κs within = ?
+
 pub returns-in-Err : goal.returns-in-Err
 returns-in-Err g c =
     let seen = seen_of g.D.Disk.seen in
