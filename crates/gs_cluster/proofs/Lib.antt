@@ -14,4 +14,4 @@ mod Clients
 pub mod Ordered
 pub mod Senders
 pub mod SentBy
-pub mod Whole
+pub mod Noted

@@ -1,21 +1,17 @@
 -- What a cluster has come to when its threads have ended.
-use Rattle.std.specs.Prelude.{◌≡◌, ℕ, List, length, map, Result, Ok, Err, Vec}
-use Rattle.std.specs.declared.alloc.Global.{Global}
+use Rattle.std.specs.Prelude.{◌≡◌, ℕ, List, length, map, Result, Ok, Err}
 use Rattle.gs_base.specs.declared.refusal.Refusal.{Refusal}
 use Rattle.gs_base.specs.declared.refusal.Refusal.TheVariants as refusals
-use Rattle.gs_journal.specs.Faults.{Failing}
 use Rattle.gs_msg.specs.declared.event.DiskId.{DiskId}
-use Rattle.gs_msg.specs.declared.event.Event.{Event}
 use Rattle.gs_nodes.specs.Nodes.{nodes_of}
 use Rattle.gs_nodes.specs.declared.nodes.Nodes.{Nodes}
 use Rattle.gs_nodes.specs.declared.place.MasterPlace.{MasterPlace}
-use Rattle.gs_world.specs.Histories.{arms, failures_of, history_of, seen_of}
-use Rattle.gs_world.specs.declared.world.World.{World}
 use Rattle.gs_cluster_core.specs.Stores.{IsStoreRun}
 use Rattle.gs_cluster_core.specs.declared.role.Role.{Role}
 use Rattle.gs_cluster_history.specs.Histories.{Among, Kept}
 use Rattle.gs_cluster_history.specs.Merging.{Place, event_of, places_of}
 use Rattle.gs_cluster_history.specs.Setting.{Setting, all_ids}
+use Rattle.gs_cluster.specs.declared.cluster.Whole.{Whole}
 
 module _ {D : Type 0} (seen : D → List ℕ) (failures : D → ℕ) (setting : Setting) (callers : List (Kept (Role D))) where
   -- The histories of all nodes, in the order of their numbers and those of the callers among them, by their clocks, are a run of a store that has begun new; these nodes are
@@ -34,20 +30,17 @@ module _ {D : Type 0} (seen : D → List ℕ) (failures : D → ℕ) (setting : 
   Finished (Err refusals.Stray) = length callers ≡ setting.clients → ⊥
   Finished (Err refusal) = ⊥
 
--- The same of a store whose disks can be made to fail, with all that its nodes have sent.
-module _ {D : Type 0} (seen : D → List ℕ) (failures : D → ℕ) (setting : Setting) (callers : List (Kept (Role (Failing D)))) where
-  -- The histories of all nodes, by their clocks, are a run of a store that has begun new; it leads to this one, and these are its events.
-  pub record HasWholeRun (world : World D) (events : List Event) : Type 0 where
-    pub kept : List (Kept (Role (Failing D)))
-    pub among : (k : Kept (Role (Failing D))) → Among callers k → Among kept k
-    pub numbers : map (λ (k : Kept (Role (Failing D))). k.me) kept ≡ all_ids setting
-    pub run : IsStoreRun (seen_of seen) (failures_of failures) arms setting kept (places_of kept)
-    pub ends : run.end ≡ history_of world
-    pub events_are : events ≡ map (λ (p : Place). event_of p.entry.took) (places_of kept)
+  -- It leads to these nodes and to all that they have ever sent, and these are its events.
+  pub record HasWholeRun (whole : Whole D) : Type 0 where
+    pub kept : List (Kept (Role D))
+    pub among : (k : Kept (Role D)) → Among callers k → Among kept k
+    pub numbers : map (λ (k : Kept (Role D)). k.me) kept ≡ all_ids setting
+    pub run : (armed : DiskId → ℕ → MasterPlace D → MasterPlace D) → IsStoreRun seen failures armed setting kept (places_of kept)
+    pub ends : (armed : DiskId → ℕ → MasterPlace D → MasterPlace D) → (run armed).end ≡ record { nodes = nodes_of whole.nodes; sent = whole.sent }
+    pub events_are : whole.events.items ≡ map (λ (p : Place). event_of p.entry.took) (places_of kept)
 
-  -- `Stray` is said only where there aren't as many callers as clients.
-  abbrev pub FinishedWhole : Result (World D × Vec Event Global) Refusal → Type 0
-  FinishedWhole (Ok (world, events)) = HasWholeRun world events.items
+  abbrev pub FinishedWhole : Result (Whole D) Refusal → Type 0
+  FinishedWhole (Ok whole) = HasWholeRun whole
   FinishedWhole (Err refusals.Memory) = Unit {0}
   FinishedWhole (Err refusals.Stray) = length callers ≡ setting.clients → ⊥
   FinishedWhole (Err refusal) = ⊥

@@ -4,7 +4,6 @@ ghost use Rattle.gs_cluster.specs.Opened.{IsNew, names_of};
 ghost use Rattle.gs_cluster.specs.Calling.{fresh_clients};
 ghost use Rattle.gs_cluster.specs.declared.caller.Caller.{Caller as ACaller};
 ghost use Rattle.gs_cluster_history.specs.Setting.{all_ids};
-ghost use Rattle.gs_journal.specs.Faults.{Failing};
 
 use crate::caller::Caller;
 use crate::nodes::nodes_from;
@@ -17,10 +16,10 @@ use gs_cluster_history::Core;
 use gs_cluster_node::{Gate, Node, Plan};
 use gs_cluster_notes::{Told, told_by};
 use gs_cluster_threads::{Gathered, Hosts, wire};
-use gs_journal::{Disk, FailingDisk};
+use gs_journal::Disk;
 use gs_msg::Event;
 use gs_nodes::Nodes;
-use gs_world::World;
+use gs_world::Posts;
 use std::alloc::{AllocError, Global};
 use std::sync::Wait;
 use std::thread::Threads;
@@ -37,6 +36,15 @@ where
     pub hosts: Hosts<N, Role<D>>,
     ghost sizes: { config ≡ N.setting.config },
     pub ghost many: { vec_len hosts.handles + N.setting.clients ≡ length (all_ids N.setting) },
+}
+
+/// The nodes of a store, all that they have ever sent, and the events that led to that. With these nodes and what they have sent it goes on on one
+/// thread (`World` of `gs_world`).
+#[derive(Drop)]
+pub struct Whole<D: Disk + Drop> {
+    pub nodes: Nodes<D>,
+    pub sent: Posts,
+    pub events: Vec<Event>,
 }
 
 /// So many first items, and those behind them.
@@ -160,18 +168,16 @@ impl<N: Plan + Send + Sync + 'static, D: Disk + Drop + Send + 'static> Cluster<N
         matching_histories_are_a_run_of_the_store::<D>();
         Ok(nodes_from(alloc, config, members)?)
     }
-}
 
-impl<N: Plan + Send + Sync + 'static, D: Disk + Drop + Send + 'static> Cluster<N, FailingDisk<D>> {
-    /// Ends the threads, and gives the store as it has become, with all that its nodes have ever sent, and the events that led to it: in the order of
-    /// the clocks they are a run of a store from its beginning to this one, which goes on on one thread. `Stray` where a caller is missing, `Memory`
-    /// too where no notes were wanted, or memory was wanting for one.
+    /// Ends the threads as `finish` does, of nodes that were to keep notes, and gives with the nodes all that they have ever sent, and the events
+    /// that led to them: in the order of the clocks they are a run of a store from its beginning to this one. `Memory` too where no notes were
+    /// wanted, or memory was wanting for one.
     pub fn finish_whole<R: Threads + Wait + Clock + Drop>(
         self,
         rt: &R,
-        callers: Vec<Caller<N, FailingDisk<D>, R>>,
-    ) -> Result<(World<D>, Vec<Event>), Refusal>
-        ensures { FinishedWhole D.seen D.failures N.setting (map (λ (c : ACaller N (Failing D) R). c.node) callers.items) result }
+        callers: Vec<Caller<N, D, R>>,
+    ) -> Result<Whole<D>, Refusal>
+        ensures { FinishedWhole D.seen D.failures N.setting (map (λ (c : ACaller N D R). c.node) callers.items) result }
     {
         let Cluster {
             alloc,
@@ -184,7 +190,7 @@ impl<N: Plan + Send + Sync + 'static, D: Disk + Drop + Send + 'static> Cluster<N
             Err(refusal) => return Err(refusal),
         };
         let Gathered { members, notes } = gathered;
-        matching_histories_are_a_run_of_the_store::<FailingDisk<D>>();
+        matching_histories_are_a_run_of_the_store::<D>();
         let nodes = nodes_from(alloc, config, members)?;
         let told = match told_by(alloc, notes) {
             Ok(told) => told,
@@ -192,6 +198,10 @@ impl<N: Plan + Send + Sync + 'static, D: Disk + Drop + Send + 'static> Cluster<N
         };
         let Told { events, sent } = told;
         let sent = posts_from(alloc, config.servers as usize, sent)?;
-        Ok((World { nodes, sent }, events))
+        Ok(Whole {
+            nodes,
+            sent,
+            events,
+        })
     }
 }

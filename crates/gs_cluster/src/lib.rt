@@ -9,5 +9,5 @@ mod posts;
 pub mod promises;
 
 pub use caller::Caller;
-pub use cluster::Cluster;
+pub use cluster::{Cluster, Whole};
 pub use opening::Opened;
