@@ -1,23 +1,21 @@
 -- What the threads and callers of a cluster leave is a run of a store, and the nodes that it leads to.
-use Rattle.std.proofs.Common.{◌≡◌, ◌≢◌, ◌∙◌, ◌+◌, ◌++◌, ◌⊎◌, inl, inr, ℕ, List, [], ◌∷◌, Some, Err, length, map, refl, sym, ap, subst, slice_get}
+use Rattle.std.proofs.Common.{◌≡◌, ◌≢◌, ◌∙◌, ◌+◌, ◌⊎◌, inl, inr, ℕ, List, [], ◌∷◌, Some, Err, length, map, refl, sym, ap, subst, slice_get}
 use Rattle.gs_base.specs.declared.config.Config.{Config}
 use Rattle.gs_base.specs.declared.refusal.Refusal.{Refusal}
 use Rattle.gs_base.specs.declared.refusal.Refusal.TheVariants as refusals
-use Rattle.gs_client.specs.Nodes.{Node}
 use Rattle.gs_msg.specs.declared.event.DiskId.{DiskId}
 use Rattle.gs_msg.specs.declared.node.NodeId.{NodeId}
 use Rattle.gs_msg.specs.declared.node.NodeId.TheVariants as ids
 use Rattle.gs_nodes.specs.Nodes.{Nodes, nodes_of}
 use Rattle.gs_nodes.specs.declared.nodes.Nodes as held
 use Rattle.gs_nodes.specs.declared.place.MasterPlace.{MasterPlace}
-use Rattle.gs_server.specs.Servers.{Server}
 use Rattle.gs_cluster_core.specs.Roles.{DoesAs, StartsAs}
 use Rattle.gs_cluster_core.specs.Stores.{Differ, IsStoreRun}
 use Rattle.gs_cluster_core.specs.declared.role.Role.{Role}
-use Rattle.gs_cluster_core.specs.declared.role.Role.TheVariants.{Master, Server as AServer, Client}
-use Rattle.gs_cluster_history.specs.Histories.{Among, Kept}
+use Rattle.gs_cluster_core.specs.declared.role.Role.TheVariants.{Master}
+use Rattle.gs_cluster_history.specs.Histories.{Kept}
 use Rattle.gs_cluster_history.specs.Merging.{AllKept, Matches, places_of}
-use Rattle.gs_cluster_history.specs.Setting.{Setting, all_ids, store_ids}
+use Rattle.gs_cluster_history.specs.Setting.{Setting, all_ids}
 use Rattle.gs_cluster_threads.specs.Gathered.{IsWhole, member_of}
 use Rattle.gs_cluster_threads.specs.declared.gathering.Member.{Member}
 use Rattle.gs_cluster.specs.Finished.{Finished, HasRun}

@@ -1,7 +1,6 @@
 -- What the histories of a cluster lead to is a store of these nodes.
-use Rattle.std.proofs.Common.{◌≡◌, ◌≢◌, ◌∙◌, ◌+◌, ◌-◌, ◌<◌, ◌≤◌, ◌⊎◌, ◌++◌, ◌==◌, ℕ, zero, suc, List, [], ◌∷◌, Option, Some, None, map, option_map, length, length-append, if◌then◌else◌, refl, sym, ap, subst, inl, inr, ⊎_elim, arith, slice_get}
+use Rattle.std.proofs.Common.{◌≡◌, ◌∙◌, ◌+◌, ◌-◌, ◌<◌, ◌≤◌, ◌++◌, ℕ, zero, suc, List, [], ◌∷◌, Option, Some, None, map, option_map, length, length-append, if◌then◌else◌, refl, sym, ap, subst, ⊎_elim, arith, slice_get}
 use Rattle.std.proofs.lemmas.Option.{none-some, same_Some, slice_get_past, slice_get_within}
-use Rattle.gs_base.specs.declared.numbers.ClientId.{ClientId}
 use Rattle.gs_client.specs.Nodes.{Node}
 use Rattle.gs_msg.specs.declared.event.DiskId.{DiskId}
 use Rattle.gs_msg.specs.declared.node.NodeId.{NodeId}
@@ -18,12 +17,12 @@ use Rattle.gs_cluster_core.proofs.Sending.{nonzero}
 use Rattle.gs_cluster_core.specs.Stores.{IsStoreRun, as_client, as_server, node_at}
 use Rattle.gs_cluster_core.specs.declared.role.Role.{Role}
 use Rattle.gs_cluster_core.specs.declared.role.Role.TheVariants.{Master, Server as AServer, Client}
-use Rattle.gs_cluster_history.specs.Histories.{Among, Kept, Line, line_of}
+use Rattle.gs_cluster_history.specs.Histories.{Among, Kept, line_of}
 use Rattle.gs_cluster_history.specs.Merging.{Place}
 use Rattle.gs_cluster_history.specs.Setting.{Setting, all_ids}
 use Rattle.gs_cluster.specs.inner.Members.{AreOf}
 use Rattle.gs_cluster.proofs.Lists.{at_before, at_behind, at_map, below_or, ends_there, length_map, same_lists}
-use Rattle.gs_cluster.proofs.Numbers.{AClient, AMaster, AServer as IsServer, Stands, all_long, client_stands, server_stands, stands}
+use Rattle.gs_cluster.proofs.Numbers.{AClient, AMaster, AServer as IsServer, all_long, client_stands, server_stands, stands}
 
 -- ---- sizes of a store that has begun new
 

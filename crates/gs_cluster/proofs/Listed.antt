@@ -1,5 +1,5 @@
 -- Lists that are made by one more at their ends.
-use Rattle.std.proofs.Common.{◌≡◌, ◌∙◌, ◌+◌, ◌<◌, ◌≤◌, ◌⊎◌, ◌++◌, ℕ, zero, suc, List, [], ◌∷◌, Some, None, length, length-append, refl, sym, ap, subst, inl, inr, ⊎_elim, arith, slice_get}
+use Rattle.std.proofs.Common.{◌≡◌, ◌∙◌, ◌<◌, ◌⊎◌, ◌++◌, ℕ, zero, suc, List, [], ◌∷◌, Some, length, length-append, refl, sym, ap, subst, inl, inr, ⊎_elim, arith, slice_get}
 use Rattle.gs_cluster.proofs.Lists.{at_before, at_last}
 
 module _ {X : Type 0} (f : ℕ → X) where

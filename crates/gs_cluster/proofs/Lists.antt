@@ -1,6 +1,6 @@
 -- Lists by what stands at their places.
-use Rattle.std.proofs.Common.{◌≡◌, ◌∙◌, ◌+◌, ◌<◌, ◌≤◌, ◌++◌, ◌⊎◌, ℕ, zero, suc, List, [], ◌∷◌, Option, Some, None, map, option_map, length, refl, sym, ap, inl, inr, ⊎_elim, arith, slice_get}
-use Rattle.std.proofs.lemmas.Option.{none-some, same_Some, slice_get_past, slice_get_within}
+use Rattle.std.proofs.Common.{◌≡◌, ◌∙◌, ◌+◌, ◌<◌, ◌≤◌, ◌++◌, ◌⊎◌, ℕ, zero, suc, List, [], ◌∷◌, Some, None, map, option_map, length, refl, sym, ap, inl, inr, ⊎_elim, arith, slice_get}
+use Rattle.std.proofs.lemmas.Option.{none-some, same_Some}
 
 -- the same stands at each place
 pub same_lists : {X : Type 0} (xs ys : List X) → ((i : ℕ) → slice_get xs i ≡ slice_get ys i) → xs ≡ ys

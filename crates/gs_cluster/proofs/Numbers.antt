@@ -1,13 +1,13 @@
 -- Numbers of nodes, in their order.
-use Rattle.std.proofs.Common.{◌≡◌, ◌∙◌, ◌+◌, ◌-◌, ◌<◌, ◌≤◌, ◌⊎◌, ◌++◌, ◌&&◌, ℕ, zero, suc, Bool, true, false, List, [], ◌∷◌, Some, None, map, length, length-append, refl, sym, ap, subst, inl, inr, ⊎_elim, arith, slice_get}
+use Rattle.std.proofs.Common.{◌≡◌, ◌∙◌, ◌+◌, ◌-◌, ◌<◌, ◌≤◌, ◌⊎◌, ◌++◌, ◌&&◌, ℕ, zero, suc, Bool, true, false, [], ◌∷◌, Some, length, length-append, refl, sym, ap, subst, inl, inr, ⊎_elim, arith, slice_get}
 use Rattle.std.specs.Prelude.{nat_le}
 use Rattle.std.proofs.lemmas.Bool.{leb-true}
-use Rattle.std.proofs.lemmas.Option.{none-some, same_Some, slice_get_within}
+use Rattle.std.proofs.lemmas.Option.{same_Some, slice_get_within}
 use Rattle.gs_base.specs.Configs.{is_within}
 use Rattle.gs_base.specs.declared.config.Config.{Config}
 use Rattle.gs_msg.specs.declared.node.NodeId.{NodeId}
 use Rattle.gs_msg.specs.declared.node.NodeId.TheVariants as ids
-use Rattle.gs_cluster_history.specs.Setting.{Setting, all_ids, client_ids, server_ids, store_ids}
+use Rattle.gs_cluster_history.specs.Setting.{Setting, all_ids, client_ids, server_ids}
 use Rattle.gs_cluster_core.specs.Stores.{Differ}
 use Rattle.gs_cluster.specs.Opened.{place_in}
 use Rattle.gs_cluster.proofs.Lists.{at_before, at_behind, at_last, below_or}

@@ -1,14 +1,13 @@
 -- The nodes as they begin stand in the order of their numbers, and each has the name of its channel.
-use Rattle.std.proofs.Common.{◌≡◌, ◌∙◌, ◌+◌, ◌<◌, ◌≤◌, ◌++◌, ℕ, zero, suc, List, [], ◌∷◌, Option, Some, None, Ok, map, option_map, length, length-append, refl, sym, ap, subst, inl, inr, arith, slice_get}
+use Rattle.std.proofs.Common.{◌≡◌, ◌∙◌, ◌+◌, ◌<◌, ◌≤◌, ◌++◌, ℕ, zero, suc, List, [], ◌∷◌, Some, map, option_map, length, refl, sym, ap, subst, inl, inr, arith, slice_get}
 use Rattle.std.proofs.lemmas.List.{map-append}
-use Rattle.std.proofs.lemmas.Option.{none-some, same_Some, slice_get_past, slice_get_within}
+use Rattle.std.proofs.lemmas.Option.{same_Some, slice_get_past}
 use Rattle.gs_base.specs.declared.config.Config.{Config}
-use Rattle.gs_client.specs.Nodes.{Node, silent}
+use Rattle.gs_client.specs.Nodes.{silent}
 use Rattle.gs_msg.specs.declared.message.Message.{Message}
 use Rattle.gs_msg.specs.declared.node.NodeId.{NodeId}
 use Rattle.gs_msg.specs.declared.node.NodeId.TheVariants as ids
-use Rattle.gs_nodes.specs.Nodes.{new_servers, silent_servers}
-use Rattle.gs_nodes.specs.declared.place.MasterPlace.{MasterPlace}
+use Rattle.gs_nodes.specs.Nodes.{silent_servers}
 use Rattle.gs_server.specs.Servers.{Server}
 use Rattle.gs_server.specs.Servers as servers
 use Rattle.gs_cluster_channel.specs.Named.{IsNamed}
@@ -22,11 +21,11 @@ use Rattle.gs_cluster_history.specs.Setting.{Setting, all_ids, client_ids, serve
 use Rattle.gs_cluster_threads.specs.Wired.{MayBegin, fresh, numbers_of}
 use Rattle.gs_cluster_threads.specs.declared.wiring.Seed.{Seed}
 use Rattle.gs_cluster.specs.Calling.{fresh_clients}
-use Rattle.gs_cluster.specs.Opened.{IsNew, name_at, names_of, place_in}
+use Rattle.gs_cluster.specs.Opened.{IsNew, name_at, names_of}
 use Rattle.gs_cluster.specs.inner.Seeds.{BeginsSo, Row, client_rows, row_of, rows_of, server_rows}
 use Rattle.gs_cluster.proofs.Listed.{counted, counted_at, counted_long}
 use Rattle.gs_cluster.proofs.Lists.{at_before, at_behind, at_map, below_or, found, length_map, same_lists}
-use Rattle.gs_cluster.proofs.Numbers.{AClient, AMaster, AServer as IsServer, Stands, all_long, client_stands, place_of, stands}
+use Rattle.gs_cluster.proofs.Numbers.{AClient, AMaster, AServer as IsServer, all_long, client_stands, place_of, stands}
 
 -- ---- one after the other
 

@@ -143,7 +143,10 @@ impl<N: Plan + Send + Sync + 'static, D: Disk + Drop + Send + 'static> Cluster<N
             hosts,
         } = self;
         let of_callers = nodes_of_callers(alloc, callers)?;
-        let members = hosts.finish(rt, of_callers)?;
+        let members = match hosts.finish(rt, of_callers) {
+            Ok(members) => members,
+            Err(refusal) => return Err(refusal),
+        };
         matching_histories_are_a_run_of_the_store::<D>();
         Ok(nodes_from(alloc, config, members)?)
     }

@@ -1,4 +1,5 @@
-ghost use Rattle.gs_cluster.specs.Opened.{names_of, setting_of};
+ghost use Rattle.gs_cluster.specs.Opened.{IsNew, names_of};
+ghost use Rattle.gs_journal.specs.Memory.{bytes_of, times_failed};
 ghost use Rattle.std.specs.Prelude.{◌≡◌};
 
 use gs_base::{ClientId, Config, Refusal};
@@ -84,8 +85,9 @@ fn written<
     N: Plan + Send + Sync + 'static,
     T: Threads + Wait + Clock + Copy + Drop + Send + Sync + 'static,
 >(rt: &T, alloc: Global, gate: Held, opened: Opened<MemoryDisk>) -> Result<String, Refusal>
-    requires names { N.names ≡ names_of opened.config.servers opened.seeds.items }
-    requires setting { N.setting ≡ setting_of opened.config opened.clients opened.seeds.items opened.begins }
+    requires names { N.names ≡ names_of N.setting.config.servers opened.seeds.items }
+    requires config { opened.config ≡ N.setting.config }
+    requires new { IsNew bytes_of times_failed N.setting opened.seeds.items }
 {
     let config = opened.config;
     let (cluster, mut callers) = Cluster::<N, MemoryDisk>::start(rt, alloc, gate, opened)?;

@@ -65,28 +65,39 @@ fn output_of<T: Threads + Wait + Clock + Copy + Drop + Send + Sync + 'static>(
         .ok_or(Refusal::BadLine)
 }
 
-/// Scripts of names, of an upgrade that is rolled back, and of lines that are refused, with what a store on one thread answers.
-const SCRIPTS: [(&'static [u8], &'static str); 6] = [
+/// Scripts with what a store on one thread answers.
+const SCRIPTS: [(&'static [u8], &'static str); 7] = [
+    // A directory that is there again, and a file at its place.
     (
         b"mkdir /a/b\nmkdir /a/b\ncreate /a\n",
         "ok\nok\nrefused 4 Exists\n",
     ),
+    // Two elements that are none, one of 200 bytes, one of 201, and a hidden name.
     (
-        b"mkdir /.\nmkdir /x:y\nmkdir /.deleted.x\n",
-        "refused 1 BadPath\nrefused 1 BadPath\nrefused 2 HiddenName\n",
+        b"mkdir /.\nmkdir /x:y\nmkdir /aaaaaaaaaaaaaaaaaaaaaaaaaaaaaaaaaaaaaaaaaaaaaaaaaaaaaaaaaaaaaaaaaaaaaaaaaaaaaaaaaaaaaaaaaaaaaaaaaaaaaaaaaaaaaaaaaaaaaaaaaaaaaaaaaaaaaaaaaaaaaaaaaaaaaaaaaaaaaaaaaaaaaaaaaaaaaaaaaaaaaaaaaaaaaaaaaaaaaaaa\nmkdir /aaaaaaaaaaaaaaaaaaaaaaaaaaaaaaaaaaaaaaaaaaaaaaaaaaaaaaaaaaaaaaaaaaaaaaaaaaaaaaaaaaaaaaaaaaaaaaaaaaaaaaaaaaaaaaaaaaaaaaaaaaaaaaaaaaaaaaaaaaaaaaaaaaaaaaaaaaaaaaaaaaaaaaaaaaaaaaaaaaaaaaaaaaaaaaaaaaaaaaaaa\nmkdir /.deleted.x\n",
+        "refused 1 BadPath\nrefused 1 BadPath\nok\nrefused 1 BadPath\nrefused 2 HiddenName\n",
     ),
+    // Moves into itself, and into a directory.
     (
         b"mkdir /a/b\nmv /a /a/b/c\nmkdir /d\ncreate /f\nmv /f /d\nls /d\nls /\n",
         "ok\nrefused 8 IntoItself\nok\nok\nok\nok f\nok a/ d/\n",
     ),
+    // An upgrade that is rolled back.
     (
         b"rollingUpgrade query\nrollingUpgrade prepare\nrollingUpgrade rollback\nrollingUpgrade query\n",
         "ok ordinary 0\nok 1\nok 2\nok ordinary 2\n",
     ),
+    // One that is rolled back behind a move and a removal.
+    (
+        b"mkdir /a/b\ncreate /a/f\nrollingUpgrade prepare\nmv /a /c\nrm -r /c\nls /\nrollingUpgrade rollback\nls /a\n",
+        "ok\nok\nok 1\nok\nok /.deleted.00000000000000000000.00000000000000000001.c\nok\nok 2\nok b/ f\n",
+    ),
+    // One that is rolled back behind a write too.
     (
         b"mkdir /a/b\ncreate /a/f\nwrite /a/f 0 61\nrollingUpgrade prepare\nwrite /a/f 0 62\nmv /a /c\nrm -r /c\nls /\nrollingUpgrade rollback\nls /a\nread /a/f 0 2\n",
         "ok\nok\nok\nok 1\nok\nok\nok /.deleted.00000000000000000000.00000000000000000001.c\nok\nok 2\nok b/ f\nok 61\n",
     ),
+    // Lines that are refused, those about nodes and messages among them.
     (
         b"frob\nmkdir\nwrite /f 0 6\nrm /x\nrm /\nread /x 0 1\nundelete /x\nmkdir /a/b\nrm /a\nhold on forward\nbeat 0\nrestart master\nlose 0 1\n",
         "refused 34 BadLine\nrefused 34 BadLine\nrefused 34 BadLine\nok false\nrefused 9 IsRoot\nrefused 3 NotFound\nrefused 38 NotHidden\nok\nrefused 7 NotEmpty\nrefused 34 BadLine\nrefused 34 BadLine\nrefused 34 BadLine\nrefused 34 BadLine\n",

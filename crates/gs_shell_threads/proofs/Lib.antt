@@ -1,3 +1,4 @@
 mod Answered
+mod Served
 mod Stepping
 pub mod Turns

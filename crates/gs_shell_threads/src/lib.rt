@@ -11,7 +11,7 @@ mod answering;
 mod desk;
 
 pub use desk::Desk;
-use gs_base::{ClientId, Config, Moment, Refusal};
+use gs_base::{ClientId, Config, Refusal};
 use gs_cluster::{Cluster, Opened};
 use gs_cluster_node::{Gate, Open, Plan};
 use gs_journal::{Disk, MemoryDisk};
@@ -52,18 +52,14 @@ fn serve<
         Ok(started) => started,
         Err(_) => return Err(RunFault::Refused(Refusal::Memory)),
     };
-    let Some(mut link) = callers.pop() else {
+    let Some(link) = callers.pop() else {
         unreachable!()
     };
-    link.at(Moment(0));
     let caller = Caller::new(alloc, ClientId(1), config);
     let mut desk = Desk { caller, link };
     let result = gs_shell_script::run(alloc, &mut desk, reader, writer);
     let Desk { caller: _, link } = desk;
-    let mut callers = Vec::new(alloc);
-    if callers.push(link).is_err() {
-        return Err(RunFault::Refused(Refusal::Memory));
-    }
+    callers.push_reserved(link);
     match cluster.finish(rt, callers) {
         Ok(_) => result,
         Err(refusal) => Err(RunFault::Refused(refusal)),

@@ -1,5 +1,5 @@
 -- Seeds without their channels.
-use Rattle.std.specs.Prelude.{◌≡◌, ◌+◌, ◌++◌, ℕ, zero, suc, List, [], ◌∷◌, Option, None, Ok, map}
+use Rattle.std.specs.Prelude.{◌≡◌, ◌+◌, ◌++◌, ℕ, zero, suc, List, [], ◌∷◌, Ok, map}
 use Rattle.gs_base.specs.declared.config.Config.{Config}
 use Rattle.gs_client.specs.Nodes.{silent}
 use Rattle.gs_msg.specs.declared.message.Message.{Message}

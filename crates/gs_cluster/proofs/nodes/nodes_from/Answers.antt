@@ -1,4 +1,4 @@
-use Rattle.std.proofs.Common.{◌≡◌, ◌∙◌, ◌++◌, List, [], ◌∷◌, refl, sym, ap}
+use Rattle.std.proofs.Common.{◌∙◌, refl, sym, ap}
 use Rattle.std.proofs.lemmas.List.{nil_from_length}
 use Rattle.gs_cluster.specs.inner.Members.{clients_in, cores_of, masters_in, servers_in}
 use Rattle.gs_cluster.proofs.Members.{last_alone, the_clients, the_master, the_servers, without_rest}

@@ -1,8 +1,12 @@
+use denote.Exit.{no}
+use denote.Param.{param}
+use denote.Param.Send.{arg_send, param_send}
 use Rattle.std.proofs.Common.{◌∙◌, ◌+◌, List, ap, arith, length, sym}
 use Rattle.gs_base.specs.declared.config.Config.{Config}
 use Rattle.gs_msg.specs.declared.node.NodeId.{NodeId}
 use Rattle.gs_cluster_core.specs.declared.role.Role.{Role}
 use Rattle.gs_cluster_history.specs.Histories.{Kept}
+use Rattle.gs_cluster_send.proofs.Roles.{role_row}
 use Rattle.gs_cluster_threads.specs.Wired.{fresh}
 use Rattle.gs_cluster_threads.specs.declared.wiring.Seed.{Seed}
 use Rattle.gs_cluster.proofs.Lists.{length_map}
@@ -48,3 +52,6 @@ returns-clause-clients g c =
     c.in_ok-callers.ensures.nodes
     ∙ are_fresh g.D.Disk.seen g.D.Disk.failures setting seeds c.requires.new.all c.requires.new.starts c.in_ok-keepers.keepers.items c.in_ok-keepers.clients.items
     (c.in_ok-keepers.ensures.all ∙ c.in_ok-nodes.ensures) many
+
+pub start-requires-send-C : goal.start-requires-send-C
+start-requires-send-C g c κs within = param_send 1 _ (arg_send _ no _ (role_row (param 1 g.row.D) g.D.Disk c.type_bounds.send-D))
