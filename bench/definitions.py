@@ -16,8 +16,8 @@ import re
 import sys
 
 ROOT = pathlib.Path(__file__).resolve().parent.parent
-TOP = ["gs_shell", "gs_shell_options", "gs_shell_command", "chunkstore"]
-BESIDE = ["gs_tests"]
+TOP = ["gs_shell", "gs_shell_threads", "gs_shell_options", "gs_shell_command", "chunkstore"]
+BESIDE = ["gs_tests", "gs_keep_tests", "gs_cluster_tests"]
 WORD = re.compile(r"[^\s(){}\[\],;`]+")
 IMPORT = re.compile(r"use Rattle\.(\w+)\.specs\.([\w.]+?)(?:\.\{([^}]*)\})?(?: as ([\w-]+))?;?\s*$", re.M)
 HEAD = re.compile(r"^(?:(?:unfoldable|abbrev|opaque|pub)\s+)+(?:record\s+|data\s+)?([^\s:({]+)|^(?:record|data)\s+([^\s:({]+)")
@@ -148,7 +148,7 @@ def main():
     crates = [w for w in words if not w.startswith("--")] or TOP
     files = read_files()
     if "--all" in words:
-        crates = {crate for crate, _ in files} - set(BESIDE) | {"chunkstore"}
+        crates = {path.name for path in (ROOT / "crates").iterdir()} - set(BESIDE)
     seen = reached(files, crates)
     lines, names = collections.Counter(), collections.defaultdict(list)
     for crate, module, name in sorted(seen):

@@ -1,5 +1,5 @@
 -- Calls that are made again.
-use Rattle.std.proofs.Common.{◌≡◌, ◌≢◌, ◌+◌, ◌-◌, ◌<◌, ◌≤◌, ℕ, zero, suc, Bool, true, false, if◌then◌else◌, Result, Ok, Err, refl, sym, ap, subst, inl, inr, arith}
+use Rattle.std.proofs.Common.{◌≡◌, ◌≢◌, ◌+◌, ◌-◌, ◌<◌, ◌≤◌, ◌⊎◌, ℕ, zero, suc, Bool, true, false, if◌then◌else◌, Result, Err, refl, sym, ap, subst, inl, inr, ⊎_elim, arith}
 use Rattle.gs_base.specs.declared.refusal.Refusal.{Refusal}
 use Rattle.gs_base.specs.declared.refusal.Refusal.TheVariants as refusals
 use Rattle.gs_client.specs.Trees as trees
@@ -8,9 +8,11 @@ use Rattle.gs_client.specs.declared.link.Reply.{Reply}
 use Rattle.gs_client_dialogue.proofs.Talks.{follows_then, follows_else, follows_upon}
 use Rattle.gs_client_dialogue.specs.Dialogues.{Say, Ask, Grow, FollowsDialogue, upon}
 use Rattle.gs_msg.specs.declared.event.Request.{Request}
-use Rattle.gs_shell_calls.specs.Asked.{ends_so}
+use Rattle.gs_shell_calls.specs.Asked.{ends_so, step_line}
 use Rattle.gs_shell_calls.specs.declared.answer.Answer.{Answer}
-use Rattle.gs_shell_threads.specs.Asked.{gives_up, is_for_now, is_refused_unquiet, until}
+use Rattle.gs_shell_grammar.specs.declared.command.UpgradeStep.{UpgradeStep}
+use Rattle.gs_shell_grammar.specs.declared.command.UpgradeStep.TheVariants as steps
+use Rattle.gs_shell_threads.specs.Asked.{gives_up, is_for_now, is_refused_unquiet, more_turns, step_in_threads, until}
 
 -- memory isn't what can wait
 waits_not : (came : Result Answer Refusal) → is_for_now came ≡ true → came ≢ Err refusals.Memory
@@ -109,3 +111,10 @@ module _ {S : Type 0} (carries : S → Request → Reply → S → Type 0) where
       → FollowsDialogue carries call old came mid → FollowsDialogue carries (upon call gives_up) old came mid
   keeps_it call old mid came is first =
       follows_ends call gives_up old mid came (ap (λ (b : Bool). if b then upon trees.prepare_abort_call (ends_so came) else Say came) is) first
+
+  -- a commit that is asked for by itself
+  abbrev Commits : (old new : S) (came : Result Answer Refusal) → UpgradeStep → Type 0
+  Commits old new came step = FollowsDialogue carries (until more_turns (step_line step)) old came new → FollowsDialogue carries (step_in_threads step) old came new
+
+  pub commits : (step : UpgradeStep) (old new : S) (came : Result Answer Refusal) → (step ≡ steps.PrepareCommit) ⊎ (step ≡ steps.RollbackCommit) → Commits old new came step
+  commits step old new came = ⊎_elim (λ is. subst (Commits old new came) (sym is) (λ follows. follows)) (λ is. subst (Commits old new came) (sym is) (λ follows. follows))
