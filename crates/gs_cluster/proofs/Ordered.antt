@@ -1,5 +1,5 @@
 -- One list of what the master, the servers and the clients have, in the order of their numbers.
-use Rattle.std.proofs.Common.{◌≡◌, ◌∙◌, ◌+◌, ◌-◌, ◌<◌, ◌≤◌, ◌++◌, ℕ, zero, suc, List, [], ◌∷◌, Some, None, length, length-append, sym, ap, subst, ⊎_elim, arith, slice_get}
+use Rattle.std.proofs.Common.{◌≡◌, ◌∙◌, ◌+◌, ◌-◌, ◌<◌, ◌≤◌, ◌++◌, ℕ, zero, suc, List, ◌∷◌, Some, None, length, length-append, sym, ap, subst, ⊎_elim, arith, slice_get}
 use Rattle.std.proofs.lemmas.Option.{slice_get_past, slice_get_within}
 use Rattle.gs_cluster.proofs.Lists.{at_before, at_behind, below_or, ends_there, same_lists}
 

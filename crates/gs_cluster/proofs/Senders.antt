@@ -1,5 +1,5 @@
 -- What was sent, by the outboxes of all nodes in the order of their numbers.
-use Rattle.std.proofs.Common.{◌≡◌, ◌∙◌, ◌+◌, ◌++◌, ℕ, suc, Bool, false, List, [], ◌∷◌, length, length-append, map, refl, sym, ap, arith}
+use Rattle.std.proofs.Common.{◌≡◌, ◌∙◌, ◌+◌, ◌++◌, ℕ, Bool, false, List, [], ◌∷◌, length, length-append, refl, sym, ap, arith}
 use Rattle.std.proofs.lemmas.List.{length-map, map-append, nil_from_length}
 use Rattle.gs_msg.specs.Posts.{Posted}
 use Rattle.gs_msg.specs.declared.outbox.Post.{Post}
