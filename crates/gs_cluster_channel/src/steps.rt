@@ -3,12 +3,14 @@ ghost use Rattle.std.specs.Prelude.{◌≡◌, ◌-◌, ◌<◌, ◌≤◌, []};
 ghost use Rattle.crossbeam_channel.specs.Claims.{view, IsSeatAt};
 ghost use Rattle.crossbeam_channel.specs.Ends.{sends_on, receives_on};
 ghost use Rattle.gs_cluster_channel.specs.Carried.{HasPut, HasTaken, hand, joined};
+ghost use Rattle.gs_cluster_channel.specs.Tried.{IsBack, was_put};
 ghost use Rattle.gs_cluster_history.specs.Histories.{Among};
 ghost use Rattle.gs_msg.specs.declared.sent.Sent.{Sent};
 
 use crate::hand::{Cut, Hand, Joined, Puts, Takes, Total, TwoEars};
 use crate::line::{Inlet, Outlet};
-use crossbeam_channel::Pass;
+use crate::tried::Tried;
+use crossbeam_channel::{Pass, TrySendError};
 use gs_msg::Sent;
 use std::sync::Wait;
 
@@ -17,13 +19,19 @@ pub(crate) fn try_put<R: Wait>(
     outlet: &Outlet,
     pass: &mut Pass<Sent, Hand>,
     sent: Sent,
-) -> bool
+) -> Tried
     requires seat { IsSeatAt (sends_on outlet.now) pass.old }
     requires part { 0 < (view pass.old).parts }
     ensures seat { IsSeatAt (sends_on outlet.now) pass.new }
-    ensures put { HasPut result sent (view pass.old) (view pass.new) }
+    ensures put { HasPut (was_put result) sent (view pass.old) (view pass.new) }
+    ensures back { IsBack sent result }
 {
-    outlet.try_send_as::<Puts, R>(rt, pass, sent).is_ok()
+    match outlet.try_send_as::<Puts, R>(rt, pass, sent) {
+        Ok(()) => Tried::Put,
+        Err(TrySendError::Disconnected(_)) => Tried::Lost,
+        Err(TrySendError::Full(back)) => Tried::Back(back),
+        Err(TrySendError::OutOfMemory(back)) => Tried::Back(back),
+    }
 }
 
 pub(crate) fn try_take<R: Wait>(rt: &R, inlet: &Inlet, pass: &mut Pass<Sent, Hand>) -> Option<Sent>

@@ -4,11 +4,13 @@ ghost use Rattle.crossbeam_channel.specs.Ends.{sends_on};
 ghost use Rattle.gs_cluster_channel.specs.Carried.{hand};
 ghost use Rattle.gs_cluster_channel.specs.Named.{IsNamed};
 ghost use Rattle.gs_cluster_channel.specs.Settled.{puts};
+ghost use Rattle.gs_cluster_channel.specs.Tried.{IsBack, was_put};
 
 use crate::hand::Hand;
 use crate::line::Outlet;
 use crate::naming::Naming;
 use crate::steps::try_put;
+use crate::tried::Tried;
 use crossbeam_channel::Pass;
 use gs_msg::{NodeId, Sent};
 use std::marker::{Model, PhantomData};
@@ -62,8 +64,9 @@ impl<N: Naming> Way<N> {
     }
 
     /// Tries to send: not where the channel is full, or nobody receives any more.
-    pub fn put<R: Wait>(&mut self, rt: &R, sent: Sent) -> bool
-        ensures { self.new ≡ puts result sent self.old }
+    pub fn put<R: Wait>(&mut self, rt: &R, sent: Sent) -> Tried
+        ensures put { self.new ≡ puts (was_put result) sent self.old }
+        ensures back { IsBack sent result }
     {
         let Way {
             to: _,

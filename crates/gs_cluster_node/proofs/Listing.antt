@@ -63,6 +63,26 @@ pub own_if : (me : NodeId) (sent : List Listed) (xs new : List Sent) (y : Sent) 
 own_if me sent xs new y true e own s = subst (AllOwn me sent) (sym e) (one_own me sent xs y own s.0 s.1)
 own_if me sent xs new y false e own s = subst (AllOwn me sent) (sym e) own
 
+-- the first of them, and those behind it
+pub own_first : (me : NodeId) (sent : List Listed) (xs ys : List Sent) (y : Sent) → xs ≡ y ∷ ys → AllOwn me sent xs → (y.from ≡ me) × (slice_get sent y.place ≡ Some (listing y))
+own_first me sent xs ys y e own = own y (subst (λ (l : List Sent). Among l y) (sym e) (0, refl))
+
+pub own_behind : (me : NodeId) (sent : List Listed) (xs ys : List Sent) (y : Sent) → xs ≡ y ∷ ys → AllOwn me sent xs → AllOwn me sent ys
+own_behind me sent xs ys y e own x a = own x (subst (λ (l : List Sent). Among l x) (sym e) (suc a.0, a.1))
+
+one_before : (me : NodeId) (sent : List Listed) (ys : List Sent) (y : Sent) → AllOwn me sent ys → (y.from ≡ me) × (slice_get sent y.place ≡ Some (listing y)) → AllOwn me sent (y ∷ ys)
+one_before me sent ys y own stands x (zero, h) = subst (λ (z : Sent). (z.from ≡ me) × (slice_get sent z.place ≡ Some (listing z))) (same_Some y x h) stands
+one_before me sent ys y own stands x (suc k, h) = own x (k, h)
+
+pub own_again : (me : NodeId) (sent : List Listed) (ys new : List Sent) (y : Sent) (done : Bool) → new ≡ (if done then y ∷ ys else ys)
+    → AllOwn me sent ys → (y.from ≡ me) × (slice_get sent y.place ≡ Some (listing y)) → AllOwn me sent new
+own_again me sent ys new y true e own stands = subst (AllOwn me sent) (sym e) (one_before me sent ys y own stands)
+own_again me sent ys new y false e own stands = subst (AllOwn me sent) (sym e) own
+
+-- what is said of whoever has sent a message is said of the node
+pub routed_for : (me : NodeId) (sent : List Listed) (x : Sent) (old new : List Putting) → x.from ≡ me → Routes x.from sent old new → Routes me sent old new
+routed_for me sent x old new mine r = subst (λ (n : NodeId). Routes n sent old new) mine r
+
 pub leads_at : (ways : List Putting) (at : ℕ) (way : Putting) → slice_get ways at ≡ Some way → slice_get (leads_of ways) at ≡ Some way.to
 leads_at ways at way h = map_at (λ (w : Putting). w.to) ways at way h
 

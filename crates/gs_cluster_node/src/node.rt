@@ -9,21 +9,24 @@ ghost use Rattle.gs_cluster_notes.specs.Notes.{Keeps};
 use crate::acting::{Done, act};
 use crate::gate::Gate;
 use crate::plan::Plan;
-use crate::posting::{put_again, put_all, remember, same};
+use crate::posting::{put_again, put_all, put_waiting, remember, same};
 use gs_base::{Moment, Refusal};
 use gs_cluster_channel::{Ear, Way};
 use gs_cluster_history::{Core, Log, Took, Turn};
 use gs_cluster_notes::Notes;
 use gs_msg::{Event, Happening, NodeId, Sent};
 use std::alloc::Global;
+use std::collections::VecDeque;
 use std::marker::Model;
 use std::sync::Wait;
 
-/// What a node keeps of what it did: its history, how much it has sent, copies of what it asked last, and its notes.
+/// What a node keeps of what it did: its history, how much it has sent, what of it waits for room on its way, copies of what it asked
+/// last, and its notes.
 #[derive(Drop)]
 struct Diary {
     log: Log,
     count: u64,
+    waiting: VecDeque<Sent>,
     asked: Vec<Sent>,
     notes: Notes,
 }
@@ -145,6 +148,7 @@ fn go<N: Plan, C: Core, R: Wait>(
     let Diary {
         log,
         count,
+        waiting,
         asked,
         notes,
     } = diary;
@@ -155,7 +159,7 @@ fn go<N: Plan, C: Core, R: Wait>(
     *count = first.saturating_add(out.len() as u64);
     notes.note(alloc, dated, &out);
     remember(alloc, asks, asked, log, me, first, clock, moment, &out);
-    put_all(rt, ways, log, me, first, clock, moment, out);
+    put_all(rt, ways, waiting, log, me, first, clock, moment, out);
     said
 }
 
@@ -184,7 +188,18 @@ impl<N: Plan, C: Core + Drop> Node<N, C> {
         let mut ways = ways;
         let count = turn.sent.len() as u64;
         let notes = Notes::first(alloc, are_noted, &turn.sent);
-        put_all(rt, &mut ways, &log, &me, 0, 0, Moment(0), turn.sent);
+        let mut waiting = VecDeque::new(alloc);
+        put_all(
+            rt,
+            &mut ways,
+            &mut waiting,
+            &log,
+            &me,
+            0,
+            0,
+            Moment(0),
+            turn.sent,
+        );
         Node {
             me,
             core,
@@ -194,6 +209,7 @@ impl<N: Plan, C: Core + Drop> Node<N, C> {
             diary: Diary {
                 log,
                 count,
+                waiting,
                 asked: Vec::new(alloc),
                 notes,
             },
@@ -322,6 +338,30 @@ impl<N: Plan, C: Core + Drop> Node<N, C> {
         put_again(rt, alloc, ways, &diary.log, me, &diary.asked);
     }
 
+    /// Puts on their ways what waited for room there, in order, as long as there is some. Nothing changes but what waits.
+    pub fn put_waiting<R: Wait>(&mut self, rt: &R)
+        ensures { self.new ≡ self.old }
+    {
+        let Node {
+            me,
+            core: _,
+            clock: _,
+            steps: _,
+            told: _,
+            diary,
+            ways,
+            ear: _,
+        } = self;
+        put_waiting(rt, ways, &mut diary.waiting, &diary.log, me);
+    }
+
+    /// Lets go what was asked last: it isn't put on its ways any more.
+    pub fn let_go(&mut self, alloc: Global)
+        ensures { self.new ≡ self.old }
+    {
+        self.diary.asked = Vec::new(alloc);
+    }
+
     /// Nothing more is heard or sent.
     pub fn into_parts(self) -> Parts<N, C>
         ensures sound { IsSound C.Does (C.Starts N.setting) (all_ids N.setting) self result.ways.items result.ear }
@@ -342,6 +382,7 @@ impl<N: Plan, C: Core + Drop> Node<N, C> {
         let Diary {
             log: _,
             count: _,
+            waiting: _,
             asked: _,
             notes,
         } = diary;

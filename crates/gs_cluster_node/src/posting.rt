@@ -6,10 +6,11 @@ ghost use Rattle.gs_cluster_node.specs.Nodes.{AllListed, last_clock};
 ghost use Rattle.gs_cluster_node.specs.inner.Acting.{AllOwn, AreAt, PutOn, Routes};
 
 use gs_base::Moment;
-use gs_cluster_channel::{Naming, Way};
+use gs_cluster_channel::{Naming, Tried, Way};
 use gs_cluster_history::Log;
 use gs_msg::{Message, NodeId, Sent};
 use std::alloc::Global;
+use std::collections::VecDeque;
 use std::sync::Wait;
 
 /// The place of the way into a node, if there is one.
@@ -37,32 +38,121 @@ fn receiver(sent: &Sent) -> NodeId
     sent.message.to
 }
 
-/// Tries to put a message into the way to its receiver.
-fn put_one<N: Naming, R: Wait>(rt: &R, ways: &mut Vec<Way<N>>, sent: Sent)
-    ensures { (ways.new.items ≡ ways.old.items) ⊎ PutOn sent ways.old.items ways.new.items }
+/// Tries to put a message into the way to its receiver. One that finds no room is handed back.
+fn put_one<N: Naming, R: Wait>(rt: &R, ways: &mut Vec<Way<N>>, sent: Sent) -> Option<Sent>
+    ensures ways { (ways.new.items ≡ ways.old.items) ⊎ PutOn sent ways.old.items ways.new.items }
+    ensures back { IfSome result (λ back. back ≡ sent) }
 {
     let Some(at) = way_to(ways, receiver(&sent)) else {
         drop(sent);
-        return;
+        return None;
     };
     let way = &mut ways[at];
-    let _ = way.put(rt, sent);
+    match way.put(rt, sent) {
+        Tried::Back(back) => Some(back),
+        Tried::Put | Tried::Lost => None,
+    }
 }
 
-/// Tries to put a message, which stands in the node's list.
-fn put_listed<N: Naming, R: Wait>(rt: &R, ways: &mut Vec<Way<N>>, log: &Log, sent: Sent)
+/// Tries to put a message, which stands in the node's list. One that finds no room is handed back.
+fn put_listed<N: Naming, R: Wait>(
+    rt: &R,
+    ways: &mut Vec<Way<N>>,
+    log: &Log,
+    sent: Sent,
+) -> Option<Sent>
     requires listed { slice_get log.now.sent sent.place ≡ Some (listing sent) }
     requires all { AllListed sent.from log.now.sent ways.old.items }
-    ensures { Routes sent.from log.now.sent ways.old.items ways.new.items }
+    ensures routes { Routes sent.from log.now.sent ways.old.items ways.new.items }
+    ensures back { IfSome result (λ back. back ≡ sent) }
 {
-    put_one(rt, ways, sent);
+    put_one(rt, ways, sent)
 }
 
-/// Puts messages that stand in a node's list, in order, each on its way. Some may find no room there. A message of the last
+/// Has a message of a node's own wait behind those that wait, if there is memory.
+fn wait_behind(log: &Log, me: &NodeId, waiting: &mut VecDeque<Sent>, sent: Sent)
+    requires own { AllOwn me.now log.now.sent waiting.old.items }
+    requires stands { (sent.from ≡ me.now) × (slice_get log.now.sent sent.place ≡ Some (listing sent)) }
+    ensures { AllOwn me.now log.now.sent waiting.new.items }
+{
+    let _ = waiting.push_back(sent);
+}
+
+/// Puts a message that stands in a node's list on its way. Where others wait, or it finds no room, it waits behind them.
+fn post<N: Naming, R: Wait>(
+    rt: &R,
+    ways: &mut Vec<Way<N>>,
+    waiting: &mut VecDeque<Sent>,
+    log: &Log,
+    me: &NodeId,
+    sent: Sent,
+)
+    requires stands { (sent.from ≡ me.now) × (slice_get log.now.sent sent.place ≡ Some (listing sent)) }
+    requires all { AllListed me.now log.now.sent ways.old.items }
+    requires own { AllOwn me.now log.now.sent waiting.old.items }
+    ensures routes { Routes me.now log.now.sent ways.old.items ways.new.items }
+    ensures own { AllOwn me.now log.now.sent waiting.new.items }
+{
+    if !waiting.is_empty() {
+        wait_behind(log, me, waiting, sent);
+        return;
+    }
+    if let Some(back) = put_listed(rt, ways, log, sent) {
+        wait_behind(log, me, waiting, back);
+    }
+}
+
+/// Puts the message that has waited longest on its way. The answer is whether it went there; else it waits as before.
+fn put_first<N: Naming, R: Wait>(
+    rt: &R,
+    ways: &mut Vec<Way<N>>,
+    waiting: &mut VecDeque<Sent>,
+    log: &Log,
+    me: &NodeId,
+) -> bool
+    requires all { AllListed me.now log.now.sent ways.old.items }
+    requires own { AllOwn me.now log.now.sent waiting.old.items }
+    ensures routes { Routes me.now log.now.sent ways.old.items ways.new.items }
+    ensures own { AllOwn me.now log.now.sent waiting.new.items }
+{
+    let Some(sent) = waiting.pop_front() else {
+        return false;
+    };
+    match put_listed(rt, ways, log, sent) {
+        Some(back) => {
+            let _ = waiting.push_front(back);
+            false
+        }
+        None => true,
+    }
+}
+
+/// Puts messages that wait on their ways, in order, as long as they find room.
+pub(crate) fn put_waiting<N: Naming, R: Wait>(
+    rt: &R,
+    ways: &mut Vec<Way<N>>,
+    waiting: &mut VecDeque<Sent>,
+    log: &Log,
+    me: &NodeId,
+)
+    requires all { AllListed me.now log.now.sent ways.old.items }
+    requires own { AllOwn me.now log.now.sent waiting.old.items }
+    ensures routes { Routes me.now log.now.sent ways.old.items ways.new.items }
+    ensures own { AllOwn me.now log.now.sent waiting.new.items }
+{
+    for _ in 0..waiting.len() {
+        if !put_first(rt, ways, waiting, log, me) {
+            return;
+        }
+    }
+}
+
+/// Puts messages that stand in a node's list, in order, each on its way. Those that find no room there wait. A message of the last
 /// clock of all is not put, and none is where a node has sent more than it can count.
 pub(crate) fn put_all<N: Naming, R: Wait>(
     rt: &R,
     ways: &mut Vec<Way<N>>,
+    waiting: &mut VecDeque<Sent>,
     log: &Log,
     me: &NodeId,
     first: u64,
@@ -72,7 +162,9 @@ pub(crate) fn put_all<N: Naming, R: Wait>(
 )
     requires listed { first < last_clock → AreAt log.now.sent first clock moment messages.items }
     requires all { AllListed me.now log.now.sent ways.old.items }
-    ensures { Routes me.now log.now.sent ways.old.items ways.new.items }
+    requires own { AllOwn me.now log.now.sent waiting.old.items }
+    ensures routes { Routes me.now log.now.sent ways.old.items ways.new.items }
+    ensures own { AllOwn me.now log.now.sent waiting.new.items }
 {
     if clock == u64::MAX {
         return;
@@ -89,7 +181,7 @@ pub(crate) fn put_all<N: Naming, R: Wait>(
             moment,
             message,
         };
-        put_listed(rt, ways, log, sent);
+        post(rt, ways, waiting, log, me, sent);
         place += 1;
     }
 }
@@ -179,7 +271,7 @@ fn put_copy<N: Naming, R: Wait>(
     let Ok(copy) = sent.copy(alloc) else {
         return;
     };
-    put_listed(rt, ways, log, copy);
+    drop(put_listed(rt, ways, log, copy));
 }
 
 /// Puts messages of a node's own once more, each on its way.

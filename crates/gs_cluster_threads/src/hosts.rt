@@ -14,8 +14,7 @@ use std::thread;
 use std::thread::{JoinHandle, Threads};
 use std::time::Clock;
 
-/// Nodes on threads: two threads share each.
-#[derive(Drop)]
+/// Nodes on threads: two threads share each. Where it is let go, its threads end.
 pub struct Hosts<N: Plan, C: Core + Drop> {
     alloc: Global,
     end: Arc<AtomicBool, Global>,
@@ -23,6 +22,18 @@ pub struct Hosts<N: Plan, C: Core + Drop> {
     many: usize,
     pub handles: Vec<JoinHandle<Node<N, C>>>,
     ghost all: { many ≡ length (all_ids N.setting) },
+}
+
+impl<N: Plan, C: Core + Drop> Drop for Hosts<N, C> {
+    fn drop(self) {
+        let Self {
+            alloc: _,
+            end,
+            many: _,
+            handles: _,
+        } = self;
+        end.store(true, Ordering::SeqCst);
+    }
 }
 
 /// A thread with a node, which it gives back when the cluster ends.

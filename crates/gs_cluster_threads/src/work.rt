@@ -9,11 +9,14 @@ use std::thread;
 use std::thread::Threads;
 use std::time::{Clock, Duration};
 
-/// So often a thread looks for a message before it lets the clock of its node tick, if something waits there.
-pub const LOOKS: u32 = 100_000;
+/// So often a thread looks while nothing happens to its node before it lets the node's clock tick, if something waits there.
+pub const LOOKS: u32 = 8_000;
 
 /// So often it looks without a rest.
 const EAGER: u32 = 2_000;
+
+/// So often it looks before it rests for longer.
+const ALERT: u32 = 6_000;
 
 /// A step that was made: whose, and which.
 #[derive(Drop)]
@@ -31,27 +34,22 @@ fn keeper_of(node: NodeId) -> Option<StoreNode> {
     }
 }
 
-/// One step of a node, if there is one to make.
-fn make_step<N: Plan, C: Core + Drop, R: Wait, G: Gate>(
+/// What a look comes to: the step that was made, if one was, and how many steps the node has made by then.
+#[derive(Drop)]
+struct Look {
+    made: Option<Made>,
+    steps: u64,
+}
+
+/// A step of a node whose clock ticks, if something waits there that a tick may move on.
+fn tick<N: Plan, C: Core + Drop, R: Wait, G: Gate>(
     rt: &R,
     alloc: Global,
     gate: &G,
     node: &mut Node<N, C>,
-    may_tick: bool,
+    made: Made,
 ) -> Option<Made> {
-    let made = Made {
-        node: node.me(),
-        step: node.steps(),
-    };
-    match node.receive(rt, alloc, gate) {
-        Ok(Some(said)) => {
-            let _ = said;
-            return Some(made);
-        }
-        Ok(None) => {}
-        Err(_) => return None,
-    }
-    if !may_tick || !node.core().is_waiting() {
+    if !node.core().is_waiting() {
         return None;
     }
     let event = Event {
@@ -62,16 +60,59 @@ fn make_step<N: Plan, C: Core + Drop, R: Wait, G: Gate>(
     Some(made)
 }
 
-/// Rests a little behind so many looks.
+/// One step of a node, if there is one to make. Its clock may tick where it has made no step since it had made so many.
+fn make_step<N: Plan, C: Core + Drop, R: Wait, G: Gate>(
+    rt: &R,
+    alloc: Global,
+    gate: &G,
+    node: &mut Node<N, C>,
+    quiet_since: Option<u64>,
+) -> Option<Made> {
+    let step = node.steps();
+    let made = Made {
+        node: node.me(),
+        step,
+    };
+    match node.receive(rt, alloc, gate) {
+        Ok(Some(said)) => {
+            let _ = said;
+            return Some(made);
+        }
+        Ok(None) => {}
+        Err(_) => return None,
+    }
+    if quiet_since != Some(step) {
+        return None;
+    }
+    tick(rt, alloc, gate, node, made)
+}
+
+/// Looks once what there is to do for a node: what waits for room goes on its way, and a step is made, if there is one to make.
+fn look<N: Plan, C: Core + Drop, R: Wait, G: Gate>(
+    rt: &R,
+    alloc: Global,
+    gate: &G,
+    node: &mut Node<N, C>,
+    quiet_since: Option<u64>,
+) -> Look {
+    node.put_waiting(rt);
+    let made = make_step(rt, alloc, gate, node, quiet_since);
+    let steps = node.steps();
+    Look { made, steps }
+}
+
+/// Rests a little behind so many looks, and longer behind more.
 pub fn rest<R: Clock>(rt: &R, looks: u32) {
     if looks < EAGER {
         thread::yield_now();
+    } else if looks < ALERT {
+        thread::sleep(rt, Duration::from_micros(50));
     } else {
-        thread::sleep(rt, Duration::from_micros(20));
+        thread::sleep(rt, Duration::from_millis(2));
     }
 }
 
-/// The work of one thread, until the cluster ends.
+/// The work of one thread, until the cluster ends. What either thread of a node does begins its waiting for a tick anew.
 fn work<N: Plan, C: Core + Drop, R: Wait + Clock, G: Gate>(
     rt: &R,
     alloc: Global,
@@ -80,21 +121,22 @@ fn work<N: Plan, C: Core + Drop, R: Wait + Clock, G: Gate>(
     seat: &Mutex<Node<N, C>>,
 ) {
     let mut looks: u32 = 0;
+    let mut seen: u64 = 0;
     for _ in rt.forever() {
         if end.load(Ordering::SeqCst) {
             return;
         }
-        let may_tick = looks >= LOOKS;
-        let made = make_step(rt, alloc, gate, &mut *seat.lock(rt), may_tick);
-        match made {
-            Some(Made { node, step }) => {
-                gate.leave(node, step);
-                looks = 0;
-            }
-            None => {
-                looks = if may_tick { 0 } else { looks + 1 };
-                rest(rt, looks);
-            }
+        let quiet_since = if looks >= LOOKS { Some(seen) } else { None };
+        let Look { made, steps } = look(rt, alloc, gate, &mut *seat.lock(rt), quiet_since);
+        if let Some(Made { node, step }) = made {
+            gate.leave(node, step);
+        }
+        if steps == seen {
+            looks = looks.saturating_add(1).min(LOOKS);
+            rest(rt, looks);
+        } else {
+            seen = steps;
+            looks = 0;
         }
     }
 }

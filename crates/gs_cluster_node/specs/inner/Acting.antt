@@ -24,6 +24,7 @@ AllOwn me sent xs = (x : Sent) → Among xs x → (x.from ≡ me) × (slice_get 
 -- What a node keeps of what it did is of its history.
 pub record Agrees (me : NodeId) (diary : Diary) : Type 0 where
   pub counts : Counts diary.count diary.log.sent
+  pub waits : AllOwn me diary.log.sent diary.waiting.items
   pub own : AllOwn me diary.log.sent diary.asked.items
   pub keeps : Keeps diary.notes diary.log.entries diary.log.sent
 

@@ -18,6 +18,9 @@ put_all-requires-clause-listed g c =
 pub put_all-requires-clause-all : goal.put_all-requires-clause-all
 put_all-requires-clause-all g c = none_listed c.args.me c.first-log.result.sent c.args.ways.items c.requires.silent
 
+pub put_all-requires-clause-own : goal.put_all-requires-clause-own
+put_all-requires-clause-own g c = own_none c.args.me c.first-log.result.sent _ c.new-waiting.ensures.items
+
 pub invariant_of-result : goal.invariant_of-result
 invariant_of-result g c =
     let same : c.first-log.result.sent ≡ first_sent c.args.turn = c.first-log.ensures.1 ∙ ap (λ (l : List Listed). l ++ first_sent c.args.turn) c.new.ensures.1 in
@@ -30,14 +33,15 @@ invariant_of-result g c =
           leads = subst (λ (es : List Entry). Leads g.C.Core.Does c.args.me begun es begun) (sym none) refl;
         };
         mine = c.requires.mine;
-        leads = c.put_all.ensures.1 ∙ c.requires.leads;
-        put = c.put_all.ensures.0;
+        leads = c.put_all.ensures.routes.1 ∙ c.requires.leads;
+        put = c.put_all.ensures.routes.0;
         me = ap (λ (e : Hearing). e.me) c.requires.ear;
         heard = ap (λ (e : Hearing). e.taken) c.requires.ear ∙ ap heard_of (sym none);
         whole = c.requires.whole;
       },
       record {
         counts = λ below. first_count c.args.turn.sent.items c.first-log.result.sent c.len-count.result (c.len-count.ensures ∙ c.args.turn.sent.ok.0) same;
+        waits = c.put_all.ensures.own;
         own = own_none c.args.me c.first-log.result.sent _ c.new-2.ensures.items;
         keeps = subst (λ (es : List Entry). Keeps c.first-notes.result es c.first-log.result.sent) (sym none) (subst (λ (ls : List Listed). Keeps c.first-notes.result [] ls) (sym same) (subst (λ (ms : List Message). Keeps c.first-notes.result [] (map (listed 0 (record { 0 = 0 })) ms)) c.deref.ensures.value c.first-notes.ensures));
       },
