@@ -11,7 +11,8 @@ use gs_journal::Disk;
 use gs_msg::{Event, Happening, Request};
 use std::alloc::Global;
 use std::sync::Wait;
-use std::time::Clock;
+use std::thread;
+use std::time::{Clock, Duration};
 
 /// A client of a cluster, at its caller: what it asks goes out at its moment, and it waits for the reply, however long. Where nothing comes for
 /// long it asks once more by the same messages.
@@ -53,6 +54,7 @@ fn look<N: Plan, D: Disk + Drop, R: Wait + Clock>(
         Err(refusal) => return Err(refusal),
     }
     let many = looks + 1;
+    node.put_waiting(rt);
     rest(rt, many);
     if many < LOOKS {
         return Ok(many);
@@ -68,6 +70,11 @@ impl<N: Plan, D: Disk + Drop, R: Wait + Clock + Drop> Caller<N, D, R> {
         ensures moment { self.new.moment ≡ moment }
     {
         self.moment = moment;
+    }
+
+    /// Rests so many milliseconds. Nothing happens to its node meanwhile.
+    pub fn pause(&self, millis: u64) {
+        thread::sleep(&self.rt, Duration::from_millis(millis));
     }
 
     /// Hears what comes, until there is a reply.
@@ -107,7 +114,11 @@ impl<N: Plan, D: Disk + Drop, R: Wait + Clock + Drop> Link for Caller<N, D, R> {
         };
         let asked = self.node.step(&self.rt, self.alloc, &Open, event);
         match asked {
-            Ok(Ok(())) => self.wait(),
+            Ok(Ok(())) => {
+                let reply = self.wait();
+                self.node.let_go(self.alloc);
+                reply
+            }
             Ok(Err(refusal)) => Reply::Refused(refusal),
             Err(refusal) => Reply::Refused(refusal),
         }

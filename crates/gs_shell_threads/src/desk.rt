@@ -18,6 +18,14 @@ use std::time::Clock;
 /// How often a commit is asked for that can't be yet.
 const TURNS: u64 = 10_000;
 
+/// Behind so many turns the master is left alone for long enough that its clock ticks.
+const LONG_TURNS: u64 = 1_000;
+
+/// For how many milliseconds nothing is asked behind a turn.
+fn pause_behind(turn: u64) -> u64 {
+    if turn % LONG_TURNS == 0 { 6_000 } else { 1 }
+}
+
 /// One client of a store whose nodes run in threads.
 #[derive(Drop)]
 pub struct Desk<N: Plan, D: Disk + Drop, T: Wait + Clock + Drop> {
@@ -48,10 +56,11 @@ impl<N: Plan, D: Disk + Drop, T: Wait + Clock + Drop> Desk<N, D, T> {
         ensures { FollowsDialogue (Sends (carried D.seen D.failures)) (until more_turns (step_line step)) (self.old.caller.client, self.old.link) result (self.new.caller.client, self.new.link) }
     {
         let mut answer = self.caller.ask(&mut self.link, Command::Step(step));
-        for _ in 1..TURNS {
+        for turn in 1..TURNS {
             if !is_for_now(&answer) {
                 break;
             }
+            self.link.pause(pause_behind(turn));
             answer = self.caller.ask(&mut self.link, Command::Step(step));
         }
         answer
