@@ -1,6 +1,7 @@
 use gs_msg::NodeId;
 
-/// What is told of each step of a node, under its lock: that it begins, and that it is done. Steps of a node are counted from 0.
+/// What is told of each step of a node: that it begins, under its lock, and that it is done, behind that. Steps of a node are counted
+/// from 0.
 pub trait Gate {
     fn enter(&self, node: NodeId, step: u64);
 

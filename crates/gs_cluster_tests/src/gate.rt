@@ -23,16 +23,19 @@ use std::time::Clock;
 /// How often a step that is held looks whether it may go on.
 const TURNS: u64 = 100_000_000;
 
-/// Which steps have left, and which were let go.
+/// Which steps have begun, which have left, and which were let go.
 #[derive(Drop)]
 struct Steps {
+    server_began: AtomicBool,
     server_left: AtomicBool,
     master_left: AtomicBool,
+    other_went: AtomicBool,
     server_went: AtomicBool,
     master_went: AtomicBool,
 }
 
-/// The first step of server 0 is held until server 1 has left one, and the master, as it leaves its step 3, until its step 4 has left.
+/// The first step of server 1 is held until server 0 has begun one, which is held, its lock taken, until server 1 has left that step; and
+/// the master, as it leaves its step 3, until its step 4 has left.
 #[derive(Drop)]
 struct Held {
     steps: Arc<Steps, Global>,
@@ -53,10 +56,15 @@ fn wait_for(is: &AtomicBool, went: &AtomicBool) {
 
 impl Gate for Held {
     fn enter(&self, node: NodeId, step: u64) {
-        if let NodeId::Server(server) = node {
-            if server.number() == 0 && step == 0 {
-                wait_for(&self.steps.server_left, &self.steps.server_went);
-            }
+        let NodeId::Server(server) = node else {
+            return;
+        };
+        if server.number() == 0 && step == 0 {
+            self.steps.server_began.store(true, Ordering::SeqCst);
+            wait_for(&self.steps.server_left, &self.steps.server_went);
+        }
+        if server.number() == 1 && step == 0 {
+            wait_for(&self.steps.server_began, &self.steps.other_went);
         }
     }
 
@@ -114,8 +122,10 @@ fn steps_of_two_nodes_and_of_two_threads_of_one_node_overlap(rt: HostRuntime) ->
     let steps = Arc::new(
         alloc,
         Steps {
+            server_began: AtomicBool::new(false),
             server_left: AtomicBool::new(false),
             master_left: AtomicBool::new(false),
+            other_went: AtomicBool::new(false),
             server_went: AtomicBool::new(false),
             master_went: AtomicBool::new(false),
         },
@@ -126,6 +136,7 @@ fn steps_of_two_nodes_and_of_two_threads_of_one_node_overlap(rt: HostRuntime) ->
     let opened = Opened::new(alloc, config, 1, empty_disks(alloc))?;
     let answers = written::<Brand, HostRuntime>(&rt, alloc, gate, opened)?;
     assert_eq!(rt; answers.as_str(), "ok\nok\nok 61");
+    assert!(rt; steps.other_went.load(Ordering::SeqCst));
     assert!(rt; steps.server_went.load(Ordering::SeqCst));
     assert!(rt; steps.master_went.load(Ordering::SeqCst));
     Ok(())
