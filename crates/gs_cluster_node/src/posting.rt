@@ -78,6 +78,15 @@ fn wait_behind(log: &Log, me: &NodeId, waiting: &mut VecDeque<Sent>, sent: Sent)
     let _ = waiting.push_back(sent);
 }
 
+/// Has a message of a node's own wait before those that wait, if there is memory.
+fn wait_first(log: &Log, me: &NodeId, waiting: &mut VecDeque<Sent>, sent: Sent)
+    requires own { AllOwn me.now log.now.sent waiting.old.items }
+    requires stands { (sent.from ≡ me.now) × (slice_get log.now.sent sent.place ≡ Some (listing sent)) }
+    ensures { AllOwn me.now log.now.sent waiting.new.items }
+{
+    let _ = waiting.push_front(sent);
+}
+
 /// Puts a message that stands in a node's list on its way. Where others wait, or it finds no room, it waits behind them.
 fn post<N: Naming, R: Wait>(
     rt: &R,
@@ -120,7 +129,7 @@ fn put_first<N: Naming, R: Wait>(
     };
     match put_listed(rt, ways, log, sent) {
         Some(back) => {
-            let _ = waiting.push_front(back);
+            wait_first(log, me, waiting, back);
             false
         }
         None => true,
