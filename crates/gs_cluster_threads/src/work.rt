@@ -10,7 +10,7 @@ use std::thread::Threads;
 use std::time::{Clock, Duration};
 
 /// So often a thread looks while nothing happens to its node before it lets the node's clock tick, if something waits there.
-pub const LOOKS: u32 = 8_000;
+pub const LOOKS: u32 = 7_000;
 
 /// So often it looks without a rest.
 const EAGER: u32 = 2_000;
@@ -108,7 +108,7 @@ pub fn rest<R: Clock>(rt: &R, looks: u32) {
     } else if looks < ALERT {
         thread::sleep(rt, Duration::from_micros(50));
     } else {
-        thread::sleep(rt, Duration::from_millis(2));
+        thread::sleep(rt, Duration::from_millis(3));
     }
 }
 

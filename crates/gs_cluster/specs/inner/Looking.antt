@@ -11,7 +11,7 @@ use Rattle.gs_cluster_node.specs.Nodes.{Stepped, last_clock}
 
 -- so often it looks before what was asked goes out once more
 abbrev pub most_looks : ℕ
-most_looks = 8000
+most_looks = 7000
 
 module _ {D : Type 0} (seen : D → List ℕ) (failures : D → ℕ) where
   -- a message is heard
