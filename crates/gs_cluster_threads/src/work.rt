@@ -36,7 +36,7 @@ fn keeper_of(node: NodeId) -> Option<StoreNode> {
 
 /// What a look comes to: the step that was made, if one was, and how many steps the node has made by then.
 #[derive(Drop)]
-struct Look {
+struct Seen {
     made: Option<Made>,
     steps: u64,
 }
@@ -94,11 +94,11 @@ fn look<N: Plan, C: Core + Drop, R: Wait, G: Gate>(
     gate: &G,
     node: &mut Node<N, C>,
     quiet_since: Option<u64>,
-) -> Look {
+) -> Seen {
     node.put_waiting(rt);
     let made = make_step(rt, alloc, gate, node, quiet_since);
     let steps = node.steps();
-    Look { made, steps }
+    Seen { made, steps }
 }
 
 /// Rests a little behind so many looks, and longer behind more.
@@ -127,7 +127,7 @@ fn work<N: Plan, C: Core + Drop, R: Wait + Clock, G: Gate>(
             return;
         }
         let quiet_since = if looks >= LOOKS { Some(seen) } else { None };
-        let Look { made, steps } = look(rt, alloc, gate, &mut *seat.lock(rt), quiet_since);
+        let Seen { made, steps } = look(rt, alloc, gate, &mut *seat.lock(rt), quiet_since);
         if let Some(Made { node, step }) = made {
             gate.leave(node, step);
         }
