@@ -8,3 +8,5 @@ mod callers;
 mod gate;
 #[cfg(test)]
 mod script;
+#[cfg(test)]
+mod whole;

@@ -1,0 +1,127 @@
+ghost use Rattle.gs_cluster.specs.Opened.{IsNew, names_of};
+ghost use Rattle.gs_journal.specs.Memory.{bytes_of, times_failed};
+ghost use Rattle.std.specs.Prelude.{◌≡◌};
+
+use gs_base::{ClientId, Config, Refusal, ServerId};
+use gs_cluster::{Cluster, Opened, Whole};
+use gs_cluster_node::{Open, Plan};
+use gs_journal::MemoryDisk;
+use gs_msg::{Event, Happening, NodeId, Outbox, Post};
+use gs_nodes::empty_disks;
+use gs_shell_script::Answering;
+use gs_shell_threads::Desk;
+use gs_world::World;
+use std::alloc::Global;
+use std::marker::Brand;
+use std::sync::Wait;
+use std::test::Fail;
+use std::thread::Threads;
+use std::time::Clock;
+
+/// What one caller asks.
+const LINES: [&str; 5] = [
+    "mkdir /d",
+    "create /d/f",
+    "write /d/f 0 68656c6c6f",
+    "append /d/f 21",
+    "read /d/f 0 16",
+];
+
+/// What a cluster comes to whose nodes keep notes, where one caller asks.
+fn one_asks<
+    N: Plan + Send + Sync + 'static,
+    T: Threads + Wait + Clock + Copy + Drop + Send + Sync + 'static,
+>(rt: &T, alloc: Global, opened: Opened<MemoryDisk>) -> Result<Whole<MemoryDisk>, Refusal>
+    requires names { N.names ≡ names_of N.setting.config.servers opened.seeds.items }
+    requires config { opened.config ≡ N.setting.config }
+    requires new { IsNew bytes_of times_failed N.setting opened.seeds.items }
+{
+    let config = opened.config;
+    let (cluster, mut links) = Cluster::<N, MemoryDisk>::start(rt, alloc, Open, opened)?;
+    let Some(link) = links.pop() else {
+        return Err(Refusal::Stray);
+    };
+    let caller = gs_shell_calls::Caller::new(alloc, ClientId(1), config);
+    let mut desk = Desk { caller, link };
+    for line in LINES {
+        drop(desk.answer(alloc, line.as_bytes())?);
+    }
+    let Desk { caller: _, link } = desk;
+    links.push(link)?;
+    cluster.finish_whole::<T>(rt, links)
+}
+
+/// Whether the same was sent.
+fn is_same(posts: &[Post], others: &[Post]) -> bool {
+    if posts.len() != others.len() {
+        return false;
+    }
+    for (post, other) in posts.iter().zip(others.iter()) {
+        if !post.is_same(other) {
+            return false;
+        }
+    }
+    true
+}
+
+/// What an outbox holds, if there is one.
+fn has_sent_the_same(one: Option<&Outbox>, other: Option<&Outbox>) -> bool {
+    match (one, other) {
+        (Some(one), Some(other)) => one.len() > 0 && is_same(one.as_slice(), other.as_slice()),
+        _ => false,
+    }
+}
+
+/// How many events are messages that came.
+fn delivered(events: &[Event]) -> u64 {
+    let mut many: u64 = 0;
+    for event in events.iter() {
+        if matches!(&event.happening, Happening::Deliver(_)) {
+            many = many.saturating_add(1);
+        }
+    }
+    many
+}
+
+/// The events of a cluster, on one thread, are a run of a new store in which each node sends what it has sent in the cluster. Three quarters
+/// of all that was sent are delivered in them, at least.
+#[test]
+fn events_of_threads_run_on_one(rt: HostRuntime) -> Result<(), Fail> {
+    let alloc = rt.alloc();
+    let config = Config::new(3, 1, 3, 64, 256)?;
+    let mut opened = Opened::new(alloc, config, 1, empty_disks(alloc))?;
+    opened.are_noted = true;
+    let Whole {
+        nodes: _,
+        sent,
+        events,
+    } = one_asks::<Brand, HostRuntime>(&rt, alloc, opened)?;
+    let came = delivered(&events);
+    let mut world = World::new(alloc, config)?;
+    drop(world.run(events)?);
+    let mut many: u64 = 0;
+    let nodes = [
+        NodeId::Master,
+        NodeId::Server(ServerId::new(0).unwrap()),
+        NodeId::Server(ServerId::new(1).unwrap()),
+        NodeId::Server(ServerId::new(2).unwrap()),
+        NodeId::Client(ClientId(1)),
+    ];
+    for node in nodes {
+        assert!(rt; has_sent_the_same(sent.outbox(node), world.sent.outbox(node)));
+        many = many.saturating_add(sent.count(node));
+    }
+    assert!(rt; came.saturating_mul(4) >= many.saturating_mul(3));
+    Ok(())
+}
+
+/// Without notes there is no whole end.
+#[test]
+fn what_was_not_noted_is_not_told(rt: HostRuntime) -> Result<(), Fail> {
+    let alloc = rt.alloc();
+    let config = Config::new(1, 1, 1, 64, 256)?;
+    let opened = Opened::new(alloc, config, 1, empty_disks(alloc))?;
+    let whole = one_asks::<Brand, HostRuntime>(&rt, alloc, opened);
+    assert!(rt; matches!(whole, Err(Refusal::Memory)));
+    Ok(())
+}
