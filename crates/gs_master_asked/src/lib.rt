@@ -1,0 +1,18 @@
+//! Whom the master answers: each reply that it sends, keeps or records is to the call that comes, or to one that has waited.
+#![tactic(auto)]
+
+ghost use Rattle.gs_master_asked.specs.Concerned.{CheckpointsAnswerNobody, KeptAreTold, MessagesAnswerConcerned, StepsAnswerConcerned, TicksAnswerConcerned};
+
+/// Each event of the master, whatever it has met before: each reply that it sends is to the call that comes or to one that waits as it comes; each that it keeps behind the event, in memory or on record, it kept
+/// before, or it is to such a call; so is each reply that one of its records tells; and what waits behind it comes with it or has waited. A tick answers only who has waited, and a checkpoint nobody.
+pub fn only_who_calls_is_answered()
+    ensures messages { MessagesAnswerConcerned }
+    ensures ticks { TicksAnswerConcerned }
+    ensures steps { StepsAnswerConcerned }
+    ensures checkpoints { CheckpointsAnswerNobody }
+{}
+
+/// Where records are replayed, each reply that is kept behind them was kept before them, or one of them tells it.
+pub fn what_is_kept_is_told()
+    ensures { KeptAreTold }
+{}
