@@ -163,7 +163,7 @@ module _ (P : ReqId → Type 0) where
   record_so d e (Whole c) is fit = absurd is
 
   -- one that is done, or passed over where it doesn't fit
-  done_so : (d : Durable) (entry : PlainEntry) → RecordSo entry → On d.replies (unwrap_or (applied d entry) d).replies
+  pub done_so : (d : Durable) (entry : PlainEntry) → RecordSo entry → On d.replies (unwrap_or (applied d entry) d).replies
   done_so d entry is = by_gives (applied d entry) refl
     where
       by_gives : (o : Option Durable) → applied d entry ≡ o → On d.replies (unwrap_or o d).replies

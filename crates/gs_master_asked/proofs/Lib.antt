@@ -1,1 +1,4 @@
 pub mod Kept
+pub mod Plans
+pub mod Answering
+pub mod Concerning
