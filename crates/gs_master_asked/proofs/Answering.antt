@@ -1,9 +1,9 @@
 -- Each event of the master answers, keeps and lets wait only such requests as the call that comes, and those that wait.
-use Rattle.std.proofs.Common.{◌==◌, ◌&&◌, ◌||◌, ◌+◌, ◌++◌, ℕ, Bool, true, false, not, List, [], ◌∷◌, length, map, filter}
+use Rattle.std.proofs.Common.{◌==◌, ◌&&◌, ◌||◌, ◌+◌, ℕ, Bool, true, false, not, List, [], ◌∷◌, length, map, filter}
 use Rattle.std.specs.Prelude.{flat_map, is_none, nat_le, nat_lt, slice_get, Option, Some, None, Result, Ok, Err, if◌then◌else◌}
 use Rattle.std.specs.List.{AllByRecursion, list_all, list_any}
 use Rattle.std.specs.FinMap as fin
-use Rattle.gs_base.specs.Members.{count_from, is_member}
+use Rattle.gs_base.specs.Members.{is_member}
 use Rattle.gs_base.specs.Stamps.{is_same}
 use Rattle.gs_base.specs.declared.config.Config.{Config}
 use Rattle.gs_base.specs.declared.epoch.EpochEnd.{EpochEnd}
@@ -24,7 +24,6 @@ use Rattle.gs_edit.specs.declared.edit.Edit.TheVariants as edits
 use Rattle.gs_lease.specs.Transitions.{end_of}
 use Rattle.gs_lease.specs.declared.view.Purpose.{Purpose}
 use Rattle.gs_lease.specs.declared.view.Purpose.TheVariants as purposes
-use Rattle.gs_lease.specs.declared.view.Term.{Term}
 use Rattle.gs_lease.specs.declared.view.View.{View}
 use Rattle.gs_msg.specs.declared.answer.Answer.{Answer}
 use Rattle.gs_msg.specs.declared.answer.Answer.TheVariants as answers
@@ -35,20 +34,19 @@ use Rattle.gs_msg.specs.declared.call.Call.{Call}
 use Rattle.gs_msg.specs.declared.call.Call.TheVariants as calls
 use Rattle.gs_msg.specs.declared.chunk.Chunk.{Chunk as Said_of_chunk}
 use Rattle.gs_msg.specs.declared.chunk.Chunk.TheVariants as chunks
-use Rattle.gs_lease.specs.declared.held.Grant.{Grant}
 use Rattle.gs_msg.specs.declared.message.Message.{Message}
 use Rattle.gs_msg.specs.declared.node.NodeId.{NodeId}
 use Rattle.gs_msg.specs.declared.node.NodeId.TheVariants as nodes
 use Rattle.gs_place.specs.Needs.{most_needed_of}
 use Rattle.gs_master_record.specs.Plain.{PlainEdit, PlainEntry, AddChunk, Cow, Create, Edited, Finalize, Hide, Mkdirs, Prepare, Rename, RollbackBegin, RollbackCommit, Snapshot, Unhide}
-use Rattle.gs_master_spec.specs.Beginning.{all_begun, begin_at, begun, copy_plan, counted_views, create_plan, has_handle, has_versions, members_at, next_stamp, targets_for, waits_from_now, waits_on}
+use Rattle.gs_master_spec.specs.Beginning.{all_begun, begin_at, begun, copy_plan, counted_views, create_plan, has_handle, has_versions, next_stamp, targets_for, waits_from_now, waits_on}
 use Rattle.gs_master_spec.specs.Calls.{accept_plan, answered_with, deleted, edit_if, edited_by, found_chunk, has_visible_child, is_shared, listing, location, looked_up, most_chunks, refused_before, status, told_phase}
 use Rattle.gs_master_spec.specs.Chunks.{Chunk, chunk_at, heard_no, heard_yes, hears, is_leased, is_quiet, is_target, is_wanted, may_begin, members_of, settling, step_at_tick, step_of_no, step_of_yes, view_by, view_of}
-use Rattle.gs_master_spec.specs.Durable.{Durable, is_rolling, prepared_view}
-use Rattle.gs_master_spec.specs.Handling.{Numbered, New, Again, Older, about_turn, call_turn, called, called_unless, checkpoint, checkpoint_body, checkpoint_tests, due, from_client, from_node, granted, granted_at, granted_view, handle, numbered, pressed, pressed_at, pressed_if, proposals, replied_again, server_turn, taken_as, tick, told_again, waits_still, written_if_due, written_unless}
+use Rattle.gs_master_spec.specs.Durable.{is_rolling, prepared_view}
+use Rattle.gs_master_spec.specs.Handling.{Numbered, New, Again, Older, about_turn, call_turn, called, called_unless, from_client, from_node, granted, granted_at, granted_view, handle, numbered, pressed, pressed_at, pressed_if, proposals, replied_again, server_turn, taken_as, waits_still}
 use Rattle.gs_master_spec.specs.Hearing.{ask_plan, drops, end_told, heard, is_leased_under, is_lost_at, is_stray, learned, lost, made_quiet, next_epoch, promised_at, promised_for, reported, reported_now, sends, stepped, unpromised_at, unpromised_for}
-use Rattle.gs_master_spec.specs.Settling.{all_go_on, all_refused, concerned, copied, edit_plan, edit_turn, ended_by_edit, ended_with, goes_on, grant_of, if_room_for, is_quiet_at, leased_next, own_request, replace_plan, replaced_if, requests_of, settle_plan, settled_by, settled_if, settled_on, source_chunks}
-use Rattle.gs_master_spec.specs.State.{Plan, State, Turn, about, all_ended_by, and_then, ended_by, first_of, fits, for_each, if_room, is_failed, is_unopened, last_reply, met_by, post, refused, reply_to, to_each, turned, unmoved}
+use Rattle.gs_master_spec.specs.Settling.{all_go_on, all_refused, concerned, copied, edit_plan, edit_turn, ended_by_edit, ended_with, goes_on, if_room_for, is_quiet_at, leased_next, own_request, replace_plan, replaced_if, requests_of, settle_plan, settled_by, settled_if, settled_on, source_chunks}
+use Rattle.gs_master_spec.specs.State.{Plan, State, Turn, about, all_ended_by, and_then, ended_by, first_of, fits, for_each, if_room, is_failed, is_unopened, last_reply, met_by, refused, reply_to, turned, unmoved}
 use Rattle.gs_master_spec.specs.Undoing.{all_undone, edited_names}
 use Rattle.gs_master_spec.specs.Upgrades.{accepted_plan, all_unquiet, answers_for, begin_tests, chunk_count, commit_if, commit_on, commit_tests, end_tests, finalize, is_last_epoch, prepare_begin, prepare_commit, rollback_begin, tell_all, told_of, unless, unrestored}
 use Rattle.gs_master_spec.specs.Volatile.{is_pending}
@@ -62,7 +60,7 @@ use Rattle.gs_master_spec.specs.declared.pending.Pending.{Pending}
 use Rattle.gs_master_spec.specs.declared.pending.Waiting.{Waiting}
 use Rattle.gs_master_spec.specs.declared.pending.Waiting.TheVariants as waits
 use Rattle.gs_view.specs.declared.poll.Poll.{Poll}
-use Rattle.std.proofs.Common.{◌≡◌, refl, cond, sym, subst}
+use Rattle.std.proofs.Common.{◌≡◌, refl, cond}
 use Rattle.gs_master_spec.specs.Handling.{refusal_in}
 use Rattle.gs_master_spec.specs.Outcomes.{caller_of}
 use Rattle.gs_master_spec.specs.Settling.{is_copied_by}
@@ -75,7 +73,7 @@ use Rattle.gs_master_spec.specs.Working.{replicated_to, waits_for_any}
 use Rattle.gs_master_asked.proofs.Kept.{AllIn, AreChanges, AreRecords, on_still, on_then}
 use Rattle.gs_master_asked.proofs.Plans.{PlanSo, SaidSo, TurnSo, Waiting_so, accept_so, accepted_so, all_told, answered_so, ask_so, begin_so, both_so, copy_so, create_so, edit_so, end_plan_so, ended_so, granted_none, pending_so, planned, refusal_so, replace_so, scan_so, send_so, settle_so, waits_further, waits_now}
 
-pick : (S : Turn → Type 0) (b : Bool) (t u : Turn) → S t → S u → S (if b then t else u)
+pub pick : (S : Turn → Type 0) (b : Bool) (t u : Turn) → S t → S u → S (if b then t else u)
 pick S true t u x y = x
 pick S false t u x y = y
 

@@ -1,29 +1,23 @@
 -- Of each event, with its checkpoint if it writes one: who is concerned.
-use Rattle.std.proofs.Common.{◌≡◌, ◌⊎◌, inl, inr, ◌∙◌, ◌||◌, ◌&&◌, ◌++◌, ℕ, Bool, true, false, List, [], ◌∷◌, map, refl, ap, sym, subst}
-use Rattle.std.specs.Prelude.{Option, Some, None, is_none, is_some, if◌then◌else◌}
+use Rattle.std.proofs.Common.{◌≡◌, ◌⊎◌, inl, inr, ◌∙◌, ◌||◌, ◌++◌, Bool, true, false, List, [], ◌∷◌, map, refl, ap}
+use Rattle.std.specs.Prelude.{Option, Some, None}
 use Rattle.std.specs.FinMap as fin
-use Rattle.std.specs.List.{AllByRecursion, list_any}
-use Rattle.gs_base.specs.declared.config.Config.{Config}
-use Rattle.gs_base.specs.declared.numbers.ClientId.{ClientId}
-use Rattle.gs_base.specs.declared.numbers.Moment.{Moment}
+use Rattle.std.specs.List.{AllByRecursion}
 use Rattle.gs_base.specs.declared.numbers.ReqId.{ReqId}
 use Rattle.gs_base.specs.declared.refusal.Refusal.{Refusal}
 use Rattle.gs_base.specs.declared.refusal.Refusal.TheVariants as refusals
 use Rattle.gs_lock.specs.Operations.{same_op}
-use Rattle.gs_msg.specs.declared.message.Message.{Message}
-use Rattle.gs_master_record.specs.Plain.{Edited, Finalize, Holder, PlainCheckpoint, PlainEntry, PlainReply, Prepare, Propose, RollbackBegin, RollbackCommit, Said, Settle, Whole}
-use Rattle.gs_master_spec.specs.Durable.{Durable}
+use Rattle.gs_master_record.specs.Plain.{Edited, Finalize, Holder, PlainEntry, PlainReply, Prepare, Propose, RollbackBegin, RollbackCommit, Said, Settle, Whole}
 use Rattle.gs_master_spec.specs.Handling.{checkpoint, checkpoint_body, checkpoint_tests, due, granted, handle, pressed, proposals, tick, written, written_if_due, written_unless}
 use Rattle.gs_master_spec.specs.Outcomes.{caller_of}
-use Rattle.gs_master_spec.specs.Replies.{client_cmp}
 use Rattle.gs_master_spec.specs.State.{State, Turn, and_then, first_of, for_each, is_failed, met_by, unmoved}
 use Rattle.gs_master_spec.specs.Volatile.{is_pending}
 use Rattle.gs_master_spec.specs.Whole.{checkpoint_of, reply_of}
 use Rattle.gs_master_spec.specs.declared.pending.Pending.{Pending}
-use Rattle.gs_master_spec.specs.declared.reply.KeptReply.{KeptReply}
-use Rattle.gs_master_asked.specs.Concerned.{AnswersOnly, CheckpointsAnswerNobody, IsConcerned, Keeps, KeepsOn, MessagesAnswerConcerned, StepsAnswerConcerned, TellsOf, TicksAnswerConcerned, answered_by}
+use Rattle.gs_master_asked.specs.Concerned.{AnswersOnly, CheckpointsAnswerNobody, IsConcerned, Keeps, KeepsOn, MessagesAnswerConcerned, StepsAnswerConcerned, TellsOf, TicksAnswerConcerned, tells_nobody}
 use Rattle.gs_master_asked.proofs.Answering.{message_so, pick, steps_so}
-use Rattle.gs_master_asked.proofs.Kept.{AllIn, AreRecords, itself, keeps_on, on_still, on_then, one_of}
+use Rattle.gs_master_asked.proofs.Entries.{entries_kept}
+use Rattle.gs_master_asked.proofs.Kept.{AllIn, AreRecords, itself, keeps_on, on_still, one_of}
 use Rattle.gs_master_asked.proofs.Plans.{TurnSo, Waiting_so, both_so}
 
 -- ---- who waits is concerned
@@ -78,13 +72,44 @@ only_so P s t so = record {
 
 -- ---- a checkpoint
 
-abbrev Entries : Type 0
-Entries = List (ClientId × KeptReply)
+-- It answers nobody, and leaves what is kept.
+all_either : (P : ReqId → Type 0) (s u : State) → KeepsOn P s.durable.replies u.durable.replies → (replies : List PlainReply) → AllByRecursion (λ (r : PlainReply). Keeps u.durable.replies r.to) replies
+    → AllByRecursion (λ (r : PlainReply). Keeps s.durable.replies r.to ⊎ P r.to) replies
+all_either P s u on [] all = tt
+all_either P s u on (r ∷ replies) all = (keeps_on P s.durable.replies u.durable.replies on r.to all.0, all_either P s u on replies all.1)
 
--- each reply that it tells is kept
-module _ (m : fin.FinMap client_cmp KeptReply) where
-  entries_kept : (es : Entries) → ((e : ClientId × KeptReply) → ? → Keeps m (answered_by e.0 e.1)) → AllByRecursion (λ (r : PlainReply). Keeps m r.to) (map reply_of es)
-  entries_kept es each = ?
+checkpoint_told : (P : ReqId → Type 0) (s u : State) → KeepsOn P s.durable.replies u.durable.replies → TellsOf (λ req. Keeps s.durable.replies req ⊎ P req) (Whole (checkpoint_of u.durable))
+unfolding checkpoint_of
+checkpoint_told P s u on = all_either P s u on (map reply_of (fin.entries u.durable.replies)) (entries_kept u.durable.replies)
+
+both_tell : {A : Type 0} (S : A → Type 0) (xs : List A) (x : A) → AllByRecursion S xs → S x → AllByRecursion S (xs ++ x ∷ [])
+both_tell S xs x all one = both_so S xs (x ∷ []) all (one, tt)
+
+none_more : {A : Type 0} (S : A → Type 0) (xs : List A) → AllByRecursion S xs → AllByRecursion S (xs ++ [])
+none_more S xs all = both_so S xs [] all tt
+
+-- behind a turn a checkpoint is written, or isn't
+module _ (P : ReqId → Type 0) (s : State) (t : Turn) (only : AnswersOnly P s t) where
+  with_none : (said : Option Refusal) → AnswersOnly P s (and_then t (λ u. record { after = u; records = []; sent = []; said = said }))
+  with_none said = record { sent = none_more _ t.sent only.sent; records = none_more _ t.records only.records; durable = only.durable; memory = only.memory; waits = only.waits }
+
+  with_one : (said : Option Refusal) → AnswersOnly P s (and_then t (λ u. record (written u) { said = said }))
+  with_one said = record {
+    sent = none_more _ t.sent only.sent;
+    records = both_tell _ t.records (Whole (checkpoint_of t.after.durable)) only.records (checkpoint_told P s t.after only.durable);
+    durable = only.durable;
+    memory = only.memory;
+    waits = only.waits;
+  }
+
+nobody_yet : (s : State) → AnswersOnly (IsConcerned s None) s (unmoved s)
+nobody_yet s = only_so (IsConcerned s None) s (unmoved s) (record {
+  sent = tt;
+  records = tt;
+  durable = on_still (IsConcerned s None) s.durable.replies s.durable.replies refl;
+  memory = on_still (IsConcerned s None) s.volatile.replies s.volatile.replies refl;
+  waits = concerned s None;
+})
 
 pub messages_concerned : MessagesAnswerConcerned
 messages_concerned config s message moment =
@@ -92,3 +117,28 @@ messages_concerned config s message moment =
 
 pub steps_concerned : StepsAnswerConcerned
 steps_concerned s moment = only_so (IsConcerned s None) s (and_then (for_each s (proposals s) (pressed moment)) granted) (steps_so (IsConcerned s None) s moment (concerned s None))
+
+-- a checkpoint behind a turn, or why there is none
+renewed_so : (P : ReqId → Type 0) (s : State) (t : Turn) → AnswersOnly P s t → (refusal : Option Refusal) → AnswersOnly P s (and_then t (λ u. record (written_unless u refusal) { said = None }))
+renewed_so P s t only None = with_one P s t only None
+renewed_so P s t only (Some refusal) = with_none P s t only None
+
+due_so : (P : ReqId → Type 0) (s : State) (t : Turn) → AnswersOnly P s t → AnswersOnly P s (and_then t written_if_due)
+unfolding checkpoint
+due_so P s t only =
+    pick (λ u. AnswersOnly P s (and_then t (λ x. u))) (due t.after) (record (checkpoint t.after) { said = None }) (unmoved t.after)
+    (renewed_so P s t only (first_of (checkpoint_tests (is_failed t.after.fault) t.after.volatile.is_preparing t.after.log (checkpoint_body t.after.durable)))) (with_none P s t only None)
+
+pub ticks_concerned : TicksAnswerConcerned
+unfolding tick
+ticks_concerned s moment =
+    let steps = and_then (for_each s (proposals s) (pressed moment)) granted in
+    pick (AnswersOnly (IsConcerned s None) s) (is_failed s.fault) (met_by s refusals.Device) (and_then steps written_if_due) (with_none (IsConcerned s None) s (unmoved s) (nobody_yet s) (Some refusals.Device)) (due_so (IsConcerned s None) s steps (steps_concerned s moment))
+
+checkpoint_so : (s : State) (refusal : Option Refusal) → AnswersOnly (IsConcerned s None) s (written_unless s refusal)
+checkpoint_so s None = with_one (IsConcerned s None) s (unmoved s) (nobody_yet s) None
+checkpoint_so s (Some refusal) = with_none (IsConcerned s None) s (unmoved s) (nobody_yet s) (Some refusal)
+
+pub checkpoints_concerned : CheckpointsAnswerNobody
+unfolding checkpoint
+checkpoints_concerned s = checkpoint_so s (first_of (checkpoint_tests (is_failed s.fault) s.volatile.is_preparing s.log (checkpoint_body s.durable)))

@@ -1,11 +1,11 @@
 -- What records and changes make of the replies that are kept.
-use Rattle.std.proofs.Common.{◌≡◌, ◌⊎◌, inl, inr, ◌∙◌, ◌&&◌, ◌||◌, ◌==◌, ◌++◌, ℕ, zero, suc, Bool, true, false, not, cond, List, [], ◌∷◌, length, map, refl, ap, sym, subst, arith}
-use Rattle.std.specs.Prelude.{fold, is_some, nat_lt, option_and_then, option_map, position, slice_set, Option, Some, None, Result, Ok, Err, if◌then◌else◌, unwrap_or}
+use Rattle.std.proofs.Common.{◌≡◌, ◌⊎◌, inl, inr, ◌∙◌, ◌&&◌, ◌||◌, ◌==◌, ◌++◌, ℕ, zero, suc, Bool, true, false, not, cond, List, [], ◌∷◌, refl, ap, sym, subst, arith}
+use Rattle.std.specs.Prelude.{is_some, nat_lt, option_and_then, option_map, position, slice_set, Option, Some, None, Result, Ok, Err, if◌then◌else◌, unwrap_or}
 use Rattle.std.specs.Cmp.{Equal-is, IsTotalOrder, nat_cmp_total, on_total}
 use Rattle.std.specs.FinMap as fin
-use Rattle.std.specs.List.{AllByRecursion, list_any}
+use Rattle.std.specs.List.{AllByRecursion}
 use Rattle.std.specs.Ordering.{eq_by_cmp, nat_cmp}
-use Rattle.std.proofs.lemmas.Bool.{false≢true, true≢false, and_parts}
+use Rattle.std.proofs.lemmas.Bool.{false≢true, and_parts}
 use Rattle.std.proofs.lemmas.Bool.Decides.{nat_tests}
 use Rattle.gs_base.specs.declared.numbers.ClientId.{ClientId}
 use Rattle.gs_base.specs.declared.numbers.ReqId.{ReqId}
@@ -22,7 +22,7 @@ use Rattle.gs_master_spec.specs.Applied.{after_edit, after_undoing, applied, are
 use Rattle.gs_master_spec.specs.Durable.{Durable, is_ordinary, is_rolling, is_upgrade, prepared_view, with_prepared}
 use Rattle.gs_master_spec.specs.Replies.{answer_to, client_cmp, is_later, told_result}
 use Rattle.gs_master_spec.specs.Undoing.{all_undone, edited_names}
-use Rattle.gs_master_spec.specs.Volatile.{Volatile, all_changed, changed, is_pending, waits_at, with_waiting, without_pending}
+use Rattle.gs_master_spec.specs.Volatile.{Volatile, all_changed, changed, is_pending, waits_at, without_pending}
 use Rattle.gs_master_spec.specs.Whole.{durable_with, if_it_can, is_whole, can_go_back, told_replies, whole_of}
 use Rattle.gs_master_spec.specs.declared.change.Change.{Change}
 use Rattle.gs_master_spec.specs.declared.change.Change.TheVariants as changes
@@ -31,13 +31,13 @@ use Rattle.gs_master_spec.specs.declared.pending.Waiting.{Waiting}
 use Rattle.gs_master_spec.specs.declared.reply.KeptReply.{KeptReply}
 use Rattle.gs_master_asked.specs.Concerned.{IsToldIn, Keeps, KeepsOn, KeptAreTold, OneTells, TellsOf, TellsReply, answered_by, tells_nobody}
 
-client_total : IsTotalOrder client_cmp
+pub client_total : IsTotalOrder client_cmp
 client_total = on_total (λ (c : ClientId). c.0) nat_cmp_total
 
 same_key : (q k : ℕ) → eq_by_cmp nat_cmp q k ≡ true → q ≡ k
 same_key q k tied = fin.nat_cmp-IsAntisymmetric q k ((Equal-is (nat_cmp q k)).0 tied)
 
-same_client : (a b : ClientId) → eq_by_cmp client_cmp a b ≡ true → a ≡ b
+pub same_client : (a b : ClientId) → eq_by_cmp client_cmp a b ≡ true → a ≡ b
 same_client a b h = (let e : a.0 ≡ b.0 = same_key a.0 b.0 h in (λ i. record { 0 = e i }))
 
 some_is : {a b : KeptReply} → ◌≡◌ {A = Option KeptReply} (Some a) (Some b) → a ≡ b

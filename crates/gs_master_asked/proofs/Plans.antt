@@ -1,6 +1,6 @@
 -- What the plans of the master tell, keep and let wait, is of such requests.
-use Rattle.std.proofs.Common.{◌≡◌, ◌⊎◌, inl, inr, ◌∙◌, ◌&&◌, ◌++◌, ℕ, Bool, true, false, not, List, [], ◌∷◌, length, map, refl, ap, sym, subst}
-use Rattle.std.specs.Prelude.{flat_map, fold, unwrap_or, Option, Some, None, Result, Ok, Err, if◌then◌else◌}
+use Rattle.std.proofs.Common.{◌≡◌, inl, inr, ◌&&◌, ◌++◌, ℕ, Bool, true, false, not, List, [], ◌∷◌, map, refl}
+use Rattle.std.specs.Prelude.{flat_map, fold, Option, Some, None, Result, Ok, Err, if◌then◌else◌}
 use Rattle.std.specs.FinMap as fin
 use Rattle.std.specs.List.{AllByRecursion}
 use Rattle.gs_base.specs.Members.{count_from, is_member}
@@ -19,8 +19,7 @@ use Rattle.gs_msg.specs.declared.body.Body.TheVariants as bodies
 use Rattle.gs_msg.specs.declared.chunk.Chunk.TheVariants as chunks
 use Rattle.gs_msg.specs.declared.message.Message.{Message}
 use Rattle.gs_msg.specs.declared.node.NodeId.TheVariants as nodes
-use Rattle.gs_master_record.specs.Plain.{Cow, Edited, Forget, Holder, PlainEdit, PlainEntry, Propose, Remove, Said, Settle}
-use Rattle.gs_master_spec.specs.Applied.{applied}
+use Rattle.gs_master_record.specs.Plain.{Edited, PlainEdit, PlainEntry, Said, Settle}
 use Rattle.gs_master_spec.specs.Beginning.{begin_at, copy_plan, create_plan, members_at, next_stamp, waits_from_now, waits_on}
 use Rattle.gs_master_spec.specs.Calls.{accept_plan}
 use Rattle.gs_master_spec.specs.Chunks.{chunk_at, holder_records, is_holder, settling, target_of}
@@ -30,8 +29,8 @@ use Rattle.gs_master_spec.specs.Replies.{is_later}
 use Rattle.gs_master_spec.specs.Settling.{edit_plan, end_plan, grant_of, own_request, replace_plan, settle_plan}
 use Rattle.gs_master_spec.specs.State.{Log, Plan, State, Turn, about, answer_changes, answered, end_changes, fits, keeps_refusal, kept_in_memory, last_reply, post, refusal_plan, reply_to, said_changes, said_records, to_each, turned, with_record}
 use Rattle.gs_master_spec.specs.Upgrades.{accepted_plan, tell_all}
-use Rattle.gs_master_spec.specs.Volatile.{Volatile, all_changed, is_call, let_go, let_go_of, without_call}
-use Rattle.gs_master_spec.specs.Working.{begin_pending, forget_if, scan_edits, scan_plan}
+use Rattle.gs_master_spec.specs.Volatile.{is_call, let_go, let_go_of, without_call}
+use Rattle.gs_master_spec.specs.Working.{begin_pending, scan_edits, scan_plan}
 use Rattle.gs_master_spec.specs.declared.asking.Asking.{Asking}
 use Rattle.gs_master_spec.specs.declared.change.Change.{Change}
 use Rattle.gs_master_spec.specs.declared.change.Change.TheVariants as changes

@@ -1,5 +1,5 @@
 -- Whom the master answers.
-use Rattle.std.specs.Prelude.{[], ◌∷◌, ◌≡◌, ◌⊎◌, Bool, List, None, Option, Some, false, refl, true, ℕ}
+use Rattle.std.specs.Prelude.{[], ◌∷◌, ◌≡◌, ◌⊎◌, Bool, List, None, Option, Some, false, refl, true}
 use Rattle.std.proofs.Common.{inl}
 use Rattle.std.specs.FinMap as fin
 use Rattle.std.specs.List.{AllByRecursion}
