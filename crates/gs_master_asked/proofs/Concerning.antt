@@ -2,6 +2,12 @@
 use Rattle.std.proofs.Common.{◌≡◌, ◌⊎◌, inl, inr, ◌∙◌, ◌||◌, ◌++◌, Bool, true, false, List, [], ◌∷◌, map, refl, ap}
 use Rattle.std.specs.Prelude.{Option, Some, None}
 use Rattle.std.specs.FinMap as fin
+use Rattle.std.proofs.Common.{◌<◌, ◌≤◌, ℕ, append-nil, arith, length, subst, suc, sym, zero}
+use Rattle.std.proofs.lemmas.List.{length-append, take-append-le}
+use Rattle.std.specs.Prelude.{fold, take}
+use Rattle.gs_master_spec.specs.Outcomes.{cut}
+use Rattle.gs_master_spec.specs.State.{with_record}
+use Rattle.gs_master_asked.proofs.Plans.{records_done}
 use Rattle.std.specs.List.{AllByRecursion}
 use Rattle.gs_base.specs.declared.numbers.ReqId.{ReqId}
 use Rattle.gs_base.specs.declared.refusal.Refusal.{Refusal}
@@ -61,6 +67,11 @@ tell_either : (P Q : ReqId → Type 0) (entries : List PlainEntry) → AreRecord
 tell_either P Q [] are = tt
 tell_either P Q (entry ∷ entries) are = (tells_either P Q entry (are.0, tt), tell_either P Q entries are.1)
 
+some_records : (P : ReqId → Type 0) (place : ℕ) (entries : List PlainEntry) → AreRecords P entries → AreRecords P (take place entries)
+some_records P zero entries are = tt
+some_records P (suc place) [] are = tt
+some_records P (suc place) (entry ∷ entries) are = (are.0, some_records P place entries are.1)
+
 pub only_so : (P : ReqId → Type 0) (s : State) (t : Turn) → TurnSo P s t → AnswersOnly P s t
 only_so P s t so = record {
   sent = so.sent;
@@ -68,6 +79,7 @@ only_so P s t so = record {
   durable = so.durable;
   memory = so.memory;
   waits = λ req there. one_of P t.after.volatile.pending req so.waits there;
+  cuts = λ place within. records_done P (take place t.records) s (some_records P place t.records so.records);
 }
 
 -- ---- a checkpoint
@@ -88,10 +100,24 @@ both_tell S xs x all one = both_so S xs (x ∷ []) all (one, tt)
 none_more : {A : Type 0} (S : A → Type 0) (xs : List A) → AllByRecursion S xs → AllByRecursion S (xs ++ [])
 none_more S xs all = both_so S xs [] all tt
 
+before_last : {A : Type 0} (place : ℕ) (xs : List A) (x : A) → place < length (xs ++ x ∷ []) → place ≤ length xs
+before_last place xs x within = (let long = length-append xs (x ∷ []) in omega arith)
+
 -- behind a turn a checkpoint is written, or isn't
-module _ (P : ReqId → Type 0) (s : State) (t : Turn) (only : AnswersOnly P s t) where
+module _ (P : ReqId → Type 0) (s : State) (t : Turn) (so : TurnSo P s t) where
+  only : AnswersOnly P s t
+  only = only_so P s t so
+
   with_none : (said : Option Refusal) → AnswersOnly P s (and_then t (λ u. record { after = u; records = []; sent = []; said = said }))
-  with_none said = record { sent = none_more _ t.sent only.sent; records = none_more _ t.records only.records; durable = only.durable; memory = only.memory; waits = only.waits }
+  with_none said = record {
+    sent = none_more _ t.sent only.sent;
+    records = none_more _ t.records only.records;
+    durable = only.durable;
+    memory = only.memory;
+    waits = only.waits;
+    cuts = λ place within.
+        subst (λ (es : List PlainEntry). KeepsOn P s.durable.replies (cut s es place).durable.replies) (sym (append-nil t.records)) (only.cuts place (subst (λ (es : List PlainEntry). place < length es) (append-nil t.records) within));
+  }
 
   with_one : (said : Option Refusal) → AnswersOnly P s (and_then t (λ u. record (written u) { said = said }))
   with_one said = record {
@@ -100,16 +126,19 @@ module _ (P : ReqId → Type 0) (s : State) (t : Turn) (only : AnswersOnly P s t
     durable = only.durable;
     memory = only.memory;
     waits = only.waits;
+    cuts = λ place within.
+        subst (λ (es : List PlainEntry). KeepsOn P s.durable.replies (fold with_record s es).durable.replies) (sym (take-append-le place t.records (Whole (checkpoint_of t.after.durable) ∷ []) (before_last place t.records (Whole (checkpoint_of t.after.durable)) within)))
+        (records_done P (take place t.records) s (some_records P place t.records so.records));
   }
 
-nobody_yet : (s : State) → AnswersOnly (IsConcerned s None) s (unmoved s)
-nobody_yet s = only_so (IsConcerned s None) s (unmoved s) (record {
+nobody : (s : State) → TurnSo (IsConcerned s None) s (unmoved s)
+nobody s = record {
   sent = tt;
   records = tt;
   durable = on_still (IsConcerned s None) s.durable.replies s.durable.replies refl;
   memory = on_still (IsConcerned s None) s.volatile.replies s.volatile.replies refl;
   waits = concerned s None;
-})
+}
 
 pub messages_concerned : MessagesAnswerConcerned
 messages_concerned config s message moment =
@@ -119,25 +148,26 @@ pub steps_concerned : StepsAnswerConcerned
 steps_concerned s moment = only_so (IsConcerned s None) s (and_then (for_each s (proposals s) (pressed moment)) granted) (steps_so (IsConcerned s None) s moment (concerned s None))
 
 -- a checkpoint behind a turn, or why there is none
-renewed_so : (P : ReqId → Type 0) (s : State) (t : Turn) → AnswersOnly P s t → (refusal : Option Refusal) → AnswersOnly P s (and_then t (λ u. record (written_unless u refusal) { said = None }))
-renewed_so P s t only None = with_one P s t only None
-renewed_so P s t only (Some refusal) = with_none P s t only None
+renewed_so : (P : ReqId → Type 0) (s : State) (t : Turn) → TurnSo P s t → (refusal : Option Refusal) → AnswersOnly P s (and_then t (λ u. record (written_unless u refusal) { said = None }))
+renewed_so P s t so None = with_one P s t so None
+renewed_so P s t so (Some refusal) = with_none P s t so None
 
-due_so : (P : ReqId → Type 0) (s : State) (t : Turn) → AnswersOnly P s t → AnswersOnly P s (and_then t written_if_due)
+due_so : (P : ReqId → Type 0) (s : State) (t : Turn) → TurnSo P s t → AnswersOnly P s (and_then t written_if_due)
 unfolding checkpoint
-due_so P s t only =
+due_so P s t so =
     pick (λ u. AnswersOnly P s (and_then t (λ x. u))) (due t.after) (record (checkpoint t.after) { said = None }) (unmoved t.after)
-    (renewed_so P s t only (first_of (checkpoint_tests (is_failed t.after.fault) t.after.volatile.is_preparing t.after.log (checkpoint_body t.after.durable)))) (with_none P s t only None)
+    (renewed_so P s t so (first_of (checkpoint_tests (is_failed t.after.fault) t.after.volatile.is_preparing t.after.log (checkpoint_body t.after.durable)))) (with_none P s t so None)
 
 pub ticks_concerned : TicksAnswerConcerned
 unfolding tick
 ticks_concerned s moment =
     let steps = and_then (for_each s (proposals s) (pressed moment)) granted in
-    pick (AnswersOnly (IsConcerned s None) s) (is_failed s.fault) (met_by s refusals.Device) (and_then steps written_if_due) (with_none (IsConcerned s None) s (unmoved s) (nobody_yet s) (Some refusals.Device)) (due_so (IsConcerned s None) s steps (steps_concerned s moment))
+    pick (AnswersOnly (IsConcerned s None) s) (is_failed s.fault) (met_by s refusals.Device) (and_then steps written_if_due) (with_none (IsConcerned s None) s (unmoved s) (nobody s) (Some refusals.Device))
+    (due_so (IsConcerned s None) s steps (steps_so (IsConcerned s None) s moment (concerned s None)))
 
 checkpoint_so : (s : State) (refusal : Option Refusal) → AnswersOnly (IsConcerned s None) s (written_unless s refusal)
-checkpoint_so s None = with_one (IsConcerned s None) s (unmoved s) (nobody_yet s) None
-checkpoint_so s (Some refusal) = with_none (IsConcerned s None) s (unmoved s) (nobody_yet s) (Some refusal)
+checkpoint_so s None = with_one (IsConcerned s None) s (unmoved s) (nobody s) None
+checkpoint_so s (Some refusal) = with_none (IsConcerned s None) s (unmoved s) (nobody s) (Some refusal)
 
 pub checkpoints_concerned : CheckpointsAnswerNobody
 unfolding checkpoint

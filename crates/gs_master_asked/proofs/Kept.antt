@@ -40,13 +40,13 @@ same_key q k tied = fin.nat_cmp-IsAntisymmetric q k ((Equal-is (nat_cmp q k)).0 
 pub same_client : (a b : ClientId) → eq_by_cmp client_cmp a b ≡ true → a ≡ b
 same_client a b h = (let e : a.0 ≡ b.0 = same_key a.0 b.0 h in (λ i. record { 0 = e i }))
 
-some_is : {a b : KeptReply} → ◌≡◌ {A = Option KeptReply} (Some a) (Some b) → a ≡ b
+pub some_is : {a b : KeptReply} → ◌≡◌ {A = Option KeptReply} (Some a) (Some b) → a ≡ b
 some_is h = cc
 
 durable_is : {a b : Durable} → ◌≡◌ {A = Option Durable} (Some a) (Some b) → a ≡ b
 durable_is h = cc
 
-fits_gives : (b : Bool) (n next : Durable) → if_fits b n ≡ Some next → n ≡ next
+pub fits_gives : (b : Bool) (n next : Durable) → if_fits b n ≡ Some next → n ≡ next
 fits_gives true n next e = durable_is e
 fits_gives false n next e = absurd (false≢true (ap is_some e))
 

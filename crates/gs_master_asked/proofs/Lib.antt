@@ -1,3 +1,4 @@
+pub mod AtOnce
 pub mod Entries
 pub mod Kept
 pub mod Plans

@@ -67,7 +67,7 @@ module _ (P : ReqId → Type 0) where
     pub memory : KeepsOn P s.volatile.replies t.after.volatile.replies
     pub waits : Waiting_so t.after
 
-  records_done : (xs : List PlainEntry) (s : State) → AreRecords P xs → KeepsOn P s.durable.replies (fold with_record s xs).durable.replies
+  pub records_done : (xs : List PlainEntry) (s : State) → AreRecords P xs → KeepsOn P s.durable.replies (fold with_record s xs).durable.replies
   records_done [] s are = on_still P s.durable.replies s.durable.replies refl
   records_done (x ∷ xs) s are =
       on_then P s.durable.replies (with_record s x).durable.replies (fold with_record (with_record s x) xs).durable.replies (done_so P s.durable x are.0) (records_done xs (with_record s x) are.1)

@@ -1,5 +1,5 @@
 -- Whom the master answers.
-use Rattle.std.specs.Prelude.{[], ◌∷◌, ◌≡◌, ◌⊎◌, Bool, List, None, Option, Some, false, refl, true}
+use Rattle.std.specs.Prelude.{[], ◌<◌, ◌∷◌, ◌≡◌, ◌⊎◌, Bool, List, None, Option, Some, false, length, refl, true, ℕ}
 use Rattle.std.proofs.Common.{inl}
 use Rattle.std.specs.FinMap as fin
 use Rattle.std.specs.List.{AllByRecursion}
@@ -16,7 +16,7 @@ use Rattle.gs_master_record.specs.Plain.{Cow, Create, Edited, Finalize, Forget, 
 use Rattle.gs_master_spec.specs.Applied.{replayed}
 use Rattle.gs_master_spec.specs.Durable.{Durable}
 use Rattle.gs_master_spec.specs.Handling.{checkpoint, granted, handle, pressed, proposals, tick}
-use Rattle.gs_master_spec.specs.Outcomes.{caller_of}
+use Rattle.gs_master_spec.specs.Outcomes.{caller_of, cut}
 use Rattle.gs_master_spec.specs.Replies.{client_cmp}
 use Rattle.gs_master_spec.specs.State.{State, Turn, and_then, for_each}
 use Rattle.gs_master_spec.specs.Settling.{own_request}
@@ -71,6 +71,8 @@ pub record AnswersOnly (P : ReqId → Type 0) (s : State) (t : Turn) : Type 0 wh
   pub durable : KeepsOn P s.durable.replies t.after.durable.replies
   pub memory : KeepsOn P s.volatile.replies t.after.volatile.replies
   pub waits : (req : ReqId) → is_pending t.after.volatile.pending req ≡ true → P req
+  -- also where a disk fails at one of its records
+  pub cuts : (place : ℕ) → place < length t.records → KeepsOn P s.durable.replies (cut s t.records place).durable.replies
 
 -- ---- what is to hold
 

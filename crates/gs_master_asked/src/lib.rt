@@ -1,6 +1,7 @@
 //! Whom the master answers: each reply that it sends, keeps or records is to the call that comes, or to one that has waited.
 #![tactic(auto)]
 
+ghost use Rattle.gs_master_asked.specs.AtOnce.{AnswersAtOnce};
 ghost use Rattle.gs_master_asked.specs.Concerned.{CheckpointsAnswerNobody, KeptAreTold, MessagesAnswerConcerned, StepsAnswerConcerned, TicksAnswerConcerned};
 
 /// Each event of the master, whatever it has met before: each reply that it sends is to the call that comes or to one that waits as it comes; each that it keeps behind the event, in memory or on record, it kept
@@ -15,4 +16,10 @@ pub fn only_who_calls_is_answered()
 /// Where records are replayed, each reply that is kept behind them was kept before them, or one of them tells it.
 pub fn what_is_kept_is_told()
     ensures { KeptAreTold }
+{}
+
+/// A look-up, a query, a commit or an abort of a prepare, a finalize, and a commit of a rollback are answered at once where they are new: such a call gets one reply by the event that brings it, that is kept or none
+/// is, no other call is answered by the event, and none begins to wait.
+pub fn looks_and_commits_are_answered_at_once()
+    ensures { AnswersAtOnce }
 {}
