@@ -70,8 +70,8 @@ use Rattle.gs_master_spec.specs.Settling.{end_plan}
 use Rattle.gs_master_spec.specs.Upgrades.{prepare_abort}
 use Rattle.gs_master_spec.specs.Volatile.{is_call}
 use Rattle.gs_master_spec.specs.Working.{replicated_to, waits_for_any}
-use Rattle.gs_master_asked.proofs.Kept.{AllIn, AreChanges, AreRecords, on_still, on_then}
-use Rattle.gs_master_asked.proofs.Plans.{PlanSo, SaidSo, TurnSo, Waiting_so, accept_so, accepted_so, all_told, answered_so, ask_so, begin_so, both_so, copy_so, create_so, edit_so, end_plan_so, ended_so, granted_none, pending_so, planned, refusal_so, replace_so, scan_so, send_so, settle_so, waits_further, waits_now}
+use Rattle.gs_master_asked.proofs.Kept.{AllIn, AreChanges, on_still, on_then}
+use Rattle.gs_master_asked.proofs.Plans.{AreEntries, PlanSo, SaidSo, TurnSo, Waiting_so, accept_so, accepted_so, all_told, answered_so, ask_so, begin_so, both_so, copy_so, create_so, edit_so, end_plan_so, ended_so, granted_none, pending_so, planned, refusal_so, replace_so, scan_so, send_so, settle_so, waits_further, waits_now}
 
 pub pick : (S : Turn → Type 0) (b : Bool) (t u : Turn) → S t → S u → S (if b then t else u)
 pick S true t u x y = x
@@ -278,7 +278,7 @@ module _ (P : ReqId → Type 0) where
         let scan = turned s (scan_plan removed forgotten) in
         let ended : State → Turn = λ next. all_ended_by next (waiting_for s forgotten) refusals.NoReplica in
         let answer : State → Turn = λ next. answered_with next req (answers.Scanned (length removed) (length forgotten)) in
-        let first = planned P s (scan_plan removed forgotten) w (scan_so P removed forgotten) in
+        let first = planned P s (scan_plan removed forgotten) w (scan_so P (req, is) removed forgotten) in
         let waiting = requests_so P (filter (λ (p : Pending). waits_for_any forgotten p.waits) s.volatile.pending) (some_so P (λ (p : Pending). waits_for_any forgotten p.waits) s.volatile.pending w) in
         let second = then_so s scan ended first (all_ended_so (waiting_for s forgotten) refusals.NoReplica scan.after waiting first.waits) in
         room_so req is s (and_then (and_then scan ended) answer) w
@@ -290,7 +290,7 @@ module _ (P : ReqId → Type 0) where
     unless_so None s t w a = room_so req is s t w a
     unless_so (Some refusal) s t w a = refused_turn req is s refusal w
 
-    accepted_turn : (s u : State) (records : List PlainEntry) (before : List Change) (sent : List Message) (epoch : ℕ) → W s → AreRecords P records → AreChanges P before → SaidSo P sent → So s (turned s (accepted_plan s req records before sent epoch))
+    accepted_turn : (s u : State) (records : List PlainEntry) (before : List Change) (sent : List Message) (epoch : ℕ) → W s → AreEntries P records → AreChanges P before → SaidSo P sent → So s (turned s (accepted_plan s req records before sent epoch))
     accepted_turn s u records before sent epoch w are so said = planned P s (accepted_plan s req records before sent epoch) w (accepted_so P req is s records before sent epoch are so said)
 
     begin_prepare_so : (s : State) → W s → So s (prepare_begin s req)
@@ -307,7 +307,7 @@ module _ (P : ReqId → Type 0) where
     commit_prepare_so : (config : Config) (s : State) (moment : Moment) → W s → So s (prepare_commit config s req moment)
     commit_prepare_so config s moment w =
         unless_so (first_of (commit_tests s.durable.phase s.volatile.is_preparing (all_unquiet s) (is_last_epoch s.durable))) s _ w
-        (accepted_turn s s (Prepare (s.durable.epoch + 1) moment.0 (chunk_count s) ∷ []) (changes.Prepare false ∷ []) (tell_all config (s.durable.epoch + 1) ends.Prepare) (s.durable.epoch + 1) w (tt, tt) (tt, tt) (all_told P config (s.durable.epoch + 1) ends.Prepare))
+        (accepted_turn s s (Prepare (s.durable.epoch + 1) moment.0 (chunk_count s) ∷ []) (changes.Prepare false ∷ []) (tell_all config (s.durable.epoch + 1) ends.Prepare) (s.durable.epoch + 1) w ((req, is), tt) (tt, tt) (all_told P config (s.durable.epoch + 1) ends.Prepare))
 
     abort_so : (s : State) → W s → So s (prepare_abort s req)
     abort_so s w =
@@ -317,7 +317,7 @@ module _ (P : ReqId → Type 0) where
     finalize_so : (config : Config) (s : State) → W s → So s (finalize config s req)
     finalize_so config s w =
         unless_so (first_of (end_tests s.durable.phase (is_last_epoch s.durable))) s _ w
-        (accepted_turn s s (Finalize (s.durable.epoch + 1) ∷ []) [] (tell_all config (s.durable.epoch + 1) ends.Finalize) (s.durable.epoch + 1) w (tt, tt) tt (all_told P config (s.durable.epoch + 1) ends.Finalize))
+        (accepted_turn s s (Finalize (s.durable.epoch + 1) ∷ []) [] (tell_all config (s.durable.epoch + 1) ends.Finalize) (s.durable.epoch + 1) w ((req, is), tt) tt (all_told P config (s.durable.epoch + 1) ends.Finalize))
 
     rollback_so : (config : Config) (s : State) → W s → So s (rollback_begin config s req)
     rollback_so config s w =
@@ -325,7 +325,7 @@ module _ (P : ReqId → Type 0) where
         let ended : State → Turn = λ next. all_ended_by next (requests_of s.volatile.pending) refusals.RollingBack in
         let accept : State → Turn = λ next. turned next (accepted_plan next req [] [] (tell_all config (s.durable.epoch + 1) ends.Rollback) (s.durable.epoch + 1)) in
         let both = and_then (turned s plan) ended in
-        let first = planned P s plan w (record { records = (tt, tt); changes = tt; sent = tt }) in
+        let first = planned P s plan w (record { records = ((req, is), tt); changes = tt; sent = tt }) in
         let second = then_so s (turned s plan) ended first (all_ended_so (requests_of s.volatile.pending) refusals.RollingBack (turned s plan).after (requests_so P s.volatile.pending w) first.waits) in
         unless_so (first_of (end_tests s.durable.phase (is_last_epoch s.durable))) s (and_then both accept) w
         (then_so s both accept second (accepted_turn both.after s [] [] (tell_all config (s.durable.epoch + 1) ends.Rollback) (s.durable.epoch + 1) second.waits tt tt (all_told P config (s.durable.epoch + 1) ends.Rollback)))
@@ -334,7 +334,7 @@ module _ (P : ReqId → Type 0) where
     commit_if_so s names (Some chunk) w = refused_turn req is s (refusals.Unrestored chunk) w
     commit_if_so s names None w =
         let records = RollbackCommit s.durable.epoch (answers_for (prepared_view s.durable) (told_of s) (fin.entries names.refs)) ∷ [] in
-        room_so req is s (turned s (accepted_plan s req records (changes.RolledBack ∷ []) [] s.durable.epoch)) w (accepted_turn s s records (changes.RolledBack ∷ []) [] s.durable.epoch w (tt, tt) (tt, tt) tt)
+        room_so req is s (turned s (accepted_plan s req records (changes.RolledBack ∷ []) [] s.durable.epoch)) w (accepted_turn s s records (changes.RolledBack ∷ []) [] s.durable.epoch w ((req, is), tt) (tt, tt) tt)
 
     commit_on_so : (s : State) (names : Option NamesView) → W s → So s (commit_on s req names)
     commit_on_so s None w = refused_turn req is s refusals.BadLine w
@@ -412,7 +412,7 @@ module _ (P : ReqId → Type 0) where
     replaced_so : (path : Path) (index old new : ℕ) (names : Result NamesView Refusal) (s : State) → W s → So s (replaced_if s req path index old new names)
     replaced_so path index old new (Ok names) s w =
         let t = turned s (replace_plan path index old new) in
-        let first = planned P s (replace_plan path index old new) w (replace_so P path index old new) in
+        let first = planned P s (replace_plan path index old new) w (replace_so P (req, is) path index old new) in
         pick (So s) (fits s.log (Edited own_request (Cow path index old new) ∷ [])) (and_then t (leased_next req path index new)) (ended_by s req refusals.Full)
         (then_so s t (leased_next req path index new) first (leased_next_so path index new t.after first.waits)) (ended_turn req is s refusals.Full w)
     replaced_so path index old new (Err refusal) s w = ended_turn req is s refusal w

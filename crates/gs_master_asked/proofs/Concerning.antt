@@ -7,7 +7,7 @@ use Rattle.std.proofs.lemmas.List.{length-append, take-append-le}
 use Rattle.std.specs.Prelude.{fold, take}
 use Rattle.gs_master_spec.specs.Outcomes.{cut}
 use Rattle.gs_master_spec.specs.State.{with_record}
-use Rattle.gs_master_asked.proofs.Plans.{records_done}
+use Rattle.gs_master_asked.proofs.Plans.{AreEntries, EntryBy, records_of, records_done}
 use Rattle.std.specs.List.{AllByRecursion}
 use Rattle.gs_base.specs.declared.numbers.ReqId.{ReqId}
 use Rattle.gs_base.specs.declared.refusal.Refusal.{Refusal}
@@ -20,7 +20,7 @@ use Rattle.gs_master_spec.specs.State.{State, Turn, and_then, first_of, for_each
 use Rattle.gs_master_spec.specs.Volatile.{is_pending}
 use Rattle.gs_master_spec.specs.Whole.{checkpoint_of, reply_of}
 use Rattle.gs_master_spec.specs.declared.pending.Pending.{Pending}
-use Rattle.gs_master_asked.specs.Concerned.{AnswersOnly, CheckpointsAnswerNobody, IsConcerned, Keeps, KeepsOn, MessagesAnswerConcerned, StepsAnswerConcerned, TellsOf, TicksAnswerConcerned, tells_nobody}
+use Rattle.gs_master_asked.specs.Concerned.{AnswersOnly, CheckpointsAnswerNobody, IsConcerned, Keeps, KeepsOn, MessagesAnswerConcerned, StepsAnswerConcerned, TellsOf, TicksAnswerConcerned, is_still, tells_nobody}
 use Rattle.gs_master_asked.proofs.Answering.{message_so, pick, steps_so}
 use Rattle.gs_master_asked.proofs.Entries.{entries_kept}
 use Rattle.gs_master_asked.proofs.Kept.{AllIn, AreRecords, itself, keeps_on, on_still, one_of}
@@ -72,14 +72,32 @@ some_records P zero entries are = tt
 some_records P (suc place) [] are = tt
 some_records P (suc place) (entry ∷ entries) are = (are.0, some_records P place entries are.1)
 
+entry_still : (P : ReqId → Type 0) → ((req : ReqId) → P req → ⊥) → (entry : PlainEntry) → EntryBy P entry → is_still entry ≡ true
+entry_still P none (Edited by edit) (inl own) = absurd (none own.1.0 own.1.1)
+entry_still P none (Edited by edit) (inr is) = absurd (none by is)
+entry_still P none (Said to refusal) is = absurd (none to is)
+entry_still P none (Prepare epoch moment chunks) is = absurd (none is.0 is.1)
+entry_still P none (Finalize epoch) is = absurd (none is.0 is.1)
+entry_still P none (RollbackBegin epoch) is = absurd (none is.0 is.1)
+entry_still P none (RollbackCommit epoch told) is = absurd (none is.0 is.1)
+entry_still P none (Whole c) is = refl
+entry_still P none (Propose chunk version) is = refl
+entry_still P none (Settle v) is = refl
+entry_still P none (Holder chunk server) is = refl
+
+all_still : (P : ReqId → Type 0) → ((req : ReqId) → P req → ⊥) → (entries : List PlainEntry) → AreEntries P entries → AllByRecursion (λ entry. is_still entry ≡ true) entries
+all_still P none [] are = tt
+all_still P none (entry ∷ entries) are = (entry_still P none entry are.0, all_still P none entries are.1)
+
 pub only_so : (P : ReqId → Type 0) (s : State) (t : Turn) → TurnSo P s t → AnswersOnly P s t
 only_so P s t so = record {
   sent = so.sent;
-  records = tell_either P (Keeps s.durable.replies) t.records so.records;
+  records = tell_either P (Keeps s.durable.replies) t.records (records_of P t.records so.records);
   durable = so.durable;
   memory = so.memory;
   waits = λ req there. one_of P t.after.volatile.pending req so.waits there;
-  cuts = λ place within. records_done P (take place t.records) s (some_records P place t.records so.records);
+  still = λ none. all_still P none t.records so.records;
+  cuts = λ place within. records_done P (take place t.records) s (some_records P place t.records (records_of P t.records so.records));
 }
 
 -- ---- a checkpoint
@@ -115,6 +133,7 @@ module _ (P : ReqId → Type 0) (s : State) (t : Turn) (so : TurnSo P s t) where
     durable = only.durable;
     memory = only.memory;
     waits = only.waits;
+    still = λ none. none_more _ t.records (only.still none);
     cuts = λ place within.
         subst (λ (es : List PlainEntry). KeepsOn P s.durable.replies (cut s es place).durable.replies) (sym (append-nil t.records)) (only.cuts place (subst (λ (es : List PlainEntry). place < length es) (append-nil t.records) within));
   }
@@ -126,9 +145,10 @@ module _ (P : ReqId → Type 0) (s : State) (t : Turn) (so : TurnSo P s t) where
     durable = only.durable;
     memory = only.memory;
     waits = only.waits;
+    still = λ none. both_tell _ t.records (Whole (checkpoint_of t.after.durable)) (only.still none) refl;
     cuts = λ place within.
         subst (λ (es : List PlainEntry). KeepsOn P s.durable.replies (fold with_record s es).durable.replies) (sym (take-append-le place t.records (Whole (checkpoint_of t.after.durable) ∷ []) (before_last place t.records (Whole (checkpoint_of t.after.durable)) within)))
-        (records_done P (take place t.records) s (some_records P place t.records so.records));
+        (records_done P (take place t.records) s (some_records P place t.records (records_of P t.records so.records)));
   }
 
 nobody : (s : State) → TurnSo (IsConcerned s None) s (unmoved s)

@@ -126,7 +126,7 @@ module _ (P : ReqId → Type 0) where
 
   -- ---- a record but a checkpoint
 
-  abbrev RecordSo : PlainEntry → Type 0
+  abbrev pub RecordSo : PlainEntry → Type 0
   RecordSo (Whole c) = ⊥
   RecordSo entry = TellsOf P entry
 

@@ -1,5 +1,5 @@
 -- What the plans of the master tell, keep and let wait, is of such requests.
-use Rattle.std.proofs.Common.{◌≡◌, inl, inr, ◌&&◌, ◌++◌, ℕ, Bool, true, false, not, List, [], ◌∷◌, map, refl}
+use Rattle.std.proofs.Common.{◌⊎◌, ◌≡◌, inl, inr, ◌&&◌, ◌++◌, ℕ, Bool, true, false, not, List, [], ◌∷◌, map, refl}
 use Rattle.std.specs.Prelude.{flat_map, fold, Option, Some, None, Result, Ok, Err, if◌then◌else◌}
 use Rattle.std.specs.FinMap as fin
 use Rattle.std.specs.List.{AllByRecursion}
@@ -19,7 +19,7 @@ use Rattle.gs_msg.specs.declared.body.Body.TheVariants as bodies
 use Rattle.gs_msg.specs.declared.chunk.Chunk.TheVariants as chunks
 use Rattle.gs_msg.specs.declared.message.Message.{Message}
 use Rattle.gs_msg.specs.declared.node.NodeId.TheVariants as nodes
-use Rattle.gs_master_record.specs.Plain.{Edited, PlainEdit, PlainEntry, Said, Settle}
+use Rattle.gs_master_record.specs.Plain.{Edited, Finalize, Holder, PlainEdit, PlainEntry, Prepare, Propose, RollbackBegin, RollbackCommit, Said, Settle, Whole}
 use Rattle.gs_master_spec.specs.Beginning.{begin_at, copy_plan, create_plan, members_at, next_stamp, waits_from_now, waits_on}
 use Rattle.gs_master_spec.specs.Calls.{accept_plan}
 use Rattle.gs_master_spec.specs.Chunks.{chunk_at, holder_records, is_holder, settling, target_of}
@@ -35,8 +35,8 @@ use Rattle.gs_master_spec.specs.declared.asking.Asking.{Asking}
 use Rattle.gs_master_spec.specs.declared.change.Change.{Change}
 use Rattle.gs_master_spec.specs.declared.change.Change.TheVariants as changes
 use Rattle.gs_master_spec.specs.declared.pending.Waiting.{Waiting}
-use Rattle.gs_master_asked.specs.Concerned.{KeepsOn, RepliesTo}
-use Rattle.gs_master_asked.proofs.Kept.{AllIn, AreChanges, AreRecords, changes_keep, changes_wait, done_so, on_still, on_then}
+use Rattle.gs_master_asked.specs.Concerned.{KeepsOn, RepliesTo, tells_nobody}
+use Rattle.gs_master_asked.proofs.Kept.{AllIn, AreChanges, AreRecords, RecordSo, changes_keep, changes_wait, done_so, on_still, on_then}
 
 pub both_so : {A : Type 0} (S : A → Type 0) (xs ys : List A) → AllByRecursion S xs → AllByRecursion S ys → AllByRecursion S (xs ++ ys)
 both_so S [] ys first second = second
@@ -48,6 +48,41 @@ volatile_still [] s = refl
 volatile_still (x ∷ xs) s = volatile_still xs (with_record s x)
 
 module _ (P : ReqId → Type 0) where
+  -- there is such a request
+  abbrev pub Someone : Type 0
+  Someone = (req : ReqId) × P req
+
+  -- A record that edits names, or ends an epoch, is made for such a request, or for the master itself where there is one.
+  abbrev pub EntryBy : PlainEntry → Type 0
+  EntryBy (Edited by edit) = ((tells_nobody edit ≡ true) × Someone) ⊎ P by
+  EntryBy (Said to refusal) = P to
+  EntryBy (Prepare epoch moment chunks) = Someone
+  EntryBy (Finalize epoch) = Someone
+  EntryBy (RollbackBegin epoch) = Someone
+  EntryBy (RollbackCommit epoch told) = Someone
+  EntryBy (Whole c) = ⊥
+  EntryBy entry = Unit {0}
+
+  abbrev pub AreEntries : List PlainEntry → Type 0
+  AreEntries entries = AllByRecursion EntryBy entries
+
+  pub records_of : (entries : List PlainEntry) → AreEntries entries → AreRecords P entries
+  records_of [] are = tt
+  records_of (entry ∷ entries) are = (one entry are.0, records_of entries are.1)
+    where
+      one : (entry : PlainEntry) → EntryBy entry → RecordSo P entry
+      one (Edited by edit) (inl own) = inl own.0
+      one (Edited by edit) (inr is) = inr is
+      one (Said to refusal) is = is
+      one (Prepare epoch moment chunks) is = tt
+      one (Finalize epoch) is = tt
+      one (RollbackBegin epoch) is = tt
+      one (RollbackCommit epoch told) is = tt
+      one (Whole c) is = is
+      one (Propose chunk version) is = tt
+      one (Settle v) is = tt
+      one (Holder chunk server) is = tt
+
   abbrev pub SaidSo : List Message → Type 0
   SaidSo messages = AllByRecursion (λ (m : Message). RepliesTo P m.body) messages
 
@@ -55,14 +90,14 @@ module _ (P : ReqId → Type 0) where
   Waiting_so s = AllIn P s.volatile.pending
 
   pub record PlanSo (plan : Plan) : Type 0 where
-    pub records : AreRecords P plan.records
+    pub records : AreEntries plan.records
     pub changes : AreChanges P plan.changes
     pub sent : SaidSo plan.sent
 
   -- a turn in which no checkpoint is written
   pub record TurnSo (s : State) (t : Turn) : Type 0 where
     pub sent : SaidSo t.sent
-    pub records : AreRecords P t.records
+    pub records : AreEntries t.records
     pub durable : KeepsOn P s.durable.replies t.after.durable.replies
     pub memory : KeepsOn P s.volatile.replies t.after.volatile.replies
     pub waits : Waiting_so t.after
@@ -76,7 +111,7 @@ module _ (P : ReqId → Type 0) where
   planned s plan waits so = record {
     sent = so.sent;
     records = so.records;
-    durable = records_done plan.records s so.records;
+    durable = records_done plan.records s (records_of plan.records so.records);
     memory = changes_keep P plan.changes s.volatile so.changes;
     waits = changes_wait P plan.changes s.volatile so.changes waits;
   }
@@ -111,10 +146,10 @@ module _ (P : ReqId → Type 0) where
   -- ---- answers and refusals of such a request
 
   module _ (req : ReqId) (is : P req) where
-    said_so : (keeps : Bool) (log : Log) (refusal : Refusal) → AreRecords P (said_records keeps log req refusal)
+    said_so : (keeps : Bool) (log : Log) (refusal : Refusal) → AreEntries (said_records keeps log req refusal)
     said_so keeps log refusal = by_test (keeps && fits log (Said req refusal ∷ []))
       where
-        by_test : (b : Bool) → AreRecords P (if b then Said req refusal ∷ [] else [])
+        by_test : (b : Bool) → AreEntries (if b then Said req refusal ∷ [] else [])
         by_test true = (is, tt)
         by_test false = tt
 
@@ -148,7 +183,7 @@ module _ (P : ReqId → Type 0) where
     pub edit_so : (edit : PlainEdit) (answer : Answer) (before : List Change) → AreChanges P before → PlanSo (edit_plan req edit answer before)
     edit_so edit answer before so = record { records = (inr is, tt); changes = both_so _ before (changes.End req ∷ []) so (tt, tt); sent = (is, tt) }
 
-    pub accepted_so : (s : State) (records : List PlainEntry) (before : List Change) (sent : List Message) (epoch : ℕ) → AreRecords P records → AreChanges P before → SaidSo sent → PlanSo (accepted_plan s req records before sent epoch)
+    pub accepted_so : (s : State) (records : List PlainEntry) (before : List Change) (sent : List Message) (epoch : ℕ) → AreEntries records → AreChanges P before → SaidSo sent → PlanSo (accepted_plan s req records before sent epoch)
     accepted_so s records before sent epoch are so said = record {
       records = are;
       changes = both_so _ before (answer_changes s req (answers.Epoch epoch)) so (answer_so s (answers.Epoch epoch));
@@ -183,10 +218,10 @@ module _ (P : ReqId → Type 0) where
   pub send_so : (chunk : ℕ) (asking : Asking) (source target : ℕ) (with_sealed : Bool) → PlanSo (send_plan chunk asking source target with_sealed)
   send_so chunk asking source target with_sealed = record { records = tt; changes = (tt, tt); sent = (tt, tt) }
 
-  pub replace_so : (path : Path) (index old new : ℕ) → PlanSo (replace_plan path index old new)
-  replace_so path index old new = record { records = (inl refl, tt); changes = (tt, tt); sent = tt }
+  pub replace_so : Someone → (path : Path) (index old new : ℕ) → PlanSo (replace_plan path index old new)
+  replace_so one path index old new = record { records = (inl (refl, one), tt); changes = (tt, tt); sent = tt }
 
-  settling_so : (b : Bool) (chunk : ℕ) (target : Option ℕ) (view : View) → AreRecords P (holder_records b chunk target ++ Settle (record { handle = chunk; view = view }) ∷ [])
+  settling_so : (b : Bool) (chunk : ℕ) (target : Option ℕ) (view : View) → AreEntries (holder_records b chunk target ++ Settle (record { handle = chunk; view = view }) ∷ [])
   settling_so b chunk None view = (tt, tt)
   settling_so true chunk (Some target) view = (tt, (tt, tt))
   settling_so false chunk (Some target) view = (tt, tt)
@@ -198,10 +233,10 @@ module _ (P : ReqId → Type 0) where
     sent = granted_none chunk view view.term;
   }
 
-  scan_edits_so : (removed : List Path) (forgotten : List ℕ) → AreRecords P (map (Edited own_request) (scan_edits removed forgotten))
-  scan_edits_so [] [] = tt
-  scan_edits_so [] (chunk ∷ forgotten) = (inl refl, tt)
-  scan_edits_so (path ∷ removed) forgotten = (inl refl, scan_edits_so removed forgotten)
+  scan_edits_so : Someone → (removed : List Path) (forgotten : List ℕ) → AreEntries (map (Edited own_request) (scan_edits removed forgotten))
+  scan_edits_so one [] [] = tt
+  scan_edits_so one [] (chunk ∷ forgotten) = (inl (refl, one), tt)
+  scan_edits_so one (path ∷ removed) forgotten = (inl (refl, one), scan_edits_so one removed forgotten)
 
-  pub scan_so : (removed : List Path) (forgotten : List ℕ) → PlanSo (scan_plan removed forgotten)
-  scan_so removed forgotten = record { records = scan_edits_so removed forgotten; changes = (tt, tt); sent = tt }
+  pub scan_so : Someone → (removed : List Path) (forgotten : List ℕ) → PlanSo (scan_plan removed forgotten)
+  scan_so one removed forgotten = record { records = scan_edits_so one removed forgotten; changes = (tt, tt); sent = tt }

@@ -1,5 +1,5 @@
 -- Calls that are answered by the event that brings them, and by no record.
-use Rattle.std.specs.Prelude.{[], ◌∷◌, ◌≡◌, ◌≤◌, ◌⊎◌, Bool, List, Result, Some, codes, false, length, refl, true}
+use Rattle.std.specs.Prelude.{[], ◌∷◌, ◌≡◌, ◌≤◌, ◌⊎◌, Bool, Err, List, Ok, Result, Some, codes, false, length, refl, true}
 use Rattle.std.specs.FinMap as fin
 use Rattle.std.specs.List.{AllByRecursion}
 use Rattle.gs_base.specs.declared.config.Config.{Config}
@@ -8,14 +8,17 @@ use Rattle.gs_base.specs.declared.numbers.Moment.{Moment}
 use Rattle.gs_base.specs.declared.numbers.ReqId.{ReqId}
 use Rattle.gs_base.specs.declared.refusal.Refusal.{Refusal}
 use Rattle.gs_msg.specs.declared.answer.Answer.{Answer}
+use Rattle.gs_base.specs.declared.refusal.Refusal.TheVariants as refusals
+use Rattle.gs_msg.specs.declared.answer.Answer.TheVariants as answers
+use Rattle.gs_msg.specs.declared.answer.Phase.TheVariants as phases
 use Rattle.gs_msg.specs.declared.body.Body.{Body}
 use Rattle.gs_msg.specs.declared.body.Body.TheVariants as bodies
 use Rattle.gs_msg.specs.declared.call.Call.{Call}
 use Rattle.gs_msg.specs.declared.call.Call.TheVariants as calls
 use Rattle.gs_msg.specs.declared.message.Message.{Message}
-use Rattle.gs_master_spec.specs.Handling.{new_call}
+use Rattle.gs_master_spec.specs.Handling.{fresh, new_call}
 use Rattle.gs_master_spec.specs.Replies.{client_cmp}
-use Rattle.gs_master_spec.specs.State.{State, Turn}
+use Rattle.gs_master_spec.specs.State.{Log, State, Turn, reply_to}
 use Rattle.gs_master_spec.specs.Volatile.{is_pending}
 use Rattle.gs_master_spec.specs.declared.reply.KeptReply.{KeptReply}
 use Rattle.gs_master_asked.specs.Concerned.{answered_by}
@@ -66,3 +69,17 @@ a_list_is_answered_at_once = refl
 
 a_scan_refuses_who_waits : is_answered_at_once calls.Scan ≡ false
 a_scan_refuses_who_waits = refl
+
+abbrev a_request : ReqId
+a_request = record { client = record { 0 = 1 }; number = 7 }
+
+abbrev a_log : Log
+a_log = record { records = 0; size = 20; limit = 1000; generation = 1 }
+
+-- A new master is asked in which phase it is.
+it_answers_the_one_who_asks : (config : Config) (moment : Moment) → (new_call config (fresh a_log) a_request moment calls.Query).sent ≡ reply_to a_request (Ok (answers.Phase phases.Ordinary 0)) ∷ []
+it_answers_the_one_who_asks config moment = refl
+
+-- A rollback that wasn't begun isn't committed.
+it_refuses_the_one_who_asks : (config : Config) (moment : Moment) → (new_call config (fresh a_log) a_request moment calls.RollbackCommit).sent ≡ reply_to a_request (Err refusals.NotUpgrading) ∷ []
+it_refuses_the_one_who_asks config moment = refl

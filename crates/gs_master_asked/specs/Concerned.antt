@@ -12,7 +12,7 @@ use Rattle.gs_msg.specs.declared.body.Body.{Body}
 use Rattle.gs_msg.specs.declared.body.Body.TheVariants as bodies
 use Rattle.gs_msg.specs.declared.message.Message.{Message}
 use Rattle.gs_path.specs.Path.{Path}
-use Rattle.gs_master_record.specs.Plain.{Cow, Create, Edited, Finalize, Forget, PlainEdit, PlainEntry, PlainReply, Remove, Said, Whole}
+use Rattle.gs_master_record.specs.Plain.{Cow, Create, Edited, Finalize, Forget, Holder, PlainEdit, PlainEntry, PlainReply, Propose, Remove, Said, Settle, Whole}
 use Rattle.gs_master_spec.specs.Applied.{replayed}
 use Rattle.gs_master_spec.specs.Durable.{Durable}
 use Rattle.gs_master_spec.specs.Handling.{checkpoint, granted, handle, pressed, proposals, tick}
@@ -60,6 +60,14 @@ TellsOf P (Said to refusal) = P to
 TellsOf P (Whole c) = AllByRecursion (λ (r : PlainReply). P r.to) c.replies
 TellsOf P entry = Unit {0}
 
+-- a record edits no names, ends no epoch, and tells no answer that wasn't told: a view is proposed, settled, or carried by a holder; or it is a checkpoint
+abbrev pub is_still : PlainEntry → Bool
+is_still (Propose chunk version) = true
+is_still (Settle v) = true
+is_still (Holder chunk server) = true
+is_still (Whole c) = true
+is_still entry = false
+
 -- each reply of some was among those before, or it is to such a request
 abbrev pub KeepsOn : (ReqId → Type 0) → fin.FinMap client_cmp KeptReply → fin.FinMap client_cmp KeptReply → Type 0
 KeepsOn P old new = (client : ClientId) (reply : KeptReply) → fin.get new client ≡ Some reply → (fin.get old client ≡ Some reply) ⊎ P (answered_by client reply)
@@ -71,7 +79,9 @@ pub record AnswersOnly (P : ReqId → Type 0) (s : State) (t : Turn) : Type 0 wh
   pub durable : KeepsOn P s.durable.replies t.after.durable.replies
   pub memory : KeepsOn P s.volatile.replies t.after.volatile.replies
   pub waits : (req : ReqId) → is_pending t.after.volatile.pending req ≡ true → P req
-  -- also where a disk fails at one of its records
+  -- where there is no such request, its records are all such
+  pub still : ((req : ReqId) → P req → ⊥) → AllByRecursion (λ entry. is_still entry ≡ true) t.records
+  -- what is kept, also where a disk fails at one of its records
   pub cuts : (place : ℕ) → place < length t.records → KeepsOn P s.durable.replies (cut s t.records place).durable.replies
 
 -- ---- what is to hold

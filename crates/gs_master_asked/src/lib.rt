@@ -5,7 +5,8 @@ ghost use Rattle.gs_master_asked.specs.AtOnce.{AnswersAtOnce};
 ghost use Rattle.gs_master_asked.specs.Concerned.{CheckpointsAnswerNobody, KeptAreTold, MessagesAnswerConcerned, StepsAnswerConcerned, TicksAnswerConcerned};
 
 /// Each event of the master, whatever it has met before: each reply that it sends is to the call that comes or to one that waits as it comes; each that it keeps behind the event, in memory or on record, it kept
-/// before, or it is to such a call; so is each reply that one of its records tells; and what waits behind it comes with it or has waited. A tick answers only who has waited, and a checkpoint nobody.
+/// before, or it is to such a call; so is each reply that one of its records tells; and what waits behind it comes with it or has waited. A tick answers only who has waited, and a checkpoint nobody. Where no call comes, and none waits, no record of the event
+/// edits names, ends an epoch, or tells an answer.
 pub fn only_who_calls_is_answered()
     ensures messages { MessagesAnswerConcerned }
     ensures ticks { TicksAnswerConcerned }
