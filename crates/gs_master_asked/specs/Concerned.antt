@@ -41,9 +41,10 @@ pub record Keeps (replies : fin.FinMap client_cmp KeptReply) (req : ReqId) : Typ
 
 -- ---- what is answered
 
--- a message that is a reply is to such a request
+-- a message that is a reply is to such a request; and none is a call
 abbrev pub RepliesTo : (ReqId → Type 0) → Body → Type 0
 RepliesTo P (bodies.Reply req result) = P req
+RepliesTo P (bodies.Call req call) = ⊥
 RepliesTo P body = Unit {0}
 
 -- the edits of a scan, and that for a copy on write: they are the master's own, and tell no answer
