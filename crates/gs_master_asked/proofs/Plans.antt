@@ -43,7 +43,7 @@ both_so S [] ys first second = second
 both_so S (x ∷ xs) ys first second = (first.0, both_so S xs ys first.1 second)
 
 -- what is recorded leaves what is kept in memory alone
-volatile_still : (xs : List PlainEntry) (s : State) → (fold with_record s xs).volatile ≡ s.volatile
+pub volatile_still : (xs : List PlainEntry) (s : State) → (fold with_record s xs).volatile ≡ s.volatile
 volatile_still [] s = refl
 volatile_still (x ∷ xs) s = volatile_still xs (with_record s x)
 

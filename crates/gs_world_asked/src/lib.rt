@@ -1,0 +1,19 @@
+//! Which calls clients have made: of each reply that there is in a store its client has asked, and each answer that a client takes was made for its call, since it asked.
+#![tactic(auto)]
+
+ghost use Rattle.std.specs.Prelude.{List, ℕ};
+ghost use Rattle.gs_world_asked.specs.Asked.{BeginsAsked, ScriptsAsked, StaysAsked, StaysAskedUnarmed};
+
+use gs_block::promises::configurations_have_sizes;
+
+/// Each call that was ever sent is its client's own, under a number that it has asked under; and so is each reply that was ever sent, each that the master keeps, in memory, on record or by what its disks tell, and each
+/// call that waits. So it is over every run of a store that has begun new, in which all that is asked is within its types, whatever comes, how often, and in which order, whatever begins again, and whatever disks fail; and so it is of what a script leaves.
+/// So a number that a client hasn't asked under yet is fresh: there is nothing of it in the store.
+pub fn of_each_reply_its_client_has_asked<D>()
+    ensures begun { (seen : D → List ℕ) → BeginsAsked seen }
+    ensures kept { StaysAsked D }
+    ensures unarmed { StaysAskedUnarmed D }
+    ensures scripts { ScriptsAsked D }
+{
+    configurations_have_sizes();
+}
