@@ -85,7 +85,7 @@ use Rattle.gs_shell_desk.specs.declared.desk.Desk.{Desk}
 use Rattle.gs_world_laws.proofs.Keeping.{begins_keeping}
 use Rattle.gs_world_laws.specs.Reached.{history, unarmed}
 use Rattle.gs_world_laws.specs.Within.{IsReachedWithin}
-use Rattle.gs_world_asked.specs.Asked.{ScriptsAsked, AreAsked, HasAsked, KeepsOf, KeepsOfAt, SaysOf}
+use Rattle.gs_world_asked.specs.Asked.{ScriptsAsked, IsNumbered, AreAsked, HasAsked, KeepsOf, KeepsOfAt, SaysOf}
 use Rattle.gs_world_asked.proofs.Parts.{Armed, Asked, Heard, Opened, Part, Rested, Served, Ticked, Told, asking, hearing, part_of, sent_by, with_client}
 
 -- ---- what is said
@@ -389,58 +389,67 @@ asked_now clients id n after number found below = (let mine = numbered (id.0 == 
   number = below;
 })
 
-abbrev Numbered_all : List Node → Type 0
-Numbered_all clients = (place : ℕ) (n : Node) → slice_get clients place ≡ Some n → n.id.0 ≡ place + 1
+abbrev pub Numbered_all : List Node → Type 0
+Numbered_all clients = (place : ℕ) (n : Node) → slice_get clients place ≡ Some n → IsNumbered place n
+
+abbrev Waits : Node → Type 0
+Waits n = (number : ℕ) → n.waiting ≡ Some number → number ≡ n.last
 
 its_own : (a : ℕ) → (a == 0) ≡ false → (a - 1) + 1 ≡ a
 its_own a is = grind (arith, nat_tests)
 
 pub own_id : (clients : List Node) → Numbered_all clients → (id : ClientId) (n : Node) → client_in clients id ≡ Some n → n.id ≡ id
 own_id clients all id n found =
-    let mine = numbered (id.0 == 0) (slice_get clients (id.0 - 1)) n found in let same : n.id.0 ≡ id.0 = all (id.0 - 1) n mine.1 ∙ its_own id.0 mine.0 in (λ i. record { 0 = same i })
+    let mine = numbered (id.0 == 0) (slice_get clients (id.0 - 1)) n found in let same : n.id.0 ≡ id.0 = (all (id.0 - 1) n mine.1).id ∙ its_own id.0 mine.0 in (λ i. record { 0 = same i })
 
-set_numbered : (xs : List Node) (i : ℕ) (n after : Node) (base : ℕ) → slice_get xs i ≡ Some n → after.id ≡ n.id → ((place : ℕ) (x : Node) → slice_get xs place ≡ Some x → x.id.0 ≡ base + place + 1)
-    → (place : ℕ) (x : Node) → slice_get (slice_set xs i after) place ≡ Some x → x.id.0 ≡ base + place + 1
-set_numbered [] i n after base is own all place x there = absurd cc
-set_numbered (y ∷ xs) zero n after base is own all zero x there = (let same : after ≡ x = cc in ap (λ (z : Node). z.id.0) (sym same) ∙ ap (λ (c : ClientId). c.0) own ∙ all zero n is)
-set_numbered (y ∷ xs) zero n after base is own all (suc place) x there = all (suc place) x there
-set_numbered (y ∷ xs) (suc i) n after base is own all zero x there = all zero x there
-set_numbered (y ∷ xs) (suc i) n after base is own all (suc place) x there =
-    set_numbered xs i n after (base + 1) is own (λ p z at. all (suc p) z at ∙ moved base p) place x there ∙ sym (moved base place)
+set_numbered : (xs : List Node) (i : ℕ) (n after : Node) (base : ℕ) → slice_get xs i ≡ Some n → after.id ≡ n.id → Waits after → ((place : ℕ) (x : Node) → slice_get xs place ≡ Some x → IsNumbered (base + place) x)
+    → (place : ℕ) (x : Node) → slice_get (slice_set xs i after) place ≡ Some x → IsNumbered (base + place) x
+set_numbered [] i n after base is own waits all place x there = absurd cc
+set_numbered (y ∷ xs) zero n after base is own waits all zero x there =
+    let same : after ≡ x = cc in subst (IsNumbered (base + 0)) same (record { id = ap (λ (c : ClientId). c.0) own ∙ (all zero n is).id; waits = waits })
+set_numbered (y ∷ xs) zero n after base is own waits all (suc place) x there = all (suc place) x there
+set_numbered (y ∷ xs) (suc i) n after base is own waits all zero x there = all zero x there
+set_numbered (y ∷ xs) (suc i) n after base is own waits all (suc place) x there =
+    subst (λ k. IsNumbered k x) (sym (moved base place)) (set_numbered xs i n after (base + 1) is own waits (λ p z at. subst (λ k. IsNumbered k z) (moved base p) (all (suc p) z at)) place x there)
   where
-    moved : (a b : ℕ) → a + suc b + 1 ≡ a + 1 + b + 1
+    moved : (a b : ℕ) → a + suc b ≡ a + 1 + b
     moved a b = omega arith
 
-pub still_numbered : (clients : List Node) (id : ClientId) (n after : Node) → client_in clients id ≡ Some n → after.id ≡ n.id → Numbered_all clients → Numbered_all (slice_set clients (id.0 - 1) after)
-still_numbered clients id n after found own all place x there =
-    set_numbered clients (id.0 - 1) n after 0 (numbered (id.0 == 0) (slice_get clients (id.0 - 1)) n found).1 own (λ p z at. all p z at ∙ from_nought p) place x there ∙ sym (from_nought place)
+pub still_numbered : (clients : List Node) (id : ClientId) (n after : Node) → client_in clients id ≡ Some n → after.id ≡ n.id → (Waits n → Waits after) → Numbered_all clients → Numbered_all (slice_set clients (id.0 - 1) after)
+still_numbered clients id n after found own waits all place x there =
+    let mine = numbered (id.0 == 0) (slice_get clients (id.0 - 1)) n found in
+    subst (λ k. IsNumbered k x) (sym (from_nought place))
+    (set_numbered clients (id.0 - 1) n after 0 mine.1 own (waits (all (id.0 - 1) n mine.1).waits) (λ p z at. subst (λ k. IsNumbered k z) (from_nought p) (all p z at)) place x there)
   where
-    from_nought : (a : ℕ) → a + 1 ≡ 0 + a + 1
+    from_nought : (a : ℕ) → a ≡ 0 + a
     from_nought a = omega arith
 
 -- what a client hears leaves its number, and what it has asked
 abbrev Same : Node → Node → Type 0
-Same n after = (after.id ≡ n.id) × (after.last ≡ n.last)
+Same n after = (after.id ≡ n.id) × (after.last ≡ n.last) × (Waits n → Waits after)
 
 takes_same : (req : ReqId) (reply : Reply) (n : Node) → Same n (takes req reply n)
 takes_same req reply n = by_test _
   where
     by_test : (b : Bool) → Same n (if b then record { id = n.id; last = n.last; waiting = None; reply = Some reply } else n)
-    by_test true = (refl, refl)
-    by_test false = (refl, refl)
+    by_test true = (refl, refl, λ waits number is. absurd (never is))
+      where
+        never : {k : ℕ} → ◌≡◌ {A = Option ℕ} None (Some k) → ⊥
+        never is = cc
+    by_test false = (refl, refl, λ waits. waits)
 
 pub hearing_same : (body : Body) (n : Node) → Same n (hearing (hears body n) n)
 hearing_same (bodies.Reply req result) n = takes_same req _ n
 hearing_same (bodies.Done req result) n = takes_same req _ n
 hearing_same (bodies.Bytes req result) n = takes_same req _ n
-hearing_same (bodies.About handle said) n = (refl, refl)
-hearing_same (bodies.Call req call) n = (refl, refl)
-hearing_same (bodies.Push req bytes) n = (refl, refl)
-hearing_same (bodies.MakeCopy handle at new_handle stamp) n = (refl, refl)
-hearing_same (bodies.Report epoch replicas) n = (refl, refl)
-hearing_same (bodies.Epoch epoch end) n = (refl, refl)
-hearing_same (bodies.Learned epoch handles) n = (refl, refl)
-hearing_same (bodies.Behind epoch) n = (refl, refl)
+hearing_same (bodies.About handle said) n = (refl, refl, λ waits. waits)
+hearing_same (bodies.Call req call) n = (refl, refl, λ waits. waits)
+hearing_same (bodies.Push req bytes) n = (refl, refl, λ waits. waits)
+hearing_same (bodies.MakeCopy handle at new_handle stamp) n = (refl, refl, λ waits. waits)
+hearing_same (bodies.Report epoch replicas) n = (refl, refl, λ waits. waits)
+hearing_same (bodies.Epoch epoch end) n = (refl, refl, λ waits. waits)
+hearing_same (bodies.Learned epoch handles) n = (refl, refl, λ waits. waits)
+hearing_same (bodies.Behind epoch) n = (refl, refl, λ waits. waits)
 
 -- ---- an event
 
@@ -472,12 +481,12 @@ module _ {D : Type 0} (seen : D → List ℕ) (failures : D → ℕ) (armed : Di
     at_master : (place : MasterPlace D) (new : Nodes D) → new ≡ with_master place old.nodes → AllSaid P (sent_by outcome) → KeepsOfAt P place → Leaves old outcome new
     at_master place new same said keeps = subst (λ n. Leaves old outcome n) (sym same) (record { further = λ req has. has; said = said; master = keeps; numbered = are.numbered })
 
-    at_client : (id : ClientId) (n after : Node) (new : Nodes D) → client_in old.nodes.clients id ≡ Some n → n.last ≤ after.last → after.id ≡ n.id → new ≡ with_client id after old.nodes
+    at_client : (id : ClientId) (n after : Node) (new : Nodes D) → client_in old.nodes.clients id ≡ Some n → n.last ≤ after.last → after.id ≡ n.id → (Waits n → Waits after) → new ≡ with_client id after old.nodes
         → (((req : ReqId) → P req → HasAsked (slice_set old.nodes.clients (id.0 - 1) after) req) → AllSaid (HasAsked (slice_set old.nodes.clients (id.0 - 1) after)) (sent_by outcome)) → Leaves old outcome new
-    at_client id n after new found up own same said =
+    at_client id n after new found up own waits same said =
         let more = asked_further old.nodes.clients id n after found up in
         subst (λ x. Leaves old outcome x) (sym same)
-        (record { further = more; said = said more; master = keeps_further P (HasAsked (slice_set old.nodes.clients (id.0 - 1) after)) more old.nodes.master are.master; numbered = still_numbered old.nodes.clients id n after found own are.numbered })
+        (record { further = more; said = said more; master = keeps_further P (HasAsked (slice_set old.nodes.clients (id.0 - 1) after)) more old.nodes.master are.master; numbered = still_numbered old.nodes.clients id n after found own waits are.numbered })
 
     elsewhere : (new : Nodes D) → new.clients ≡ old.nodes.clients → new.master ≡ old.nodes.master → AllSaid P (sent_by outcome) → Leaves old outcome new
     elsewhere new clients master said = record {
@@ -506,14 +515,17 @@ module _ {D : Type 0} (seen : D → List ℕ) (failures : D → ℕ) (armed : Di
     some_leaves new (Armed disk call it none same) = at_master (armed disk call old.nodes.master) new same (none_said P none) (arming P disk call old.nodes.master are.master)
     some_leaves new (Served by clients master) = elsewhere new clients master (servers_said P (sent_by outcome) by)
     some_leaves new (Asked req request n it found number sends same) =
-        at_client req.client n (asking n req.number) new found (above req.number n.last number) refl same
+        at_client req.client n (asking n req.number) new found (above req.number n.last number) refl (λ waits k is. its_last is) same
         (λ more. subst (AllSaid _) (sym sends)
         (request_said (HasAsked (slice_set old.nodes.clients (req.client.0 - 1) (asking n req.number))) (request_of n req.number) request
         (subst (λ (id : ClientId). HasAsked (slice_set old.nodes.clients (req.client.0 - 1) (asking n req.number)) (record { client = id; number = req.number })) (sym (own_id old.nodes.clients are.numbered req.client n found))
         (asked_now old.nodes.clients req.client n (asking n req.number) req.number found (omega arith)))))
+      where
+        its_last : {a b : ℕ} → ◌≡◌ {A = Option ℕ} (Some a) (Some b) → b ≡ a
+        its_last is = cc
     some_leaves new (Told id message client n it was found none same) =
         let kept = hearing_same message.body n in
-        at_client client n (hearing (hears message.body n) n) new found (no_less n.last (hearing (hears message.body n) n).last kept.1) kept.0 same (λ more. none_said _ none)
+        at_client client n (hearing (hears message.body n) n) new found (no_less n.last (hearing (hears message.body n) n).last kept.1) kept.0 kept.2 same (λ more. none_said _ none)
       where
         no_less : (a b : ℕ) → b ≡ a → a ≤ b
         no_less a b is = omega arith
@@ -599,7 +611,7 @@ module _ {D : Type 0} (seen : D → List ℕ) (failures : D → ℕ) (armed : Di
             let clients = ap (λ (x : Nodes D). x.clients) there in
             let last : n.last ≤ after.last = no_less n.last after.last (ap (λ (x : Node). x.last) did.1) in
             left (λ req has. subst (λ cs. HasAsked cs req) (sym clients) (asked_further old.nodes.clients client n after was last req has)) (ap (λ (x : Nodes D). x.master) there)
-            (subst Numbered_all (sym clients) (still_numbered old.nodes.clients client n after was (ap (λ (x : Node). x.id) did.1) are.numbered))
+            (subst Numbered_all (sym clients) (still_numbered old.nodes.clients client n after was (ap (λ (x : Node). x.id) did.1) (λ waits. subst Waits (sym did.1) waits) are.numbered))
           where
             no_less : (a b : ℕ) → b ≡ a → a ≤ b
             no_less a b is = omega arith
@@ -631,9 +643,12 @@ new_numbered : (many : ℕ) → Numbered_all (new_clients many)
 new_numbered zero place n is = absurd cc
 new_numbered (suc many) place n is = by (one_or_last (new_clients many) (silent (record { 0 = many + 1 })) place n is) (new_numbered many place n)
   where
-    by : (slice_get (new_clients many) place ≡ Some n) ⊎ ((place ≡ length (new_clients many)) × (n ≡ silent (record { 0 = many + 1 }))) → (slice_get (new_clients many) place ≡ Some n → n.id.0 ≡ place + 1) → n.id.0 ≡ place + 1
+    never : {k : ℕ} → ◌≡◌ {A = Option ℕ} None (Some k) → ⊥
+    never is = cc
+
+    by : (slice_get (new_clients many) place ≡ Some n) ⊎ ((place ≡ length (new_clients many)) × (n ≡ silent (record { 0 = many + 1 }))) → (slice_get (new_clients many) place ≡ Some n → IsNumbered place n) → IsNumbered place n
     by (inl before) earlier = earlier before
-    by (inr last) earlier = ap (λ (x : Node). x.id.0) last.1 ∙ ap (λ k. k + 1) (sym (last.0 ∙ new_many many))
+    by (inr last) earlier = record { id = ap (λ (x : Node). x.id.0) last.1 ∙ ap (λ k. k + 1) (sym (last.0 ∙ new_many many)); waits = λ number is. absurd (never (sym (ap (λ (x : Node). x.waiting) last.1) ∙ is)) }
 
 nothing_kept : (P : ReqId → Type 0) (log : Log) → KeepsOf P (restarted start log)
 nothing_kept P log = record { durable = λ req k. absurd (none_kept P req k); memory = λ req k. absurd (none_kept P req k); waits = λ req there. absurd (false≢true there) }

@@ -57,6 +57,11 @@ abbrev pub KeepsOfAt : {D : Type 0} → (ReqId → Type 0) → MasterPlace D →
 KeepsOfAt P (Standing m) = KeepsOf P m.state
 KeepsOfAt P place = Unit {0}
 
+-- clients are numbered from 1, and each waits for what it has asked last
+pub record IsNumbered (place : ℕ) (n : Node) : Type 0 where
+  pub id : n.id.0 ≡ place + 1
+  pub waits : (number : ℕ) → n.waiting ≡ Some number → number ≡ n.last
+
 -- ---- what is to hold
 
 module _ {D : Type 0} (seen : D → List ℕ) where
@@ -65,7 +70,7 @@ module _ {D : Type 0} (seen : D → List ℕ) where
     pub sent : (id : MsgId) (message : Message) → message_of h.sent id ≡ Some message → SaysOf (HasAsked h.nodes.clients) message.from message.body
     pub master : KeepsOfAt (HasAsked h.nodes.clients) h.nodes.master
     pub told : (d : Durable) → TellsAt seen h.nodes.master d → (req : ReqId) → Keeps d.replies req → HasAsked h.nodes.clients req
-    pub numbered : (place : ℕ) (n : Node) → slice_get h.nodes.clients place ≡ Some n → n.id.0 ≡ place + 1
+    pub numbered : (place : ℕ) (n : Node) → slice_get h.nodes.clients place ≡ Some n → IsNumbered place n
 
   -- Over disks that said nothing a store begins so.
   abbrev pub BeginsAsked : Type 0
