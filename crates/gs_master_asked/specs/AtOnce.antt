@@ -35,9 +35,10 @@ is_answered_at_once calls.Finalize = true
 is_answered_at_once calls.RollbackCommit = true
 is_answered_at_once call = false
 
--- a message that is a reply says this to this request
+-- a message that is a reply says this to this request; and none is a call
 abbrev pub SaysAlone : ReqId → Result Answer Refusal → Body → Type 0
 SaysAlone req result (bodies.Reply to said) = (to ≡ req) × (said ≡ result)
+SaysAlone req result (bodies.Call to call) = ⊥
 SaysAlone req result body = Unit {0}
 
 -- one of some is this reply

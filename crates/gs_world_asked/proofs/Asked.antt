@@ -86,7 +86,8 @@ use Rattle.gs_world_laws.proofs.Keeping.{begins_keeping}
 use Rattle.gs_world_laws.specs.Reached.{history, unarmed}
 use Rattle.gs_world_laws.specs.Within.{IsReachedWithin}
 use Rattle.gs_world_asked.specs.Asked.{ScriptsAsked, IsNumbered, AreAsked, HasAsked, KeepsOf, KeepsOfAt, SaysOf}
-use Rattle.gs_world_asked.proofs.Parts.{Armed, Asked, Heard, Opened, Part, Rested, Served, Ticked, Told, asking, hearing, part_of, sent_by, with_client}
+use Rattle.gs_world_asked.specs.Answered.{sent_by}
+use Rattle.gs_world_asked.proofs.Parts.{Armed, Asked, Heard, Opened, Part, Rested, Served, Ticked, Told, asking, hearing, part_of, with_client}
 
 -- ---- what is said
 
@@ -257,7 +258,7 @@ module _ {D : Type 0} (seen : D → List ℕ) (failures : D → ℕ) (P : ReqId 
   as_left false t steps old new turn only keeps (inr (place, is)) = cut_left None t old new turn place only keeps nobody_calls is.cut
 
   -- what it does before a checkpoint, where memory is wanting for that
-  lacking_only : (s : State) (moment : Moment) → AnswersOnly (IsConcerned s None) s (lacking (pressed_all s moment))
+  pub lacking_only : (s : State) (moment : Moment) → AnswersOnly (IsConcerned s None) s (lacking (pressed_all s moment))
   lacking_only s moment = (let only = steps_concerned s moment in record { sent = only.sent; records = only.records; durable = only.durable; memory = only.memory; waits = only.waits; still = only.still; cuts = only.cuts })
 
   tick_left : (moment : Moment) (old new : MasterOf D) (turn : Told_turn) → KeepsOf P old.state → AnswersTick seen failures moment old (Ok turn) new → Left (Standing new) turn.sent.items

@@ -31,13 +31,9 @@ use Rattle.gs_nodes.specs.declared.place.MasterPlace.{MasterPlace}
 use Rattle.gs_nodes.specs.declared.place.MasterPlace.TheVariants as places
 use Rattle.gs_world.specs.Histories.{AtNode, ComesTo, History, Upshot, Restarts, Ticks, asked, silent, told}
 use Rattle.gs_world.specs.Sent.{message_of}
+use Rattle.gs_world_asked.specs.Answered.{sent_by}
 use Rattle.gs_server_member.proofs.Elsewhere.{ByServer}
 use Rattle.gs_world_lift.proofs.AskingServers.{handled_by, tick_by}
-
--- what goes out
-abbrev pub sent_by : Upshot → List Message
-sent_by (Ok out) = out.0
-sent_by (Err refusal) = []
 
 -- a client that asks under this number
 abbrev pub asking : Node → ℕ → Node

@@ -2,6 +2,9 @@
 #![tactic(auto)]
 
 ghost use Rattle.std.specs.Prelude.{List, ℕ};
+ghost use Rattle.gs_msg.specs.declared.event.DiskId.{DiskId};
+ghost use Rattle.gs_nodes.specs.declared.place.MasterPlace.{MasterPlace};
+ghost use Rattle.gs_world_asked.specs.Answered.{AnswersAreMade};
 ghost use Rattle.gs_world_asked.specs.Asked.{BeginsAsked, ScriptsAsked, StaysAsked, StaysAskedUnarmed};
 
 use gs_block::promises::configurations_have_sizes;
@@ -17,3 +20,9 @@ pub fn of_each_reply_its_client_has_asked<D>()
 {
     configurations_have_sizes();
 }
+
+/// An answer that a client gets to a call that is answered at once was made for this very call, since the client asked: at one event, at which the call came to a standing master as new to it, and that answered so. So
+/// no answer is older than its call, whatever messages come, how often, and in which order.
+pub fn an_answer_is_made_for_its_call<D>()
+    ensures { (seen : D → List ℕ) (failures : D → ℕ) (armed : DiskId → ℕ → MasterPlace D → MasterPlace D) → AnswersAreMade seen failures armed }
+{}
