@@ -50,7 +50,7 @@ pub fits_gives : (b : Bool) (n next : Durable) → if_fits b n ≡ Some next →
 fits_gives true n next e = durable_is e
 fits_gives false n next e = absurd (false≢true (ap is_some e))
 
-same_calls : (a b : ReqId) → same_op a b ≡ true → a ≡ b
+pub same_calls : (a b : ReqId) → same_op a b ≡ true → a ≡ b
 same_calls a b h =
     let parts = and_parts (a.client.0 == b.client.0) (a.number == b.number) h in
     let c = equal a.client.0 b.client.0 parts.0 in

@@ -44,6 +44,8 @@ use Rattle.gs_master_asked.specs.AtOnce.{AnswersAlone, KeepsBut, OneSays, SaysAl
 use Rattle.gs_master_asked.proofs.AtOnce.{at_once}
 use Rattle.gs_master_asked.specs.Concerned.{AnswersOnly, IsConcerned, Keeps, KeepsOn, RepliesTo, answered_by}
 use Rattle.gs_master_asked.proofs.Concerning.{messages_concerned, ticks_concerned}
+use Rattle.gs_master_asked.proofs.Kept.{itself, same_calls}
+use Rattle.gs_lock.specs.Operations.{same_op}
 use Rattle.gs_master_asked.proofs.Plans.{volatile_still}
 use Rattle.gs_nodes.specs.Happenings.{MasterHears, MasterTicks, MeetsClosed, client_in, refusal_of_call}
 use Rattle.gs_nodes.specs.Nodes.{Nodes, with_clients, with_master}
@@ -418,3 +420,110 @@ module _ (req : ReqId) (call : Call) where
       ticks_so moment (Standing m) new turn so (after, is, answers) = (let left = tick_other moment m after turn so answers in (subst (PlaceSo Then) (sym is) left.0, left.1))
       ticks_so moment (Closed first second) new turn so meets = (subst (PlaceSo Then) (sym meets.0) tt, subst (AllSays Then) (sym meets.1) tt)
       ticks_so moment Away new turn so meets = (subst (PlaceSo Then) (sym meets.0) tt, subst (AllSays Then) (sym meets.1) tt)
+
+      -- it hears its call, or another message
+      same_call : (other : ReqId) → (other ≡ req) ⊎ (other ≡ req → ⊥)
+      same_call other = by_test (same_op other req) refl
+        where
+          by_test : (b : Bool) → same_op other req ≡ b → (other ≡ req) ⊎ (other ≡ req → ⊥)
+          by_test true is = inl (same_calls other req is)
+          by_test false is = inr (λ same. false≢true (sym is ∙ ap (λ r. same_op r req) same ∙ itself req))
+
+      -- what comes is this call
+      is_call_turn : (config : Config) (s : State) (message : Message) (moment : Moment) → message.body ≡ bodies.Call req call → message.from ≡ nodes.Client req.client → handle config s message moment ≡ call_turn config s req moment call
+      unfolding handle
+      is_call_turn config s message moment asks from = ap (λ (b : Body). from_node config s moment b message.from) asks ∙ ap (λ (n : NodeId). from_node config s moment (bodies.Call req call) n) from
+
+      own_hears : (message : Message) (moment : Moment) (m after : MasterOf D) (turn : Told_turn) → is_answered_at_once call ≡ true → message.body ≡ bodies.Call req call → message.from ≡ nodes.Client req.client → StateSo Made m.state → Told_now m turn
+          → MasterAnswers seen failures (caller_of message.body) (handle m.config m.state message moment) m (Ok turn) after → Left (Standing after) turn.sent.items
+      own_hears message moment m after turn once asks from so now answers =
+          own_left (call_turn m.config m.state req moment call) m after turn so (call_own m.config m.state moment once so) (call_few m.config m.state moment once) now
+          (subst (λ (t : Turn). MasterAnswers seen failures (Some req) t m (Ok turn) after) (is_call_turn m.config m.state message moment asks from) (subst (λ (b : Body). MasterAnswers seen failures (caller_of b) (handle m.config m.state message moment) m (Ok turn) after) asks answers))
+
+      -- who calls, if it isn't this one
+      other_caller : (body : Body) → ((other : ReqId) (calls : Call) → body ≡ bodies.Call other calls → other ≡ req → ⊥) → caller_of body ≡ Some req → ⊥
+      other_caller (bodies.Call other calls) apart is = apart other calls refl (req_is is)
+        where
+          req_is : {a b : ReqId} → ◌≡◌ {A = Option ReqId} (Some a) (Some b) → a ≡ b
+          req_is is = cc
+      other_caller (bodies.Reply other result) apart is = absurd cc
+      other_caller (bodies.About chunk said) apart is = absurd cc
+      other_caller (bodies.Push other bytes) apart is = absurd cc
+      other_caller (bodies.Done other result) apart is = absurd cc
+      other_caller (bodies.Bytes other result) apart is = absurd cc
+      other_caller (bodies.MakeCopy chunk at new_chunk stamp) apart is = absurd cc
+      other_caller (bodies.Report epoch replicas) apart is = absurd cc
+      other_caller (bodies.Epoch epoch end) apart is = absurd cc
+      other_caller (bodies.Learned epoch handles) apart is = absurd cc
+      other_caller (bodies.Behind epoch) apart is = absurd cc
+
+      hears_other : (message : Message) (moment : Moment) (m after : MasterOf D) (turn : Told_turn) (body : Body) → message.body ≡ body → ((other : ReqId) (calls : Call) → body ≡ bodies.Call other calls → ⊥) → StateSo Made m.state
+          → MasterAnswers seen failures (caller_of message.body) (handle m.config m.state message moment) m (Ok turn) after → Left (Standing after) turn.sent.items
+      hears_other message moment m after turn body is none so answers =
+          answers_other (caller_of message.body) (handle m.config m.state message moment) m after turn (messages_concerned m.config m.state message moment) so (other_caller message.body (λ r c there same. none r c (sym is ∙ there))) answers
+
+      hears_one : (message : Message) (moment : Moment) (m after : MasterOf D) (turn : Told_turn) (body : Body) → message.body ≡ body → is_answered_at_once call ≡ true → Says Made body → SaysOf (λ r. Unit {0}) message.from body → StateSo Made m.state
+          → ((asks : message.body ≡ bodies.Call req call) (from : message.from ≡ nodes.Client req.client) → Told_now m turn) → MasterAnswers seen failures (caller_of message.body) (handle m.config m.state message moment) m (Ok turn) after → Left (Standing after) turn.sent.items
+      hears_one message moment m after turn (bodies.Call other calls) is once says of so now answers = elim (same_call other) [
+        | inl same ↦
+            let asks = is ∙ ap (λ r. bodies.Call r calls) same ∙ ap (λ c. bodies.Call req c) (says same) in
+            let from = of.0 ∙ ap (λ (r : ReqId). nodes.Client r.client) same in own_hears message moment m after turn once asks from so (now asks from) answers
+        | inr apart ↦
+            answers_other (caller_of message.body) (handle m.config m.state message moment) m after turn (messages_concerned m.config m.state message moment) so
+            (other_caller message.body (λ r c there same. apart (call_is (sym is ∙ there) ∙ same))) answers
+      ]
+        where
+          call_is : {a b : ReqId} {c d : Call} → bodies.Call a c ≡ bodies.Call b d → a ≡ b
+          call_is is = cc
+      hears_one message moment m after turn (bodies.Reply other result) is once says of so now answers = hears_other message moment m after turn (bodies.Reply other result) is (λ r c there. absurd cc) so answers
+      hears_one message moment m after turn (bodies.About chunk said) is once says of so now answers = hears_other message moment m after turn (bodies.About chunk said) is (λ r c there. absurd cc) so answers
+      hears_one message moment m after turn (bodies.Push other bytes) is once says of so now answers = hears_other message moment m after turn (bodies.Push other bytes) is (λ r c there. absurd cc) so answers
+      hears_one message moment m after turn (bodies.Done other result) is once says of so now answers = hears_other message moment m after turn (bodies.Done other result) is (λ r c there. absurd cc) so answers
+      hears_one message moment m after turn (bodies.Bytes other result) is once says of so now answers = hears_other message moment m after turn (bodies.Bytes other result) is (λ r c there. absurd cc) so answers
+      hears_one message moment m after turn (bodies.MakeCopy chunk at new_chunk stamp) is once says of so now answers = hears_other message moment m after turn (bodies.MakeCopy chunk at new_chunk stamp) is (λ r c there. absurd cc) so answers
+      hears_one message moment m after turn (bodies.Report epoch replicas) is once says of so now answers = hears_other message moment m after turn (bodies.Report epoch replicas) is (λ r c there. absurd cc) so answers
+      hears_one message moment m after turn (bodies.Epoch epoch end) is once says of so now answers = hears_other message moment m after turn (bodies.Epoch epoch end) is (λ r c there. absurd cc) so answers
+      hears_one message moment m after turn (bodies.Learned epoch handles) is once says of so now answers = hears_other message moment m after turn (bodies.Learned epoch handles) is (λ r c there. absurd cc) so answers
+      hears_one message moment m after turn (bodies.Behind epoch) is once says of so now answers = hears_other message moment m after turn (bodies.Behind epoch) is (λ r c there. absurd cc) so answers
+
+      pub hears_so : (message : Message) (moment : Moment) (old new : MasterPlace D) (turn : Told_turn) → is_answered_at_once call ≡ true → Says Made message.body → SaysOf (λ r. Unit {0}) message.from message.body → PlaceSo Made old
+          → ((m : MasterOf D) → old ≡ Standing m → message.body ≡ bodies.Call req call → message.from ≡ nodes.Client req.client → Told_now m turn) → MasterHears seen failures message moment old (Ok turn) new → Left new turn.sent.items
+      hears_so message moment (Standing m) new turn once says of so now (after, is, answers) =
+          let left = hears_one message moment m after turn message.body refl once says of so (now m refl) answers in (subst (PlaceSo Then) (sym is) left.0, left.1)
+      hears_so message moment (Closed first second) new turn once says of so now meets = (subst (PlaceSo Then) (sym meets.0) tt, subst (AllSays Then) (sym meets.1) (refusal_says Then (caller_of message.body)))
+      hears_so message moment Away new turn once says of so now meets = (subst (PlaceSo Then) (sym meets.0) tt, subst (AllSays Then) (sym meets.1) (refusal_says Then (caller_of message.body)))
+
+-- ---- clients
+
+set_or : (xs : List Node) (i j : ℕ) (after x : Node) → slice_get (slice_set xs i after) j ≡ Some x → ((i ≡ j) × (x ≡ after)) ⊎ (slice_get xs j ≡ Some x)
+set_or [] i j after x is = absurd cc
+set_or (y ∷ xs) zero zero after x is = inl (refl, cc)
+set_or (y ∷ xs) zero (suc j) after x is = inr is
+set_or (y ∷ xs) (suc i) zero after x is = inr is
+set_or (y ∷ xs) (suc i) (suc j) after x is = by (set_or xs i j after x is)
+  where
+    by : ((i ≡ j) × (x ≡ after)) ⊎ (slice_get xs j ≡ Some x) → ((suc i ≡ suc j) × (x ≡ after)) ⊎ (slice_get xs j ≡ Some x)
+    by (inl own) = inl (ap suc own.0, own.1)
+    by (inr before) = inr before
+
+in_list : (nought : Bool) (found : Option Node) (n : Node) → (if nought then None else found) ≡ Some n → (nought ≡ false) × (found ≡ Some n)
+in_list true found n is = absurd cc
+in_list false found n is = (refl, is)
+
+to_client : (nought : Bool) (found : Option Node) (n : Node) → nought ≡ false → found ≡ Some n → (if nought then None else found) ≡ Some n
+to_client true found n not is = absurd cc
+to_client false found n not is = is
+
+same_place : (a b : ℕ) → (a == 0) ≡ false → (b == 0) ≡ false → a - 1 ≡ b - 1 → a ≡ b
+same_place a b first second is = grind (arith, nat_tests)
+
+-- who goes on is this client, or it is as it was
+pub set_client : (clients : List Node) (id other : ClientId) (n after x : Node) → client_in clients id ≡ Some n → client_in (slice_set clients (id.0 - 1) after) other ≡ Some x → ((id ≡ other) × (x ≡ after)) ⊎ (client_in clients other ≡ Some x)
+set_client clients id other n after x found there =
+    let mine = in_list (id.0 == 0) (slice_get clients (id.0 - 1)) n found in
+    let its = in_list (other.0 == 0) (slice_get (slice_set clients (id.0 - 1) after) (other.0 - 1)) x there in
+    by mine.0 its.0 (set_or clients (id.0 - 1) (other.0 - 1) after x its.1)
+  where
+    by : (id.0 == 0) ≡ false → (other.0 == 0) ≡ false → ((id.0 - 1 ≡ other.0 - 1) × (x ≡ after)) ⊎ (slice_get clients (other.0 - 1) ≡ Some x) → ((id ≡ other) × (x ≡ after)) ⊎ (client_in clients other ≡ Some x)
+    by first second (inl own) = (let same = same_place id.0 other.0 first second own.0 in inl ((λ i. record { 0 = same i }), own.1))
+    by first second (inr before) = inr (to_client (other.0 == 0) (slice_get clients (other.0 - 1)) x second before)
