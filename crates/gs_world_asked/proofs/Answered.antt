@@ -60,7 +60,8 @@ use Rattle.gs_world_lift.proofs.Posting.{posted_all, sent_then}
 use Rattle.gs_world_lift.specs.Going.{AllSent, Posts}
 use Rattle.gs_world_asked.specs.Answered.{AnswersAreMade, AnswersNow, AsksFresh, WasAnswered, sent_by, spares_master}
 use Rattle.gs_world_asked.specs.Asked.{AreAsked, HasAsked, IsNumbered, KeepsOf, KeepsOfAt, SaysOf}
-use Rattle.gs_world_asked.proofs.Asked.{Numbered_all, asked_further, lacking_only, own_id, still_numbered}
+use Rattle.gs_client.specs.Nodes.{pushes, with_bytes}
+use Rattle.gs_world_asked.proofs.Asked.{AllSaid, Numbered_all, Waits, hearing_same, hears_left, lacking_only, own_id, request_said, servers_said, still_numbered, ticks_left}
 use Rattle.gs_world_asked.proofs.Parts.{Armed, Asked, Heard, Opened, Part, Rested, Served, Ticked, Told, asking, hearing, part_of, with_client}
 
 -- ---- lists
@@ -94,7 +95,7 @@ one_there req result (m ∷ messages) (inr one) = (let found = one_there req res
 
 module _ (req : ReqId) (call : Call) where
   -- what is said to this request, and called under it
-  abbrev Says : (Answer → Type 0) → Body → Type 0
+  abbrev pub Says : (Answer → Type 0) → Body → Type 0
   Says Made (bodies.Reply other (Ok answer)) = other ≡ req → Made answer
   Says Made (bodies.Call other calls) = other ≡ req → calls ≡ call
   Says Made body = Unit {0}
@@ -108,15 +109,15 @@ module _ (req : ReqId) (call : Call) where
     pub memory : KeptSo Made s.volatile.replies
     pub waits : is_pending s.volatile.pending req ≡ true → ⊥
 
-  abbrev PlaceSo : {D : Type 0} → (Answer → Type 0) → MasterPlace D → Type 0
+  abbrev pub PlaceSo : {D : Type 0} → (Answer → Type 0) → MasterPlace D → Type 0
   PlaceSo Made (Standing m) = StateSo Made m.state
   PlaceSo Made place = Unit {0}
 
   -- what its client has
-  abbrev NodeSo : (Answer → Type 0) → Node → Type 0
+  abbrev pub NodeSo : (Answer → Type 0) → Node → Type 0
   NodeSo Made n = (answer : Answer) → n.last ≡ req.number → n.reply ≡ Some (replies.Answer answer) → Made answer
 
-  abbrev ClientSo : (Answer → Type 0) → List Node → Type 0
+  abbrev pub ClientSo : (Answer → Type 0) → List Node → Type 0
   ClientSo Made clients = (n : Node) → client_in clients req.client ≡ Some n → NodeSo Made n
 
   abbrev AllSays : (Answer → Type 0) → List Message → Type 0
@@ -527,3 +528,374 @@ set_client clients id other n after x found there =
     by : (id.0 == 0) ≡ false → (other.0 == 0) ≡ false → ((id.0 - 1 ≡ other.0 - 1) × (x ≡ after)) ⊎ (slice_get clients (other.0 - 1) ≡ Some x) → ((id ≡ other) × (x ≡ after)) ⊎ (client_in clients other ≡ Some x)
     by first second (inl own) = (let same = same_place id.0 other.0 first second own.0 in inl ((λ i. record { 0 = same i }), own.1))
     by first second (inr before) = inr (to_client (other.0 == 0) (slice_get clients (other.0 - 1)) x second before)
+
+-- ---- an event
+
+abbrev Any : ReqId → Type 0
+Any req = Unit {0}
+
+any_kept : {D : Type 0} (place : MasterPlace D) → KeepsOfAt Any place
+any_kept (Standing m) = record { durable = λ req k. tt; memory = λ req k. tt; waits = λ req there. tt }
+any_kept (Closed first second) = tt
+any_kept Away = tt
+
+module _ (req : ReqId) (call : Call) where
+  abbrev pub SoMessage : (Answer → Type 0) → Message → Type 0
+  SoMessage Made m = Says req call Made m.body × SaysOf Any m.from m.body
+
+  pub record Follows {D : Type 0} (Made : Answer → Type 0) (h : History D) : Type 0 where
+    pub sent : AllSent (SoMessage Made) h.sent
+    pub master : PlaceSo req call Made h.nodes.master
+    pub client : ClientSo req call Made h.nodes.clients
+    pub past : (n : Node) → client_in h.nodes.clients req.client ≡ Some n → req.number ≤ n.last
+    pub numbered : Numbered_all h.nodes.clients
+
+  record Leaves {D : Type 0} (Then : Answer → Type 0) (outcome : Upshot) (new : Nodes D) : Type 0 where
+    said : AllSays req call Then (sent_by outcome)
+    of : AllSaid Any (sent_by outcome)
+    master : PlaceSo req call Then new.master
+    client : ClientSo req call Then new.clients
+    past : (n : Node) → client_in new.clients req.client ≡ Some n → req.number ≤ n.last
+    numbered : Numbered_all new.clients
+
+  servers_say : (Then : Answer → Type 0) (messages : List Message) → ByServer messages → AllSays req call Then messages
+  servers_say Then [] by = tt
+  servers_say Then (m ∷ messages) by = (server_says req call Then m.body by.0, servers_say Then messages by.1)
+
+  -- what another request says
+  pushed_says : (Then : Answer → Type 0) (other : ReqId) (members bytes : List ℕ) → AllSays req call Then (pushes other members bytes)
+  pushed_says Then other [] bytes = tt
+  pushed_says Then other (member ∷ members) bytes = (tt, pushed_says Then other members bytes)
+
+  both_say : (Then : Answer → Type 0) (xs ys : List Message) → AllSays req call Then xs → AllSays req call Then ys → AllSays req call Then (xs ++ ys)
+  both_say Then [] ys first second = second
+  both_say Then (x ∷ xs) ys first second = (first.0, both_say Then xs ys first.1 second)
+
+  pub request_says : (Then : Answer → Type 0) (other : ReqId) (request : Request) → ((calls : Call) → request ≡ requests.Call calls → other ≡ req → calls ≡ call) → AllSays req call Then (messages_of other request)
+  request_says Then other (requests.Call calls) same = (same calls refl, tt)
+  request_says Then other (requests.Write handle members primary stamp op bytes) same = both_say Then (pushes other (with_bytes members op) bytes) _ (pushed_says Then other (with_bytes members op) bytes) (tt, tt)
+  request_says Then other (requests.Fetch to handle stamp epoch asked) same = (tt, tt)
+
+  module _ {D : Type 0} (seen : D → List ℕ) (failures : D → ℕ) (armed : DiskId → ℕ → MasterPlace D → MasterPlace D) (once : is_answered_at_once call ≡ true) where
+    module _ (Made Then : Answer → Type 0) (more : (answer : Answer) → Made answer → Then answer) (old : History D) (f : Follows Made old) (moment : Moment) (happening : Happening) (outcome : Upshot)
+        (now : (answer : Answer) → AnswersNow old (record { moment = moment; happening = happening }) outcome req call answer → Then answer) where
+      at_master : (place : MasterPlace D) (new : Nodes D) (messages : List Message) → new ≡ with_master place old.nodes → sent_by outcome ≡ messages → PlaceSo req call Then place × AllSays req call Then messages → AllSaid Any messages → Leaves Then outcome new
+      at_master place new messages same is left of = subst (Leaves Then outcome) (sym same) (record {
+        said = subst (AllSays req call Then) (sym is) left.1;
+        of = subst (AllSaid Any) (sym is) of;
+        master = left.0;
+        client = λ n there answer last reply. more answer (f.client n there answer last reply);
+        past = f.past;
+        numbered = f.numbered;
+      })
+
+      elsewhere : (new : Nodes D) → new.clients ≡ old.nodes.clients → new.master ≡ old.nodes.master → AllSays req call Then (sent_by outcome) → AllSaid Any (sent_by outcome) → Leaves Then outcome new
+      elsewhere new clients master said of = record {
+        said = said;
+        of = of;
+        master = subst (PlaceSo req call Then) (sym master) (place_more req call Made Then more old.nodes.master f.master);
+        client = λ n there answer last reply. more answer (f.client n (ap (λ cs. client_in cs req.client) (sym clients) ∙ there) answer last reply);
+        past = λ n there. f.past n (ap (λ cs. client_in cs req.client) (sym clients) ∙ there);
+        numbered = subst Numbered_all (sym clients) f.numbered;
+      }
+
+      none_says : sent_by outcome ≡ [] → AllSays req call Then (sent_by outcome)
+      none_says none = subst (AllSays req call Then) (sym none) tt
+
+      none_of : sent_by outcome ≡ [] → AllSaid Any (sent_by outcome)
+      none_of none = subst (AllSaid Any) (sym none) tt
+
+      -- a client goes on
+      at_client : (id : ClientId) (n after : Node) (new : Nodes D) → client_in old.nodes.clients id ≡ Some n → n.last ≤ after.last → after.id ≡ n.id → (Waits n → Waits after) → new ≡ with_client id after old.nodes
+          → (id ≡ req.client → NodeSo req call Then after) → AllSays req call Then (sent_by outcome) → AllSaid Any (sent_by outcome) → Leaves Then outcome new
+      at_client id n after new found up own waits same so said of = subst (Leaves Then outcome) (sym same) (record {
+        said = said;
+        of = of;
+        master = place_more req call Made Then more old.nodes.master f.master;
+        client = λ x there answer last reply. by_client x (set_client old.nodes.clients id req.client n after x found there) answer last reply;
+        past = λ x there. by_past x (set_client old.nodes.clients id req.client n after x found there);
+        numbered = still_numbered old.nodes.clients id n after found own waits f.numbered;
+      })
+        where
+          by_client : (x : Node) → ((id ≡ req.client) × (x ≡ after)) ⊎ (client_in old.nodes.clients req.client ≡ Some x) → NodeSo req call Then x
+          by_client x (inl mine) = subst (NodeSo req call Then) (sym mine.1) (so mine.0)
+          by_client x (inr before) = λ answer last reply. more answer (f.client x before answer last reply)
+
+          up_to : (a b c : ℕ) → a ≤ b → b ≤ c → a ≤ c
+          up_to a b c first second = omega arith
+
+          by_past : (x : Node) → ((id ≡ req.client) × (x ≡ after)) ⊎ (client_in old.nodes.clients req.client ≡ Some x) → req.number ≤ x.last
+          by_past x (inl mine) = subst (λ (y : Node). req.number ≤ y.last) (sym mine.1) (up_to req.number n.last after.last (f.past n (subst (λ c. client_in old.nodes.clients c ≡ Some n) mine.0 found)) up)
+          by_past x (inr before) = f.past x before
+
+      -- what it hears
+      none_reply : (r : Reply) (answer : Answer) → r ≡ replies.Answer answer → (result : Result Answer Refusal) → r ≡ answered replies.Answer result → result ≡ Ok answer
+      none_reply r answer is (Ok other) so = ap (λ a. Ok a) (answer_is (sym so ∙ is))
+        where
+          answer_is : {a b : Answer} → replies.Answer a ≡ replies.Answer b → a ≡ b
+          answer_is is = cc
+      none_reply r answer is (Err refusal) so = absurd (never (sym so ∙ is))
+        where
+          never : replies.Refused refusal ≡ replies.Answer answer → ⊥
+          never is = cc
+
+      some_reply : {a b : Reply} → ◌≡◌ {A = Option Reply} (Some a) (Some b) → a ≡ b
+      some_reply is = cc
+
+      -- a reply that it takes is to what it waits for
+      takes_so : (other : ReqId) (r : Reply) (n : Node) → n.id ≡ req.client → Waits n → NodeSo req call Made n → ((answer : Answer) → other ≡ req → r ≡ replies.Answer answer → Then answer) → NodeSo req call Then (takes other r n)
+      takes_so other r n own waits before told answer = by_test (is_of other n.id n.waiting) refl
+        where
+          equal : (a b : ℕ) → (a == b) ≡ true → a ≡ b
+          equal a b is = grind (arith, nat_tests)
+
+          by_waiting : (o : Option ℕ) → n.waiting ≡ o → is_of other n.id o ≡ true → n.last ≡ req.number → other ≡ req
+          by_waiting None was is last = absurd (false≢true is)
+          by_waiting (Some number) was is last =
+              let parts = both_true (other.client.0 == n.id.0) (other.number == number) is in
+              let c : other.client.0 ≡ req.client.0 = equal other.client.0 n.id.0 parts.0 ∙ ap (λ (i : ClientId). i.0) own in
+              let k : other.number ≡ req.number = equal other.number number parts.1 ∙ waits number was ∙ last in (λ i. record { client = record { 0 = c i }; number = k i })
+            where
+              both_true : (a b : Bool) → cond a b false ≡ true → (a ≡ true) × (b ≡ true)
+              both_true true b is = (refl, is)
+              both_true false b is = absurd (false≢true is)
+
+          by_test : (b : Bool) → is_of other n.id n.waiting ≡ b → (if b then record { id = n.id; last = n.last; waiting = None; reply = Some r } else n).last ≡ req.number
+              → (if b then record { id = n.id; last = n.last; waiting = None; reply = Some r } else n).reply ≡ Some (replies.Answer answer) → Then answer
+          by_test true is last reply = told answer (by_waiting n.waiting refl is last) (some_reply reply)
+          by_test false is last reply = more answer (before answer last reply)
+
+      same_node : (n : Node) → NodeSo req call Made n → NodeSo req call Then n
+      same_node n before answer last reply = more answer (before answer last reply)
+
+      hearing_so : (body : Body) (n : Node) → n.id ≡ req.client → Waits n → NodeSo req call Made n → Says req call Made body → NodeSo req call Then (hearing (hears body n) n)
+      hearing_so (bodies.Reply other (Ok x)) n own waits before says = takes_so other (replies.Answer x) n own waits before (λ answer same is. more answer (subst Made (answer_is is) (says same)))
+        where
+          answer_is : {a b : Answer} → replies.Answer a ≡ replies.Answer b → a ≡ b
+          answer_is is = cc
+      hearing_so (bodies.Reply other (Err refusal)) n own waits before says = takes_so other (replies.Refused refusal) n own waits before (λ answer same is. absurd cc)
+      hearing_so (bodies.Done other result) n own waits before says = takes_so other (answered replies.Outcome result) n own waits before (λ answer same is. absurd (never result answer is))
+        where
+          never : (result : Result _ Refusal) (answer : Answer) → answered replies.Outcome result ≡ replies.Answer answer → ⊥
+          never (Ok outcome) answer is = cc
+          never (Err refusal) answer is = cc
+      hearing_so (bodies.Bytes other result) n own waits before says = takes_so other (answered replies.Given result) n own waits before (λ answer same is. absurd (never result answer is))
+        where
+          never : (result : Result _ Refusal) (answer : Answer) → answered replies.Given result ≡ replies.Answer answer → ⊥
+          never (Ok given) answer is = cc
+          never (Err refusal) answer is = cc
+      hearing_so (bodies.About chunk said) n own waits before says = same_node n before
+      hearing_so (bodies.Call other calls) n own waits before says = same_node n before
+      hearing_so (bodies.Push other bytes) n own waits before says = same_node n before
+      hearing_so (bodies.MakeCopy chunk at new_chunk stamp) n own waits before says = same_node n before
+      hearing_so (bodies.Report epoch replicas) n own waits before says = same_node n before
+      hearing_so (bodies.Epoch epoch end) n own waits before says = same_node n before
+      hearing_so (bodies.Learned epoch handles) n own waits before says = same_node n before
+      hearing_so (bodies.Behind epoch) n own waits before says = same_node n before
+
+      waits_of : (id : ClientId) (n : Node) → client_in old.nodes.clients id ≡ Some n → Waits n
+      waits_of id n found = (f.numbered (id.0 - 1) n (in_list (id.0 == 0) (slice_get old.nodes.clients (id.0 - 1)) n found).1).waits
+
+      above : (number last : ℕ) → nat_le number last ≡ false → last < number
+      above number last is = grind (arith, nat_tests)
+
+      not_above : (a b : ℕ) → a < b → a ≤ b
+      not_above a b less = omega arith
+
+      -- what is asked now isn't this request
+      later_one : (other : ReqId) (n : Node) → client_in old.nodes.clients other.client ≡ Some n → nat_le other.number n.last ≡ false → request_of n other.number ≡ req → ⊥
+      later_one other n found number same =
+          let own = own_id old.nodes.clients f.numbered other.client n found in
+          let mine : other.client ≡ req.client = sym own ∙ ap (λ (r : ReqId). r.client) same in
+          clash req.number n.last other.number (f.past n (subst (λ c. client_in old.nodes.clients c ≡ Some n) mine found)) (above other.number n.last number) (ap (λ (r : ReqId). r.number) same)
+        where
+          clash : (a b c : ℕ) → a ≤ b → b < c → c ≡ a → ⊥
+          clash a b c first second is = omega arith
+
+      leaves : (new : Nodes D) → spares_master (Comes (record { moment = moment; happening = happening })) ≡ true → Part seen failures armed old moment happening outcome new → Leaves Then outcome new
+      leaves new spares (Heard id message turn place it was to hears is same) =
+          let left = hears_so req call Made Then more seen failures message moment old.nodes.master place turn once (f.sent id message was).0 (f.sent id message was).1 f.master
+              (λ m stands asks from apart new_call answer reply there says. now answer (record {
+                id = id;
+                message = message;
+                comes = it;
+                was = was;
+                to = to;
+                from = from;
+                asks = asks;
+                master = m;
+                stands = stands;
+                apart = apart;
+                new = new_call;
+                reply = reply;
+                sent = subst (λ o. Contains (sent_by o) reply) (sym is) there;
+                says = says;
+              })) hears in
+          at_master place new turn.sent.items same (ap sent_by is) left (hears_left seen failures Any message moment old.nodes.master place turn (any_kept old.nodes.master) (λ r calls. tt) hears).1
+      leaves new spares (Ticked turn place it ticks is same) =
+          at_master place new turn.sent.items same (ap sent_by is) (ticks_so req call Made Then more seen failures moment old.nodes.master place turn f.master ticks) (ticks_left seen failures Any moment old.nodes.master place turn (any_kept old.nodes.master) ticks).1
+      leaves new spares (Opened turn place it opens is same) = absurd (false≢true (sym (ap (λ h. spares_master (Comes (record { moment = moment; happening = h }))) it) ∙ spares))
+      leaves new spares (Armed disk call it none same) = absurd (false≢true (sym (ap (λ h. spares_master (Comes (record { moment = moment; happening = h }))) it) ∙ spares))
+      leaves new spares (Served by clients master) = elsewhere new clients master (servers_say Then (sent_by outcome) by) (servers_said Any (sent_by outcome) by)
+      leaves new spares (Asked other request n it found number sends same) =
+          at_client other.client n (asking n other.number) new found (not_above n.last other.number (above other.number n.last number)) refl (λ waits k is. its_last is) same (λ mine answer last reply. absurd (none_yet reply))
+          (subst (AllSays req call Then) (sym sends) (request_says Then (request_of n other.number) request (λ calls is mine. absurd (later_one other n found number mine)))) (subst (AllSaid Any) (sym sends) (request_said Any (request_of n other.number) request tt))
+        where
+          its_last : {a b : ℕ} → ◌≡◌ {A = Option ℕ} (Some a) (Some b) → b ≡ a
+          its_last is = cc
+
+          none_yet : {r : Reply} → ◌≡◌ {A = Option Reply} None (Some r) → ⊥
+          none_yet is = cc
+      leaves new spares (Told id message client n it was found none same) =
+          let kept = hearing_same message.body n in
+          at_client client n (hearing (hears message.body n) n) new found (no_less n.last (hearing (hears message.body n) n).last kept.1) kept.0 kept.2 same
+          (λ mine. hearing_so message.body n (own_id old.nodes.clients f.numbered client n found ∙ mine) (waits_of client n found) (f.client n (subst (λ c. client_in old.nodes.clients c ≡ Some n) mine found)) (f.sent id message was).0) (none_says none) (none_of none)
+        where
+          no_less : (a b : ℕ) → b ≡ a → a ≤ b
+          no_less a b is = omega arith
+      leaves new spares (Rested none same) = elsewhere new (ap (λ (n : Nodes D). n.clients) same) (ap (λ (n : Nodes D). n.master) same) (none_says none) (none_of none)
+
+    posts : (moment : Moment) (by : NodeId) (outcome : Upshot) (old : Sent) (result : Result (Unit {0}) Refusal) (new : Sent) → Tells seen failures armed moment by outcome old result new → Posts moment by (sent_by outcome) old new
+    posts moment by (Ok (messages, said)) old result new (posted, is) = inl posted
+    posts moment by (Err refusal) old result new (same, is) = inr same
+
+    both_so : (Then : Answer → Type 0) (messages : List Message) → AllSays req call Then messages → AllSaid Any messages → AllByRecursion (SoMessage Then) messages
+    both_so Then messages says of = all_both (λ (m : Message). Says req call Then m.body) (λ (m : Message). SaysOf Any m.from m.body) (SoMessage Then) messages (λ m one two. (one, two)) says of
+
+    pub event_follows : (Made Then : Answer → Type 0) → ((answer : Answer) → Made answer → Then answer) → (event : Event) (old new : History D) (said : Result (Unit {0}) Refusal) (h : Happens seen failures armed event old said new) → spares_master (Comes event) ≡ true
+        → ((answer : Answer) → AnswersNow old event h.outcome req call answer → Then answer) → Follows Made old → Follows Then new
+    event_follows Made Then more event old new said h spares now f =
+        let left = leaves Made Then more old f event.moment event.happening h.outcome now new.nodes spares (part_of seen failures armed old event.moment event.happening h.by h.outcome new.nodes h.at) in record {
+          sent = posted_all (SoMessage Then) event.moment h.by (sent_by h.outcome) old.sent new.sent (posts event.moment h.by h.outcome old.sent said new.sent h.tells)
+              (sent_then (SoMessage Made) (SoMessage Then) old.sent (λ m was. (says_more req call Made Then more m.body was.0, was.1)) f.sent) (both_so Then (sent_by h.outcome) left.said left.of);
+          master = left.master;
+          client = left.client;
+          past = left.past;
+          numbered = left.numbered;
+        }
+
+    pub takes_follows : (Made Then : Answer → Type 0) → ((answer : Answer) → Made answer → Then answer) → (client : ClientId) (old new : History D) → Goes seen failures armed (Takes client) old new → Follows Made old → Follows Then new
+    takes_follows Made Then more client old new (found, taken, same) f = by_client (client_in old.nodes.clients client) refl taken
+      where
+        sent_so : AllSent (SoMessage Then) new.sent
+        sent_so = subst (AllSent (SoMessage Then)) (sym same) (sent_then (SoMessage Made) (SoMessage Then) old.sent (λ m was. (says_more req call Made Then more m.body was.0, was.1)) f.sent)
+
+        still : new.nodes.clients ≡ old.nodes.clients → new.nodes.master ≡ old.nodes.master → Follows Then new
+        still clients master = record {
+          sent = sent_so;
+          master = subst (PlaceSo req call Then) (sym master) (place_more req call Made Then more old.nodes.master f.master);
+          client = λ n there answer last reply. more answer (f.client n (ap (λ cs. client_in cs req.client) (sym clients) ∙ there) answer last reply);
+          past = λ n there. f.past n (ap (λ cs. client_in cs req.client) (sym clients) ∙ there);
+          numbered = subst Numbered_all (sym clients) f.numbered;
+        }
+
+        none_yet : {r : Reply} → ◌≡◌ {A = Option Reply} None (Some r) → ⊥
+        none_yet is = cc
+
+        by_found : (n after : Node) → client_in old.nodes.clients client ≡ Some n → after ≡ given_up n → new.nodes ≡ with_client client after old.nodes → Follows Then new
+        by_found n after was gives there = record {
+          sent = sent_so;
+          master = subst (PlaceSo req call Then) (sym (ap (λ (x : Nodes D). x.master) there)) (place_more req call Made Then more old.nodes.master f.master);
+          client = λ x is answer last reply. by_node x (set_client old.nodes.clients client req.client n after x was (ap (λ cs. client_in cs req.client) (sym clients) ∙ is)) answer last reply;
+          past = λ x is. by_past x (set_client old.nodes.clients client req.client n after x was (ap (λ cs. client_in cs req.client) (sym clients) ∙ is));
+          numbered = subst Numbered_all (sym clients) (still_numbered old.nodes.clients client n after was (ap (λ (x : Node). x.id) gives) (λ waits. subst Waits (sym gives) waits) f.numbered);
+        }
+          where
+            clients : new.nodes.clients ≡ slice_set old.nodes.clients (client.0 - 1) after
+            clients = ap (λ (x : Nodes D). x.clients) there
+
+            by_node : (x : Node) → ((client ≡ req.client) × (x ≡ after)) ⊎ (client_in old.nodes.clients req.client ≡ Some x) → NodeSo req call Then x
+            by_node x (inl mine) = λ answer last reply. absurd (none_yet (sym (ap (λ (y : Node). y.reply) (mine.1 ∙ gives)) ∙ reply))
+            by_node x (inr before) = λ answer last reply. more answer (f.client x before answer last reply)
+
+            by_past : (x : Node) → ((client ≡ req.client) × (x ≡ after)) ⊎ (client_in old.nodes.clients req.client ≡ Some x) → req.number ≤ x.last
+            by_past x (inl mine) = subst (λ k. req.number ≤ k) (sym (ap (λ (y : Node). y.last) (mine.1 ∙ gives))) (f.past n (subst (λ c. client_in old.nodes.clients c ≡ Some n) mine.0 was))
+            by_past x (inr before) = f.past x before
+
+        by_client : (o : Option Node) → client_in old.nodes.clients client ≡ o
+            → MatchOption o ((new.nodes ≡ old.nodes) × (found ≡ None)) (λ n. (after : Node) × (new.nodes ≡ with_client client after old.nodes) × ((found ≡ n.reply) × (after ≡ given_up n))) → Follows Then new
+        by_client None was (none, is) = still (ap (λ (n : Nodes D). n.clients) none) (ap (λ (n : Nodes D). n.master) none)
+        by_client (Some n) was (after, there, did) = by_found n after was did.1 there
+
+    -- ---- a run
+
+    abbrev Answered_by : List Step → History D → History D → Answer → Type 0
+    Answered_by steps old new answer = WasAnswered seen failures armed steps old new req call answer
+
+    then_step : (steps : List Step) (step : Step) (old mid new : History D) → RunsTo seen failures armed steps old mid → Goes seen failures armed step mid new → RunsTo seen failures armed (steps ++ step ∷ []) old new
+    then_step [] step old mid new same goes = (new, subst (λ (h : History D). Goes seen failures armed step h new) same goes, refl)
+    then_step (one ∷ steps) step old mid new (h, first, rest) goes = (h, first, then_step steps step h mid new rest goes)
+
+    further : (steps : List Step) (step : Step) (old mid new : History D) → Goes seen failures armed step mid new → (answer : Answer) → Answered_by steps old mid answer → Answered_by (steps ++ step ∷ []) old new answer
+    further steps step old mid new goes answer was = record {
+      before = was.before;
+      now = was.now;
+      event = was.event;
+      said = was.said;
+      next = was.next;
+      after = was.after ++ step ∷ [];
+      parts = ap (λ xs. xs ++ step ∷ []) was.parts ∙ append_assoc was.before (Comes was.event ∷ was.after) (step ∷ []);
+      first = was.first;
+      happens = was.happens;
+      rest = then_step was.after step was.next mid new was.rest goes;
+      answers = was.answers;
+    }
+
+    step_follows : (steps : List Step) (step : Step) (old mid new : History D) → RunsTo seen failures armed steps old mid → Goes seen failures armed step mid new → spares_master step ≡ true → Follows (Answered_by steps old mid) mid → Follows (Answered_by (steps ++ step ∷ []) old new) new
+    step_follows steps (Comes event) old mid new runs (said, h) spares f =
+        event_follows (Answered_by steps old mid) (Answered_by (steps ++ Comes event ∷ []) old new) (further steps (Comes event) old mid new (said, h)) event mid new said h spares
+        (λ answer is. record { before = steps; now = mid; event = event; said = said; next = new; after = []; parts = refl; first = runs; happens = h; rest = refl; answers = is }) f
+    step_follows steps (Takes client) old mid new runs goes spares f =
+        takes_follows (Answered_by steps old mid) (Answered_by (steps ++ Takes client ∷ []) old new) (further steps (Takes client) old mid new goes) client mid new goes f
+
+    none_behind : (xs : List Step) → xs ++ [] ≡ xs
+    none_behind [] = refl
+    none_behind (x ∷ xs) = ap (λ (ys : List Step). x ∷ ys) (none_behind xs)
+
+    run_follows : (steps others : List Step) (old mid new : History D) → RunsTo seen failures armed steps old mid → RunsTo seen failures armed others mid new → AllByRecursion (λ step. spares_master step ≡ true) others → Follows (Answered_by steps old mid) mid
+        → Follows (Answered_by (steps ++ others) old new) new
+    run_follows steps [] old mid new runs same spares f =
+        subst (λ xs. Follows (Answered_by xs old new) new) (sym (none_behind steps)) (subst (λ (h : History D). Follows (Answered_by steps old h) h) (sym same) f)
+    run_follows steps (step ∷ others) old mid new runs (h, goes, rest) spares f =
+        subst (λ xs. Follows (Answered_by xs old new) new) (append_assoc steps (step ∷ []) others)
+        (run_follows (steps ++ step ∷ []) others old h new (then_step steps step old mid h runs goes) rest spares.1 (step_follows steps step old mid h runs goes spares.0 f))
+
+    -- ---- what it begins with
+
+    old_says : (Made : Answer → Type 0) (clients : List Node) → (HasAsked clients req → ⊥) → (from : NodeId) (body : Body) → SaysOf (HasAsked clients) from body → Says req call Made body × SaysOf Any from body
+    old_says Made clients none from (bodies.Reply other (Ok answer)) of = ((λ same. absurd (none (subst (HasAsked clients) same of))), tt)
+    old_says Made clients none from (bodies.Reply other (Err refusal)) of = (tt, tt)
+    old_says Made clients none from (bodies.Call other calls) of = ((λ same. absurd (none (subst (HasAsked clients) same of.1))), (of.0, tt))
+    old_says Made clients none from (bodies.About chunk said) of = (tt, tt)
+    old_says Made clients none from (bodies.Push other bytes) of = (tt, tt)
+    old_says Made clients none from (bodies.Done other result) of = (tt, tt)
+    old_says Made clients none from (bodies.Bytes other result) of = (tt, tt)
+    old_says Made clients none from (bodies.MakeCopy chunk at new_chunk stamp) of = (tt, tt)
+    old_says Made clients none from (bodies.Report epoch replicas) of = (tt, tt)
+    old_says Made clients none from (bodies.Epoch epoch end) of = (tt, tt)
+    old_says Made clients none from (bodies.Learned epoch handles) of = (tt, tt)
+    old_says Made clients none from (bodies.Behind epoch) of = (tt, tt)
+
+    old_keeps : (Made : Answer → Type 0) (clients : List Node) → (HasAsked clients req → ⊥) → (place : MasterPlace D) → KeepsOfAt (HasAsked clients) place → PlaceSo req call Made place
+    old_keeps Made clients none (Standing m) keeps = record {
+      durable = λ reply answer has number is. absurd (none (keeps.durable req (record { reply = reply; has = has; number = number })));
+      memory = λ reply answer has number is. absurd (none (keeps.memory req (record { reply = reply; has = has; number = number })));
+      waits = λ there. none (keeps.waits req there);
+    }
+    old_keeps Made clients none (Closed first second) keeps = tt
+    old_keeps Made clients none Away keeps = tt
+
+    pub asked_follows : (Made : Answer → Type 0) (old asked : History D) (moment : Moment) → AreAsked seen old → AsksFresh seen failures armed old moment req call asked → Follows Made asked
+    asked_follows Made old asked moment are x = by_outcome x.happens.outcome x.happens.at.1.0 x.happens.at.1.2 x.happens.tells x.happens.at.1.1
+      where
+        fresh : HasAsked old.nodes.clients req → ⊥
+        fresh has = clash req.number has.node.last x.node.last has.number x.fresh (ap (λ (n : Node). n.last) (node_is (sym x.there ∙ has.there)))
+          where
+            node_is : {a b : Node} → ◌≡◌ {A = Option Node} (Some a) (Some b) → a ≡ b
+            node_is is = cc
+
+            clash : (a b c : ℕ) → a ≤ b → c < a → c ≡ b → ⊥
+            clash a b c first second is = omega arith
+
+        by_outcome : ?
+        by_outcome = ?

@@ -92,7 +92,7 @@ use Rattle.gs_world_asked.proofs.Parts.{Armed, Asked, Heard, Opened, Part, Reste
 -- ---- what is said
 
 module _ (P : ReqId → Type 0) where
-  abbrev AllSaid : List Message → Type 0
+  abbrev pub AllSaid : List Message → Type 0
   AllSaid messages = AllByRecursion (λ (m : Message). SaysOf P m.from m.body) messages
 
   reply_said : (Q : ReqId → Type 0) → ((req : ReqId) → Q req → P req) → (from : NodeId) (body : Body) → RepliesTo Q body → SaysOf P from body
@@ -117,7 +117,7 @@ module _ (P : ReqId → Type 0) where
   server_said from (bodies.Call req call) by = absurd by
   server_said from body by = tt
 
-  servers_said : (messages : List Message) → ByServer messages → AllSaid messages
+  pub servers_said : (messages : List Message) → ByServer messages → AllSaid messages
   servers_said [] by = tt
   servers_said (m ∷ messages) by = (server_said m.from m.body by.0, servers_said messages by.1)
 
@@ -129,7 +129,7 @@ module _ (P : ReqId → Type 0) where
   both_said [] ys first second = second
   both_said (x ∷ xs) ys first second = (first.0, both_said xs ys first.1 second)
 
-  request_said : (req : ReqId) (request : Request) → P req → AllSaid (messages_of req request)
+  pub request_said : (req : ReqId) (request : Request) → P req → AllSaid (messages_of req request)
   request_said req (requests.Call call) is = ((refl, is), tt)
   request_said req (requests.Write handle members primary stamp op bytes) is = both_said (pushes req (with_bytes members op) bytes) _ (pushes_said req (with_bytes members op) bytes) (tt, tt)
   request_said req (requests.Fetch to handle stamp epoch asked) is = (tt, tt)
@@ -393,7 +393,7 @@ asked_now clients id n after number found below = (let mine = numbered (id.0 == 
 abbrev pub Numbered_all : List Node → Type 0
 Numbered_all clients = (place : ℕ) (n : Node) → slice_get clients place ≡ Some n → IsNumbered place n
 
-abbrev Waits : Node → Type 0
+abbrev pub Waits : Node → Type 0
 Waits n = (number : ℕ) → n.waiting ≡ Some number → number ≡ n.last
 
 its_own : (a : ℕ) → (a == 0) ≡ false → (a - 1) + 1 ≡ a

@@ -36,6 +36,16 @@ abbrev pub sent_by : Upshot → List Message
 sent_by (Ok out) = out.0
 sent_by (Err refusal) = []
 
+-- the master isn't started again, and no failure of a disk of it is arranged: one may fail by itself
+abbrev pub spares_master : Step → Bool
+spares_master (Comes event) = spares event.happening
+  where
+    spares : Happening → Bool
+    spares (happenings.Restart keepers.Master) = false
+    spares (happenings.FailDisk disk call) = false
+    spares happening = true
+spares_master (Takes client) = true
+
 -- ---- an answer is made
 
 -- A message comes to the master by which this is called. The call doesn't wait, and is new to a master that stands: that keeps no reply to this request, or to a later one of its client. And it answers so.
@@ -71,16 +81,6 @@ module _ {D : Type 0} (seen : D → List ℕ) (failures : D → ℕ) (armed : Di
     pub answers : AnswersNow now event happens.outcome req call answer
 
   -- ---- what is to hold
-
-  -- the master isn't started again, and no failure of a disk of it is arranged: one may fail by itself
-  abbrev pub spares_master : Step → Bool
-  spares_master (Comes event) = spares event.happening
-    where
-      spares : Happening → Bool
-      spares (happenings.Restart keepers.Master) = false
-      spares (happenings.FailDisk disk call) = false
-      spares happening = true
-  spares_master (Takes client) = true
 
   -- A client asks under a number that is fresh, and is taken.
   pub record AsksFresh (old : History D) (moment : Moment) (req : ReqId) (call : Call) (asked : History D) : Type 0 where
