@@ -1,9 +1,9 @@
 -- An answer that a client gets was made for its call, since it asked.
-use Rattle.std.proofs.Common.{if◌then◌else◌, ◌≡◌, ◌∙◌, ◌⊎◌, ◌&&◌, inl, inr, ◌+◌, ◌-◌, ◌<◌, ◌≤◌, ◌==◌, ◌++◌, append_assoc, ℕ, zero, suc, Bool, true, false, cond, List, [], ◌∷◌, length, Option, Some, None, MatchOption, Result, Ok, Err, refl, sym, ap, subst, arith, nat_le, slice_get, slice_set}
-use Rattle.std.specs.Prelude.{Contains, is_some, nat_lt, slice_index_or, take}
+use Rattle.std.proofs.Common.{if◌then◌else◌, ◌≡◌, ◌∙◌, ◌⊎◌, inl, inr, ◌-◌, ◌<◌, ◌≤◌, ◌==◌, ◌++◌, append_assoc, ℕ, zero, suc, Bool, true, false, cond, List, [], ◌∷◌, length, Option, Some, None, MatchOption, Result, Ok, Err, refl, sym, ap, subst, arith, nat_le, slice_get, slice_set}
+use Rattle.std.specs.Prelude.{Contains, nat_lt, take}
 use Rattle.std.specs.FinMap as fin
 use Rattle.std.specs.List.{AllByRecursion}
-use Rattle.std.proofs.lemmas.Bool.{false≢true, and_parts}
+use Rattle.std.proofs.lemmas.Bool.{false≢true}
 use Rattle.std.proofs.lemmas.Bool.Decides.{nat_tests}
 use Rattle.gs_base.specs.declared.config.Config.{Config}
 use Rattle.gs_base.specs.declared.numbers.ClientId.{ClientId}
@@ -24,14 +24,11 @@ use Rattle.gs_msg.specs.declared.call.Call.{Call}
 use Rattle.gs_msg.specs.declared.event.DiskId.{DiskId}
 use Rattle.gs_msg.specs.declared.event.Event.{Event}
 use Rattle.gs_msg.specs.declared.event.Happening.{Happening}
-use Rattle.gs_msg.specs.declared.event.Happening.TheVariants as happenings
 use Rattle.gs_msg.specs.declared.event.Request.{Request}
 use Rattle.gs_msg.specs.declared.event.Request.TheVariants as requests
 use Rattle.gs_msg.specs.declared.message.Message.{Message}
-use Rattle.gs_msg.specs.declared.message.MsgId.{MsgId}
 use Rattle.gs_msg.specs.declared.node.NodeId.{NodeId}
 use Rattle.gs_msg.specs.declared.node.NodeId.TheVariants as nodes
-use Rattle.gs_msg.specs.declared.node.StoreNode.TheVariants as keepers
 use Rattle.gs_master_record.specs.Plain.{PlainEntry}
 use Rattle.gs_master_spec.specs.Durable.{Durable}
 use Rattle.gs_master_spec.specs.Handling.{Again, New, Numbered, Older, call_turn, from_node, handle, new_call, numbered, replied_again, taken_as, tick, waits_still}
@@ -42,26 +39,31 @@ use Rattle.gs_master_spec.specs.Volatile.{Volatile, is_pending}
 use Rattle.gs_master_spec.specs.declared.reply.KeptReply.{KeptReply}
 use Rattle.gs_master_asked.specs.AtOnce.{AnswersAlone, KeepsBut, OneSays, SaysAlone, is_answered_at_once}
 use Rattle.gs_master_asked.proofs.AtOnce.{at_once}
-use Rattle.gs_master_asked.specs.Concerned.{AnswersOnly, IsConcerned, Keeps, KeepsOn, RepliesTo, answered_by}
+use Rattle.gs_master_asked.specs.Concerned.{AnswersOnly, IsConcerned, KeepsOn, RepliesTo, answered_by}
 use Rattle.gs_master_asked.proofs.Concerning.{messages_concerned, ticks_concerned}
 use Rattle.gs_master_asked.proofs.Kept.{itself, same_calls}
 use Rattle.gs_lock.specs.Operations.{same_op}
 use Rattle.gs_master_asked.proofs.Plans.{volatile_still}
-use Rattle.gs_nodes.specs.Happenings.{MasterHears, MasterTicks, MeetsClosed, client_in, refusal_of_call}
-use Rattle.gs_nodes.specs.Nodes.{Nodes, with_clients, with_master}
+use Rattle.gs_nodes.specs.Happenings.{MasterHears, MasterTicks, client_in, refusal_of_call}
+use Rattle.gs_nodes.specs.Nodes.{Nodes, with_master}
 use Rattle.gs_nodes.specs.declared.place.MasterPlace.{MasterPlace}
 use Rattle.gs_nodes.specs.declared.place.MasterPlace.TheVariants.{Standing, Closed, Away}
 use Rattle.gs_server_member.proofs.Elsewhere.{ByServer}
 use Rattle.gs_server_member.specs.Answering.{IsByServer}
-use Rattle.gs_world.specs.Histories.{Happens, History, Tells, Upshot, told}
+use Rattle.std.proofs.Common.{Vec}
+use Rattle.std.specs.declared.alloc.Global.{Global}
+use Rattle.gs_client.specs.Nodes.{Asks}
+use Rattle.gs_nodes.specs.Happenings.{AtClient, ClientAsks}
+use Rattle.gs_world.specs.Sent.{IsPosted}
+use Rattle.gs_world.specs.Histories.{AsksAt, Happens, History, Tells, Upshot, asked, told}
 use Rattle.gs_world.specs.Runs.{Comes, Goes, RunsTo, Step, Takes}
-use Rattle.gs_world.specs.Sent.{Sent, message_of}
+use Rattle.gs_world.specs.Sent.{Sent}
 use Rattle.gs_world_lift.proofs.Posting.{posted_all, sent_then}
 use Rattle.gs_world_lift.specs.Going.{AllSent, Posts}
 use Rattle.gs_world_asked.specs.Answered.{AnswersAreMade, AnswersNow, AsksFresh, WasAnswered, sent_by, spares_master}
-use Rattle.gs_world_asked.specs.Asked.{AreAsked, HasAsked, IsNumbered, KeepsOf, KeepsOfAt, SaysOf}
+use Rattle.gs_world_asked.specs.Asked.{AreAsked, HasAsked, KeepsOfAt, SaysOf}
 use Rattle.gs_client.specs.Nodes.{pushes, with_bytes}
-use Rattle.gs_world_asked.proofs.Asked.{AllSaid, Numbered_all, Waits, hearing_same, hears_left, lacking_only, own_id, request_said, servers_said, still_numbered, ticks_left}
+use Rattle.gs_world_asked.proofs.Asked.{AllSaid, Numbered_all, found_now, Waits, hearing_same, hears_left, lacking_only, own_id, request_said, servers_said, still_numbered, ticks_left}
 use Rattle.gs_world_asked.proofs.Parts.{Armed, Asked, Heard, Opened, Part, Rested, Served, Ticked, Told, asking, hearing, part_of, with_client}
 
 -- ---- lists
@@ -715,22 +717,22 @@ module _ (req : ReqId) (call : Call) where
       leaves : (new : Nodes D) → spares_master (Comes (record { moment = moment; happening = happening })) ≡ true → Part seen failures armed old moment happening outcome new → Leaves Then outcome new
       leaves new spares (Heard id message turn place it was to hears is same) =
           let left = hears_so req call Made Then more seen failures message moment old.nodes.master place turn once (f.sent id message was).0 (f.sent id message was).1 f.master
-              (λ m stands asks from apart new_call answer reply there says. now answer (record {
-                id = id;
-                message = message;
-                comes = it;
-                was = was;
-                to = to;
-                from = from;
-                asks = asks;
-                master = m;
-                stands = stands;
-                apart = apart;
-                new = new_call;
-                reply = reply;
-                sent = subst (λ o. Contains (sent_by o) reply) (sym is) there;
-                says = says;
-              })) hears in
+          (λ m stands asks from apart new_call answer reply there says. now answer (record {
+            id = id;
+            message = message;
+            comes = it;
+            was = was;
+            to = to;
+            from = from;
+            asks = asks;
+            master = m;
+            stands = stands;
+            apart = apart;
+            new = new_call;
+            reply = reply;
+            sent = subst (λ o. Contains (sent_by o) reply) (sym is) there;
+            says = says;
+          })) hears in
           at_master place new turn.sent.items same (ap sent_by is) left (hears_left seen failures Any message moment old.nodes.master place turn (any_kept old.nodes.master) (λ r calls. tt) hears).1
       leaves new spares (Ticked turn place it ticks is same) =
           at_master place new turn.sent.items same (ap sent_by is) (ticks_so req call Made Then more seen failures moment old.nodes.master place turn f.master ticks) (ticks_left seen failures Any moment old.nodes.master place turn (any_kept old.nodes.master) ticks).1
@@ -885,17 +887,72 @@ module _ (req : ReqId) (call : Call) where
     old_keeps Made clients none (Closed first second) keeps = tt
     old_keeps Made clients none Away keeps = tt
 
+    module _ (Made : Answer → Type 0) (old : History D) (moment : Moment) (are : AreAsked seen old) (node : Node) (there : client_in old.nodes.clients req.client ≡ Some node) (fresh : node.last < req.number) where
+      node_is : {a b : Node} → ◌≡◌ {A = Option Node} (Some a) (Some b) → a ≡ b
+      node_is is = cc
+
+      none_asked : HasAsked old.nodes.clients req → ⊥
+      none_asked has = clash req.number has.node.last node.last has.number fresh (ap (λ (n : Node). n.last) (node_is (sym there ∙ has.there)))
+        where
+          clash : (a b c : ℕ) → a ≤ b → c < a → c ≡ b → ⊥
+          clash a b c first second is = omega arith
+
+      not_old : (number last : ℕ) → last < number → nat_le number last ≡ false
+      not_old number last less = grind (arith, nat_tests)
+
+      its_clients : List Node
+      its_clients = slice_set old.nodes.clients (req.client.0 - 1) (asking node req.number)
+
+      own_now : (x : Node) → client_in (slice_set old.nodes.clients (req.client.0 - 1) (asking node req.number)) req.client ≡ Some x → x ≡ asking node req.number
+      own_now x is = node_is (sym is ∙ found_now old.nodes.clients req.client node (asking node req.number) there)
+
+      none_yet : {r : Reply} → ◌≡◌ {A = Option Reply} None (Some r) → ⊥
+      none_yet is = cc
+
+      its_last : {a b : ℕ} → ◌≡◌ {A = Option ℕ} (Some a) (Some b) → b ≡ a
+      its_last is = cc
+
+      begins : (nodes : Nodes D) (sent : Sent) (by : NodeId) (messages : List Message) → nodes ≡ with_client req.client (asking node req.number) old.nodes → messages ≡ messages_of (request_of node req.number) (requests.Call call) → Posts moment by messages old.sent sent
+          → Follows Made (record { nodes = nodes; sent = sent })
+      begins nodes sent by messages same sends posted = record {
+        sent = posted_all (SoMessage Made) moment by messages old.sent sent posted (sent_then (λ (m : Message). SaysOf (HasAsked old.nodes.clients) m.from m.body) (SoMessage Made) old.sent (λ m of. old_says Made old.nodes.clients none_asked m.from m.body of) are.sent)
+            (subst (AllByRecursion (SoMessage Made)) (sym sends) (((λ mine. refl), (refl, tt)), tt));
+        master = subst (PlaceSo req call Made) (sym (ap (λ (n : Nodes D). n.master) same)) (old_keeps Made old.nodes.clients none_asked old.nodes.master are.master);
+        client = λ x is answer last reply. absurd (none_yet (sym (ap (λ (y : Node). y.reply) (own_now x (ap (λ cs. client_in cs req.client) (sym clients) ∙ is))) ∙ reply));
+        past = λ x is. subst (λ k. req.number ≤ k) (sym (ap (λ (y : Node). y.last) (own_now x (ap (λ cs. client_in cs req.client) (sym clients) ∙ is)))) (omega arith);
+        numbered = subst Numbered_all (sym clients) (still_numbered old.nodes.clients req.client node (asking node req.number) there refl (λ waits k is. its_last is) are.numbered);
+      }
+        where
+          clients : nodes.clients ≡ slice_set old.nodes.clients (req.client.0 - 1) (asking node req.number)
+          clients = ap (λ (n : Nodes D). n.clients) same
+
+      asks_one : (nodes : Nodes D) (sent : Sent) (by : NodeId) (out : Vec Message Global) (after : Node) → nodes ≡ with_client req.client after old.nodes → IsPosted moment by out.items old.sent sent → (b : Bool) → b ≡ false
+          → Asks (if b then Err refusals.Old else Ok (asking node req.number, messages_of (request_of node req.number) (requests.Call call))) (Ok out) node after → Follows Made (record { nodes = nodes; sent = sent })
+      asks_one nodes sent by out after same posted true not never = absurd never
+      asks_one nodes sent by out after same posted false not (is, sends) = begins nodes sent by out.items (same ∙ ap (λ (n : Node). with_client req.client n old.nodes) is) sends (inl posted)
+
+      asks_found : (o : Option Node) → o ≡ Some node → (nodes : Nodes D) (sent : Sent) (by : NodeId) (out : Vec Message Global) → IsPosted moment by out.items old.sent sent
+          → MatchOption o ((nodes ≡ old.nodes) × (◌≡◌ {A = Result (Vec Message Global) Refusal} (Ok out) (Err refusals.Range))) (λ n. (after : Node) × (nodes ≡ with_client req.client after old.nodes) × ClientAsks req.number (requests.Call call) n (Ok out) after)
+          → Follows Made (record { nodes = nodes; sent = sent })
+      asks_found None is nodes sent by out posted at = absurd cc
+      asks_found (Some n) is nodes sent by out posted (after, same, a) =
+          asks_one nodes sent by out after same posted (nat_le req.number node.last) (not_old req.number node.last fresh) (subst (λ x. ClientAsks req.number (requests.Call call) x (Ok out) after) (node_is is) a)
+
+      asks_all : (out : Result (Vec Message Global) Refusal) (nodes : Nodes D) (sent : Sent) (by : NodeId) → AtClient req.client (Err refusals.Range) (ClientAsks req.number (requests.Call call)) old.nodes out nodes
+          → Tells seen failures armed moment by (asked out) old.sent (Ok tt) sent → Follows Made (record { nodes = nodes; sent = sent })
+      asks_all (Ok out) nodes sent by at tells = asks_found (client_in old.nodes.clients req.client) there nodes sent by out tells.0 at
+      asks_all (Err refusal) nodes sent by at tells = absurd (never tells.1)
+        where
+          never : ◌≡◌ {A = Result (Unit {0}) Refusal} (Ok tt) (Err refusal) → ⊥
+          never is = cc
+
+      happens_so : (nodes : Nodes D) (sent : Sent) (by : NodeId) (outcome : Upshot) → AsksAt req (requests.Call call) old.nodes outcome nodes → Tells seen failures armed moment by outcome old.sent (Ok tt) sent → Follows Made (record { nodes = nodes; sent = sent })
+      happens_so nodes sent by outcome (out, at, is) tells = asks_all out nodes sent by at (subst (λ o. Tells seen failures armed moment by o old.sent (Ok tt) sent) is tells)
+
     pub asked_follows : (Made : Answer → Type 0) (old asked : History D) (moment : Moment) → AreAsked seen old → AsksFresh seen failures armed old moment req call asked → Follows Made asked
-    asked_follows Made old asked moment are x = by_outcome x.happens.outcome x.happens.at.1.0 x.happens.at.1.2 x.happens.tells x.happens.at.1.1
-      where
-        fresh : HasAsked old.nodes.clients req → ⊥
-        fresh has = clash req.number has.node.last x.node.last has.number x.fresh (ap (λ (n : Node). n.last) (node_is (sym x.there ∙ has.there)))
-          where
-            node_is : {a b : Node} → ◌≡◌ {A = Option Node} (Some a) (Some b) → a ≡ b
-            node_is is = cc
+    asked_follows Made old asked moment are x = happens_so Made old moment are x.node x.there x.fresh asked.nodes asked.sent x.happens.by x.happens.outcome x.happens.at.1 x.happens.tells
 
-            clash : (a b c : ℕ) → a ≤ b → c < a → c ≡ b → ⊥
-            clash a b c first second is = omega arith
-
-        by_outcome : ?
-        by_outcome = ?
+pub answers_are_made : {D : Type 0} (seen : D → List ℕ) (failures : D → ℕ) (armed : DiskId → ℕ → MasterPlace D → MasterPlace D) → AnswersAreMade seen failures armed
+answers_are_made {D} seen failures armed old asked new moment req call steps node answer are fresh once runs spares there last reply =
+    let begun = asked_follows req call seen failures armed once (Answered_by req call seen failures armed once [] asked asked) old asked moment are fresh in
+    (run_follows req call seen failures armed once [] steps asked asked new refl runs spares begun).client node there answer last reply

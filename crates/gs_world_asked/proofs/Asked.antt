@@ -1,6 +1,6 @@
 -- Of each reply in a store its client has asked: at each event.
 use Rattle.std.proofs.Common.{if◌then◌else◌, ◌≡◌, ◌∙◌, ◌⊎◌, inl, inr, ◌+◌, ◌-◌, ◌<◌, ◌≤◌, ◌==◌, ◌++◌, ℕ, zero, suc, Bool, true, false, List, [], ◌∷◌, length, Option, Some, None, MatchOption, Result, Ok, Err, refl, sym, ap, subst, arith, nat_le, slice_get, slice_set}
-use Rattle.std.specs.Prelude.{is_some, map, take}
+use Rattle.std.specs.Prelude.{take}
 use Rattle.std.specs.FinMap as fin
 use Rattle.std.specs.List.{AllByRecursion}
 use Rattle.std.proofs.lemmas.Bool.{false≢true}
@@ -16,7 +16,7 @@ use Rattle.gs_base.specs.declared.refusal.Refusal.TheVariants as refusals
 use Rattle.gs_client.specs.Nodes.{Node, given_up, hears, messages_of, pushes, request_of, silent, takes, with_bytes}
 use Rattle.gs_client.specs.declared.link.Reply.{Reply}
 use Rattle.gs_journal.specs.Faults.{Failing}
-use Rattle.gs_journal.specs.Records.{fresh, standing}
+use Rattle.gs_journal.specs.Records.{standing}
 use Rattle.gs_journal.specs.declared.version.Version.{Version}
 use Rattle.gs_journal.specs.declared.version.Version.TheVariants as versions
 use Rattle.gs_master.specs.Masters.{MasterAnswers, MasterOf}
@@ -26,36 +26,34 @@ use Rattle.gs_msg.specs.declared.body.Body.{Body}
 use Rattle.gs_msg.specs.declared.body.Body.TheVariants as bodies
 use Rattle.gs_msg.specs.declared.event.DiskId.{DiskId}
 use Rattle.gs_msg.specs.declared.event.DiskId.TheVariants as disks
-use Rattle.gs_msg.specs.declared.event.Event.{Event}
 use Rattle.gs_msg.specs.declared.event.Request.{Request}
 use Rattle.gs_msg.specs.declared.event.Request.TheVariants as requests
 use Rattle.gs_msg.specs.declared.event.Happening.{Happening}
 use Rattle.gs_msg.specs.declared.message.Message.{Message}
-use Rattle.gs_msg.specs.declared.message.MsgId.{MsgId}
 use Rattle.gs_msg.specs.declared.node.NodeId.{NodeId}
 use Rattle.gs_msg.specs.declared.node.NodeId.TheVariants as nodes
 use Rattle.gs_master_record.specs.Plain.{Edited, PlainEntry, PlainReply, Said, Whole}
 use Rattle.gs_master_spec.specs.Applied.{replayed}
 use Rattle.gs_master_spec.specs.Durable.{Durable, start}
-use Rattle.gs_master_spec.specs.Handling.{granted, handle, pressed, proposals, restarted, tick}
+use Rattle.gs_master_spec.specs.Handling.{handle, restarted, tick}
 use Rattle.gs_master_spec.specs.Outcomes.{IsCut, IsDone, caller_of, cut, unsure}
 use Rattle.gs_master_spec.specs.Replies.{client_cmp}
-use Rattle.gs_master_spec.specs.State.{Log, State, Turn, and_then, for_each}
+use Rattle.gs_master_spec.specs.State.{Log, State, Turn, and_then}
 use Rattle.gs_master_spec.specs.Volatile.{Volatile, is_pending}
 use Rattle.gs_master_spec.specs.declared.reply.KeptReply.{KeptReply}
-use Rattle.gs_master_asked.specs.Concerned.{AnswersOnly, IsConcerned, IsToldIn, Keeps, KeepsOn, OneTells, RepliesTo, TellsOf, TellsReply, tells_nobody}
+use Rattle.gs_master_asked.specs.Concerned.{AnswersOnly, IsConcerned, IsToldIn, Keeps, KeepsOn, OneTells, RepliesTo, TellsOf, TellsReply}
 use Rattle.gs_master_asked.proofs.Concerning.{messages_concerned, steps_concerned, ticks_concerned}
 use Rattle.gs_master_asked.proofs.Kept.{keeps_on, kept_told, none_kept}
 use Rattle.gs_master_asked.proofs.Plans.{volatile_still}
-use Rattle.gs_nodes.specs.Happenings.{AtClient, MasterHears, MasterTicks, MeetsClosed, Opens, Reopens, client_in, refusal_of_call}
-use Rattle.gs_nodes.specs.Nodes.{Nodes, new_clients, with_clients, with_master}
+use Rattle.gs_nodes.specs.Happenings.{MasterHears, MasterTicks, Opens, Reopens, client_in, refusal_of_call}
+use Rattle.gs_nodes.specs.Nodes.{Nodes, new_clients, with_master}
 use Rattle.gs_nodes.specs.declared.place.MasterPlace.{MasterPlace}
 use Rattle.gs_nodes.specs.declared.place.MasterPlace.TheVariants.{Standing, Closed, Away}
 use Rattle.gs_server_member.proofs.Elsewhere.{ByServer}
 use Rattle.gs_server_member.specs.Answering.{IsByServer}
-use Rattle.gs_world.specs.Histories.{Begins, History, Upshot, told}
+use Rattle.gs_world.specs.Histories.{History, Upshot, told}
 use Rattle.gs_world.specs.Runs.{Comes, Goes, RunsTo, Step, Takes}
-use Rattle.gs_world.specs.Sent.{Sent, message_of}
+use Rattle.gs_world.specs.Sent.{Sent}
 use Rattle.gs_base.specs.declared.epoch.EpochEnd.{EpochEnd}
 use Rattle.gs_master_spec.specs.Applied.{records_behind}
 use Rattle.gs_master_spec.specs.Durable.{is_rolling}
@@ -81,10 +79,8 @@ use Rattle.gs_world_lift.specs.Going.{AllSent, Posts}
 use Rattle.gs_world_asked.specs.Asked.{BeginsAsked, StaysAsked, StaysAskedUnarmed}
 use Rattle.std.proofs.Common.{◌^◌}
 use Rattle.gs_shell_desk.specs.Ways.{way_of}
-use Rattle.gs_shell_desk.specs.declared.desk.Desk.{Desk}
 use Rattle.gs_world_laws.proofs.Keeping.{begins_keeping}
 use Rattle.gs_world_laws.specs.Reached.{history, unarmed}
-use Rattle.gs_world_laws.specs.Within.{IsReachedWithin}
 use Rattle.gs_world_asked.specs.Asked.{ScriptsAsked, IsNumbered, AreAsked, HasAsked, KeepsOf, KeepsOfAt, SaysOf}
 use Rattle.gs_world_asked.specs.Answered.{sent_by}
 use Rattle.gs_world_asked.proofs.Parts.{Armed, Asked, Heard, Opened, Part, Rested, Served, Ticked, Told, asking, hearing, part_of, with_client}
@@ -382,13 +378,13 @@ set_at [] i n after is = absurd cc
 set_at (y ∷ xs) zero n after is = refl
 set_at (y ∷ xs) (suc i) n after is = set_at xs i n after is
 
+pub found_now : (clients : List Node) (id : ClientId) (n after : Node) → client_in clients id ≡ Some n → client_in (slice_set clients (id.0 - 1) after) id ≡ Some after
+found_now clients id n after found =
+    let mine = numbered (id.0 == 0) (slice_get clients (id.0 - 1)) n found in in_clients (id.0 == 0) (slice_get (slice_set clients (id.0 - 1) after) (id.0 - 1)) after mine.0 (set_at clients (id.0 - 1) n after mine.1)
+
 -- who has asked has
 pub asked_now : (clients : List Node) (id : ClientId) (n after : Node) (number : ℕ) → client_in clients id ≡ Some n → number ≤ after.last → HasAsked (slice_set clients (id.0 - 1) after) (record { client = id; number = number })
-asked_now clients id n after number found below = (let mine = numbered (id.0 == 0) (slice_get clients (id.0 - 1)) n found in record {
-  node = after;
-  there = in_clients (id.0 == 0) (slice_get (slice_set clients (id.0 - 1) after) (id.0 - 1)) after mine.0 (set_at clients (id.0 - 1) n after mine.1);
-  number = below;
-})
+asked_now clients id n after number found below = record { node = after; there = found_now clients id n after found; number = below }
 
 abbrev pub Numbered_all : List Node → Type 0
 Numbered_all clients = (place : ℕ) (n : Node) → slice_get clients place ≡ Some n → IsNumbered place n

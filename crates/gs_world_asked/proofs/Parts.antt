@@ -2,17 +2,14 @@
 use Rattle.std.proofs.Common.{if◌then◌else◌, ◌≡◌, ◌∙◌, ◌⊎◌, ◌-◌, ℕ, zero, suc, Bool, true, false, List, [], ◌∷◌, Option, Some, None, MatchOption, Result, Ok, Err, Vec, refl, sym, ap, subst, inl, inr, nat_le, slice_get, slice_set}
 use Rattle.std.specs.Prelude.{}
 use Rattle.std.specs.declared.alloc.Global.{Global}
-use Rattle.std.specs.List.{AllByRecursion}
 use Rattle.gs_base.specs.declared.numbers.ClientId.{ClientId}
 use Rattle.gs_base.specs.declared.numbers.Moment.{Moment}
 use Rattle.gs_base.specs.declared.numbers.ReqId.{ReqId}
 use Rattle.gs_base.specs.declared.refusal.Refusal.{Refusal}
 use Rattle.gs_base.specs.declared.refusal.Refusal.TheVariants as refusals
 use Rattle.gs_base.specs.Calls.{Does}
-use Rattle.gs_client.specs.Nodes.{Asks, Node, asks, given_up, hears, messages_of, request_of}
+use Rattle.gs_client.specs.Nodes.{Asks, Node, asks, hears, messages_of, request_of}
 use Rattle.gs_master.specs.declared.turn.Turn.{Turn}
-use Rattle.gs_msg.specs.Nodes.{as_node}
-use Rattle.gs_msg.specs.declared.body.Body.{Body}
 use Rattle.gs_msg.specs.declared.event.DiskId.{DiskId}
 use Rattle.gs_msg.specs.declared.event.Happening.{Happening}
 use Rattle.gs_msg.specs.declared.event.Happening.TheVariants as happenings
@@ -25,7 +22,7 @@ use Rattle.gs_msg.specs.declared.node.StoreNode.{StoreNode}
 use Rattle.gs_msg.specs.declared.node.StoreNode.TheVariants as keepers
 use Rattle.gs_server.specs.Servers.{Server, Step as ServerStep}
 use Rattle.gs_server.specs.Servers as servers
-use Rattle.gs_nodes.specs.Happenings.{AtClient, AtServer, ClientAsks, ClientHears, Delivers, Hears, MasterHears, MasterTicks, Reopens, ServerDoes, client_in, met_by}
+use Rattle.gs_nodes.specs.Happenings.{AtServer, ClientHears, Delivers, Hears, MasterHears, MasterTicks, Reopens, ServerDoes, client_in, met_by}
 use Rattle.gs_nodes.specs.Nodes.{Nodes, with_clients, with_master, with_servers}
 use Rattle.gs_nodes.specs.declared.place.MasterPlace.{MasterPlace}
 use Rattle.gs_nodes.specs.declared.place.MasterPlace.TheVariants as places

@@ -4,8 +4,7 @@ use Rattle.std.proofs.Common.{arith, subst}
 use Rattle.std.specs.List.{AllByRecursion}
 use Rattle.gs_base.specs.declared.config.Config.{Config}
 use Rattle.gs_base.specs.declared.numbers.ReqId.{ReqId}
-use Rattle.gs_base.specs.declared.refusal.Refusal.TheVariants as refusals
-use Rattle.gs_client.specs.Nodes.{Node, silent}
+use Rattle.gs_client.specs.Nodes.{Node}
 use Rattle.gs_journal.specs.Faults.{Failing}
 use Rattle.gs_journal.specs.Records.{fresh, standing}
 use Rattle.gs_msg.specs.declared.answer.Answer.TheVariants as answers
@@ -22,7 +21,7 @@ use Rattle.gs_master_spec.specs.Volatile.{is_pending}
 use Rattle.gs_master_asked.specs.Concerned.{Keeps}
 use Rattle.gs_nodes.specs.Happenings.{client_in}
 use Rattle.gs_nodes.specs.declared.place.MasterPlace.{MasterPlace}
-use Rattle.gs_nodes.specs.declared.place.MasterPlace.TheVariants.{Standing, Closed, Away}
+use Rattle.gs_nodes.specs.declared.place.MasterPlace.TheVariants.{Standing}
 use Rattle.gs_shell_desk.specs.Ways.{way_of}
 use Rattle.gs_shell_desk.specs.declared.desk.Desk.{Desk}
 use Rattle.gs_world_laws.specs.Reached.{history}
