@@ -1,5 +1,5 @@
 -- Each event of the master answers, keeps and lets wait only such requests as the call that comes, and those that wait.
-use Rattle.std.proofs.Common.{◌==◌, ◌&&◌, ◌||◌, ◌+◌, ℕ, Bool, true, false, not, List, [], ◌∷◌, length, map, filter}
+use Rattle.std.proofs.Common.{◌==◌, ◌&&◌, ◌||◌, ◌+◌, ℕ, Bool, true, false, not, List, [], ◌∷◌, length, map, filter, ◌∙◌}
 use Rattle.std.specs.Prelude.{flat_map, is_none, nat_le, nat_lt, slice_get, Option, Some, None, Result, Ok, Err, if◌then◌else◌}
 use Rattle.std.specs.List.{AllByRecursion, list_all, list_any}
 use Rattle.std.specs.FinMap as fin
@@ -70,7 +70,7 @@ use Rattle.gs_master_spec.specs.Settling.{end_plan}
 use Rattle.gs_master_spec.specs.Upgrades.{prepare_abort}
 use Rattle.gs_master_spec.specs.Volatile.{is_call}
 use Rattle.gs_master_spec.specs.Working.{replicated_to, waits_for_any}
-use Rattle.gs_master_asked.proofs.Kept.{AllIn, AreChanges, on_still, on_then}
+use Rattle.gs_master_asked.proofs.Kept.{AllIn, AreChanges, on_still, on_then, rest, rest_then}
 use Rattle.gs_master_asked.proofs.Plans.{AreEntries, PlanSo, SaidSo, TurnSo, Waiting_so, accept_so, accepted_so, all_told, answered_so, ask_so, begin_so, both_so, copy_so, create_so, edit_so, end_plan_so, ended_so, granted_none, pending_so, planned, refusal_so, replace_so, scan_so, send_so, settle_so, waits_further, waits_now}
 
 pub pick : (S : Turn → Type 0) (b : Bool) (t u : Turn) → S t → S u → S (if b then t else u)
@@ -103,6 +103,7 @@ module _ (P : ReqId → Type 0) where
     durable = on_still P s.durable.replies s.durable.replies refl;
     memory = on_still P s.volatile.replies s.volatile.replies refl;
     waits = w;
+    rests = λ none. (rest s.durable, refl);
   }
 
   nothing : (s : State) (said : Option Refusal) → W s → So s (record { after = s; records = []; sent = []; said = said })
@@ -115,11 +116,12 @@ module _ (P : ReqId → Type 0) where
     durable = on_then P s.durable.replies t.after.durable.replies (f t.after).after.durable.replies a.durable b.durable;
     memory = on_then P s.volatile.replies t.after.volatile.replies (f t.after).after.volatile.replies a.memory b.memory;
     waits = b.waits;
+    rests = λ none. (rest_then s.durable t.after.durable (f t.after).after.durable (a.rests none).0 (b.rests none).0, (b.rests none).1 ∙ (a.rests none).1);
   }
 
   -- whatever it says to nobody
   said_so : (s : State) (t : Turn) (said : Option Refusal) → So s t → So s (record t { said = said })
-  said_so s t said a = record { sent = a.sent; records = a.records; durable = a.durable; memory = a.memory; waits = a.waits }
+  said_so s t said a = record { sent = a.sent; records = a.records; durable = a.durable; memory = a.memory; waits = a.waits; rests = a.rests }
 
   begun_so : (s : State) (chunk : ℕ) (purpose : Purpose) (call : Option ReqId) → W s → So s (begun s chunk purpose call)
   begun_so s chunk purpose call w = planned P s (begin_at s chunk purpose call) w (begin_so P s chunk purpose call)

@@ -7,7 +7,7 @@ use Rattle.std.proofs.lemmas.List.{length-append, take-append-le}
 use Rattle.std.specs.Prelude.{fold, take}
 use Rattle.gs_master_spec.specs.Outcomes.{cut}
 use Rattle.gs_master_spec.specs.State.{with_record}
-use Rattle.gs_master_asked.proofs.Plans.{AreEntries, EntryBy, records_of, records_done}
+use Rattle.gs_master_asked.proofs.Plans.{AreEntries, EntryBy, records_of, records_done, entries_rest, volatile_still}
 use Rattle.std.specs.List.{AllByRecursion}
 use Rattle.gs_base.specs.declared.numbers.ReqId.{ReqId}
 use Rattle.gs_base.specs.declared.refusal.Refusal.{Refusal}
@@ -17,13 +17,13 @@ use Rattle.gs_master_record.specs.Plain.{Edited, Finalize, Holder, PlainEntry, P
 use Rattle.gs_master_spec.specs.Handling.{checkpoint, checkpoint_body, checkpoint_tests, due, granted, handle, pressed, proposals, tick, written, written_if_due, written_unless}
 use Rattle.gs_master_spec.specs.Outcomes.{caller_of}
 use Rattle.gs_master_spec.specs.State.{State, Turn, and_then, first_of, for_each, is_failed, met_by, unmoved}
-use Rattle.gs_master_spec.specs.Volatile.{is_pending}
+use Rattle.gs_master_spec.specs.Volatile.{is_pending, Volatile}
 use Rattle.gs_master_spec.specs.Whole.{checkpoint_of, reply_of}
 use Rattle.gs_master_spec.specs.declared.pending.Pending.{Pending}
-use Rattle.gs_master_asked.specs.Concerned.{AnswersOnly, CheckpointsAnswerNobody, IsConcerned, Keeps, KeepsOn, MessagesAnswerConcerned, StepsAnswerConcerned, TellsOf, TicksAnswerConcerned, is_still, tells_nobody}
+use Rattle.gs_master_asked.specs.Concerned.{AnswersOnly, CheckpointsAnswerNobody, IsConcerned, Keeps, KeepsOn, MessagesAnswerConcerned, StepsAnswerConcerned, TellsOf, TicksAnswerConcerned, is_still, tells_nobody, StaysAtRest}
 use Rattle.gs_master_asked.proofs.Answering.{message_so, pick, steps_so}
 use Rattle.gs_master_asked.proofs.Entries.{entries_kept}
-use Rattle.gs_master_asked.proofs.Kept.{AllIn, AreRecords, itself, keeps_on, on_still, one_of}
+use Rattle.gs_master_asked.proofs.Kept.{AllIn, AreRecords, itself, keeps_on, on_still, one_of, Nobody, rest}
 use Rattle.gs_master_asked.proofs.Plans.{TurnSo, Waiting_so, both_so}
 
 -- ---- who waits is concerned
@@ -67,6 +67,15 @@ tell_either : (P Q : ReqId → Type 0) (entries : List PlainEntry) → AreRecord
 tell_either P Q [] are = tt
 tell_either P Q (entry ∷ entries) are = (tells_either P Q entry (are.0, tt), tell_either P Q entries are.1)
 
+some_entries : (P : ReqId → Type 0) (place : ℕ) (entries : List PlainEntry) → AreEntries P entries → AreEntries P (take place entries)
+some_entries P zero entries are = tt
+some_entries P (suc place) [] are = tt
+some_entries P (suc place) (entry ∷ entries) are = (are.0, some_entries P place entries are.1)
+
+-- a disk fails at one of some records, where there is nobody
+some_rest : (P : ReqId → Type 0) (s : State) (place : ℕ) (entries : List PlainEntry) → Nobody P → AreEntries P entries → StaysAtRest s (fold with_record s (take place entries))
+some_rest P s place entries none are = (entries_rest P (take place entries) s none (some_entries P place entries are), ap (λ (v : Volatile). v.replies) (volatile_still (take place entries) s))
+
 some_records : (P : ReqId → Type 0) (place : ℕ) (entries : List PlainEntry) → AreRecords P entries → AreRecords P (take place entries)
 some_records P zero entries are = tt
 some_records P (suc place) [] are = tt
@@ -97,6 +106,8 @@ only_so P s t so = record {
   memory = so.memory;
   waits = λ req there. one_of P t.after.volatile.pending req so.waits there;
   still = λ none. all_still P none t.records so.records;
+  rests = so.rests;
+  cut_rests = λ none place within. some_rest P s place t.records none so.records;
   cuts = λ place within. records_done P (take place t.records) s (some_records P place t.records (records_of P t.records so.records));
 }
 
@@ -134,6 +145,8 @@ module _ (P : ReqId → Type 0) (s : State) (t : Turn) (so : TurnSo P s t) where
     memory = only.memory;
     waits = only.waits;
     still = λ none. none_more _ t.records (only.still none);
+    rests = only.rests;
+    cut_rests = λ none place within. subst (λ (es : List PlainEntry). StaysAtRest s (fold with_record s (take place es))) (sym (append-nil t.records)) (some_rest P s place t.records none so.records);
     cuts = λ place within.
         subst (λ (es : List PlainEntry). KeepsOn P s.durable.replies (cut s es place).durable.replies) (sym (append-nil t.records)) (only.cuts place (subst (λ (es : List PlainEntry). place < length es) (append-nil t.records) within));
   }
@@ -146,6 +159,10 @@ module _ (P : ReqId → Type 0) (s : State) (t : Turn) (so : TurnSo P s t) where
     memory = only.memory;
     waits = only.waits;
     still = λ none. both_tell _ t.records (Whole (checkpoint_of t.after.durable)) (only.still none) refl;
+    rests = λ none. (record { names = (only.rests none).0.names; phase = (only.rests none).0.phase; epoch = (only.rests none).0.epoch; replies = (only.rests none).0.replies }, (only.rests none).1);
+    cut_rests = λ none place within.
+        subst (λ (es : List PlainEntry). StaysAtRest s (fold with_record s es)) (sym (take-append-le place t.records (Whole (checkpoint_of t.after.durable) ∷ []) (before_last place t.records (Whole (checkpoint_of t.after.durable)) within)))
+            (some_rest P s place t.records none so.records);
     cuts = λ place within.
         subst (λ (es : List PlainEntry). KeepsOn P s.durable.replies (fold with_record s es).durable.replies) (sym (take-append-le place t.records (Whole (checkpoint_of t.after.durable) ∷ []) (before_last place t.records (Whole (checkpoint_of t.after.durable)) within)))
         (records_done P (take place t.records) s (some_records P place t.records (records_of P t.records so.records)));
@@ -158,6 +175,7 @@ nobody s = record {
   durable = on_still (IsConcerned s None) s.durable.replies s.durable.replies refl;
   memory = on_still (IsConcerned s None) s.volatile.replies s.volatile.replies refl;
   waits = concerned s None;
+  rests = λ none. (rest s.durable, refl);
 }
 
 pub messages_concerned : MessagesAnswerConcerned

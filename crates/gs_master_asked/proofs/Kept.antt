@@ -17,6 +17,7 @@ use Rattle.gs_lock.specs.Operations.{same_op}
 use Rattle.gs_msg.specs.declared.answer.Answer.{Answer}
 use Rattle.gs_master_record.specs.Plain.{AddChunk, Cow, Create, Edited, Finalize, Forget, Hide, Holder, Mkdirs, PlainCheckpoint, PlainEdit, PlainEntry, PlainReply, Prepare, Propose, Remove, Rename, RollbackBegin, RollbackCommit, Said, Settle, Snapshot, Unhide, Whole}
 use Rattle.gs_master_record.specs.declared.checkpoint.Phase.TheVariants.{Ordinary, Rolling, Upgrade}
+use Rattle.gs_master_record.specs.declared.entry.SettledView.{SettledView}
 use Rattle.gs_master_record.specs.declared.entry.Answered.{Answered}
 use Rattle.gs_master_spec.specs.Applied.{after_edit, after_undoing, applied, are_answers, are_at_rest, chunk_of_edit, held_by, if_fits, is_next_epoch, may_be_settled, may_edit, may_propose, proposed, replayed, rolled_back, view_for, with_answer, with_edit, with_epoch, with_reply, with_view, without_prepared}
 use Rattle.gs_master_spec.specs.Durable.{Durable, is_ordinary, is_rolling, is_upgrade, prepared_view, with_prepared}
@@ -29,7 +30,7 @@ use Rattle.gs_master_spec.specs.declared.change.Change.TheVariants as changes
 use Rattle.gs_master_spec.specs.declared.pending.Pending.{Pending}
 use Rattle.gs_master_spec.specs.declared.pending.Waiting.{Waiting}
 use Rattle.gs_master_spec.specs.declared.reply.KeptReply.{KeptReply}
-use Rattle.gs_master_asked.specs.Concerned.{IsToldIn, Keeps, KeepsOn, KeptAreTold, OneTells, TellsOf, TellsReply, answered_by, tells_nobody}
+use Rattle.gs_master_asked.specs.Concerned.{IsAtRest, IsToldIn, Keeps, KeepsOn, KeptAreTold, OneTells, TellsOf, TellsReply, answered_by, tells_nobody}
 
 pub client_total : IsTotalOrder client_cmp
 client_total = on_total (λ (c : ClientId). c.0) nat_cmp_total
@@ -69,6 +70,31 @@ itself a = both (a.client.0 == a.client.0) (a.number == a.number) (equal a.clien
     both : (x y : Bool) → x ≡ true → y ≡ true → (x && y) ≡ true
     both true y first second = second
     both false y first second = absurd (false≢true first)
+
+-- ---- what is at rest
+
+pub rest : (d : Durable) → IsAtRest d d
+rest d = record { names = refl; phase = refl; epoch = refl; replies = refl }
+
+pub rest_then : (d e f : Durable) → IsAtRest d e → IsAtRest e f → IsAtRest d f
+rest_then d e f a b = record { names = b.names ∙ a.names; phase = b.phase ∙ a.phase; epoch = b.epoch ∙ a.epoch; replies = b.replies ∙ a.replies }
+
+rest_or : (b : Bool) (d n : Durable) → IsAtRest d n → IsAtRest d (unwrap_or (if_fits b n) d)
+rest_or true d n is = is
+rest_or false d n is = rest d
+
+pub proposal_rests : (d : Durable) (chunk version : ℕ) → IsAtRest d (unwrap_or (applied d (Propose chunk version)) d)
+unfolding applied
+proposal_rests d chunk version = rest_or (may_propose d.phase d.next_handle d.next_version chunk version (fin.get d.chunks chunk)) d (proposed d chunk version) (record { names = refl; phase = refl; epoch = refl; replies = refl })
+
+pub settling_rests : (d : Durable) (v : SettledView) → IsAtRest d (unwrap_or (applied d (Settle v)) d)
+unfolding applied
+settling_rests d v = rest_or (may_be_settled d v) d (with_view d v) (record { names = refl; phase = refl; epoch = refl; replies = refl })
+
+pub holder_rests : (d : Durable) (chunk server : ℕ) → IsAtRest d (unwrap_or (applied d (Holder chunk server)) d)
+unfolding applied
+holder_rests d chunk server =
+    rest_or (is_upgrade d.phase && (nat_lt server 16 && is_some (prepared_view d chunk))) d (record d { prepared = with_prepared d chunk (held_by server (prepared_view d chunk)) }) (record { names = refl; phase = refl; epoch = refl; replies = refl })
 
 -- ---- replies of some kind
 
@@ -250,6 +276,30 @@ module _ (P : ReqId → Type 0) where
   pub changes_keep : (cs : List Change) (v : Volatile) → AreChanges cs → On v.replies (all_changed v cs).replies
   changes_keep [] v are = on_still v.replies v.replies refl
   changes_keep (c ∷ cs) v are = on_then v.replies (changed v c).replies (all_changed (changed v c) cs).replies (change_keeps v c are.0) (changes_keep cs (changed v c) are.1)
+
+  -- ---- where there is no such request
+
+  abbrev pub Nobody : Type 0
+  Nobody = (req : ReqId) → P req → ⊥
+
+  change_rests : (v : Volatile) (change : Change) → Nobody → ChangeSo change → (changed v change).replies ≡ v.replies
+  change_rests v (changes.Keep client reply) none is = absurd (none (answered_by client reply) is)
+  change_rests v (changes.Begin p) none is = refl
+  change_rests v (changes.Wait req waiting) none is = refl
+  change_rests v (changes.End req) none is = refl
+  change_rests v (changes.Ask q asking) none is = refl
+  change_rests v (changes.Settled q) none is = refl
+  change_rests v (changes.Enter q) none is = refl
+  change_rests v (changes.Place q) none is = refl
+  change_rests v (changes.Lose q) none is = refl
+  change_rests v (changes.Forget chunks) none is = refl
+  change_rests v (changes.Prepare is_preparing) none is = refl
+  change_rests v (changes.Restored server chunks) none is = refl
+  change_rests v changes.RolledBack none is = refl
+
+  pub changes_rest : (cs : List Change) (v : Volatile) → Nobody → AreChanges cs → (all_changed v cs).replies ≡ v.replies
+  changes_rest [] v none are = refl
+  changes_rest (c ∷ cs) v none are = changes_rest cs (changed v c) none are.1 ∙ change_rests v c none are.0
 
   -- ---- what a checkpoint tells
 

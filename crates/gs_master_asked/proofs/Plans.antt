@@ -1,6 +1,7 @@
 -- What the plans of the master tell, keep and let wait, is of such requests.
+use Rattle.gs_master_spec.specs.Applied.{applied}
 use Rattle.std.proofs.Common.{◌⊎◌, ◌≡◌, inl, inr, ◌&&◌, ◌++◌, ℕ, Bool, true, false, not, List, [], ◌∷◌, map, refl}
-use Rattle.std.specs.Prelude.{flat_map, fold, Option, Some, None, Result, Ok, Err, if◌then◌else◌}
+use Rattle.std.specs.Prelude.{flat_map, fold, Option, Some, None, Result, Ok, Err, if◌then◌else◌, unwrap_or}
 use Rattle.std.specs.FinMap as fin
 use Rattle.std.specs.List.{AllByRecursion}
 use Rattle.gs_base.specs.Members.{count_from, is_member}
@@ -23,7 +24,7 @@ use Rattle.gs_master_record.specs.Plain.{Edited, Finalize, Holder, PlainEdit, Pl
 use Rattle.gs_master_spec.specs.Beginning.{begin_at, copy_plan, create_plan, members_at, next_stamp, waits_from_now, waits_on}
 use Rattle.gs_master_spec.specs.Calls.{accept_plan}
 use Rattle.gs_master_spec.specs.Chunks.{chunk_at, holder_records, is_holder, settling, target_of}
-use Rattle.gs_master_spec.specs.Durable.{prepared_view}
+use Rattle.gs_master_spec.specs.Durable.{prepared_view, Durable}
 use Rattle.gs_master_spec.specs.Hearing.{ask_plan, send_plan}
 use Rattle.gs_master_spec.specs.Replies.{is_later}
 use Rattle.gs_master_spec.specs.Settling.{edit_plan, end_plan, grant_of, own_request, replace_plan, settle_plan}
@@ -35,8 +36,8 @@ use Rattle.gs_master_spec.specs.declared.asking.Asking.{Asking}
 use Rattle.gs_master_spec.specs.declared.change.Change.{Change}
 use Rattle.gs_master_spec.specs.declared.change.Change.TheVariants as changes
 use Rattle.gs_master_spec.specs.declared.pending.Waiting.{Waiting}
-use Rattle.gs_master_asked.specs.Concerned.{KeepsOn, RepliesTo, tells_nobody}
-use Rattle.gs_master_asked.proofs.Kept.{AllIn, AreChanges, AreRecords, RecordSo, changes_keep, changes_wait, done_so, on_still, on_then}
+use Rattle.gs_master_asked.specs.Concerned.{KeepsOn, RepliesTo, tells_nobody, IsAtRest, StaysAtRest}
+use Rattle.gs_master_asked.proofs.Kept.{AllIn, AreChanges, AreRecords, RecordSo, changes_keep, changes_wait, done_so, on_still, on_then, Nobody, changes_rest, rest, rest_then, proposal_rests, settling_rests, holder_rests}
 
 pub both_so : {A : Type 0} (S : A → Type 0) (xs ys : List A) → AllByRecursion S xs → AllByRecursion S ys → AllByRecursion S (xs ++ ys)
 both_so S [] ys first second = second
@@ -83,6 +84,24 @@ module _ (P : ReqId → Type 0) where
       one (Settle v) is = tt
       one (Holder chunk server) is = tt
 
+  -- where there is none, one leaves all at rest
+  entry_rests : (d : Durable) (entry : PlainEntry) → Nobody P → EntryBy entry → IsAtRest d (unwrap_or (applied d entry) d)
+  entry_rests d (Edited by edit) none (inl own) = absurd (none own.1.0 own.1.1)
+  entry_rests d (Edited by edit) none (inr is) = absurd (none by is)
+  entry_rests d (Said to refusal) none is = absurd (none to is)
+  entry_rests d (Prepare epoch moment chunks) none is = absurd (none is.0 is.1)
+  entry_rests d (Finalize epoch) none is = absurd (none is.0 is.1)
+  entry_rests d (RollbackBegin epoch) none is = absurd (none is.0 is.1)
+  entry_rests d (RollbackCommit epoch told) none is = absurd (none is.0 is.1)
+  entry_rests d (Whole c) none is = absurd is
+  entry_rests d (Propose chunk version) none is = proposal_rests d chunk version
+  entry_rests d (Settle v) none is = settling_rests d v
+  entry_rests d (Holder chunk server) none is = holder_rests d chunk server
+
+  pub entries_rest : (xs : List PlainEntry) (s : State) → Nobody P → AreEntries xs → IsAtRest s.durable (fold with_record s xs).durable
+  entries_rest [] s none are = rest s.durable
+  entries_rest (x ∷ xs) s none are = rest_then s.durable (with_record s x).durable (fold with_record (with_record s x) xs).durable (entry_rests s.durable x none are.0) (entries_rest xs (with_record s x) none are.1)
+
   abbrev pub SaidSo : List Message → Type 0
   SaidSo messages = AllByRecursion (λ (m : Message). RepliesTo P m.body) messages
 
@@ -101,6 +120,7 @@ module _ (P : ReqId → Type 0) where
     pub durable : KeepsOn P s.durable.replies t.after.durable.replies
     pub memory : KeepsOn P s.volatile.replies t.after.volatile.replies
     pub waits : Waiting_so t.after
+    pub rests : Nobody P → StaysAtRest s t.after
 
   pub records_done : (xs : List PlainEntry) (s : State) → AreRecords P xs → KeepsOn P s.durable.replies (fold with_record s xs).durable.replies
   records_done [] s are = on_still P s.durable.replies s.durable.replies refl
@@ -114,6 +134,7 @@ module _ (P : ReqId → Type 0) where
     durable = records_done plan.records s (records_of plan.records so.records);
     memory = changes_keep P plan.changes s.volatile so.changes;
     waits = changes_wait P plan.changes s.volatile so.changes waits;
+    rests = λ none. (entries_rest plan.records s none so.records, changes_rest P plan.changes s.volatile none so.changes);
   }
 
   -- ---- messages

@@ -73,6 +73,17 @@ is_still entry = false
 abbrev pub KeepsOn : (ReqId → Type 0) → fin.FinMap client_cmp KeptReply → fin.FinMap client_cmp KeptReply → Type 0
 KeepsOn P old new = (client : ClientId) (reply : KeptReply) → fin.get new client ≡ Some reply → (fin.get old client ≡ Some reply) ⊎ P (answered_by client reply)
 
+-- the names, the phase, the epoch and the replies on record are what they were
+pub record IsAtRest (d e : Durable) : Type 0 where
+  pub names : e.names ≡ d.names
+  pub phase : e.phase ≡ d.phase
+  pub epoch : e.epoch ≡ d.epoch
+  pub replies : e.replies ≡ d.replies
+
+-- and so are the replies that are kept in memory
+abbrev pub StaysAtRest : State → State → Type 0
+StaysAtRest s t = IsAtRest s.durable t.durable × (t.volatile.replies ≡ s.volatile.replies)
+
 -- Only such requests are answered by a turn, and only they wait behind it.
 pub record AnswersOnly (P : ReqId → Type 0) (s : State) (t : Turn) : Type 0 where
   pub sent : AllByRecursion (λ (m : Message). RepliesTo P m.body) t.sent
@@ -82,6 +93,9 @@ pub record AnswersOnly (P : ReqId → Type 0) (s : State) (t : Turn) : Type 0 wh
   pub waits : (req : ReqId) → is_pending t.after.volatile.pending req ≡ true → P req
   -- where there is no such request, its records are all such
   pub still : ((req : ReqId) → P req → ⊥) → AllByRecursion (λ entry. is_still entry ≡ true) t.records
+  -- and all that is at rest
+  pub rests : ((req : ReqId) → P req → ⊥) → StaysAtRest s t.after
+  pub cut_rests : ((req : ReqId) → P req → ⊥) → (place : ℕ) → place < length t.records → StaysAtRest s (cut s t.records place)
   -- what is kept, also where a disk fails at one of its records
   pub cuts : (place : ℕ) → place < length t.records → KeepsOn P s.durable.replies (cut s t.records place).durable.replies
 
