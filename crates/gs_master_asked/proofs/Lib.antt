@@ -4,3 +4,4 @@ pub mod Kept
 pub mod Plans
 pub mod Answering
 pub mod Concerning
+pub mod Resting

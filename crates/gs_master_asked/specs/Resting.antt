@@ -1,0 +1,69 @@
+-- What a list leaves, and what is known of the last reply behind a commit.
+use Rattle.std.specs.Prelude.{[], ◌∷◌, ◌≡◌, ◌≤◌, Bool, Ok, Option, Some, codes, false, refl, true, ℕ}
+use Rattle.std.proofs.Common.{arith}
+use Rattle.std.specs.FinMap as fin
+use Rattle.gs_base.specs.declared.config.Config.{Config}
+use Rattle.gs_base.specs.declared.numbers.ClientId.{ClientId}
+use Rattle.gs_base.specs.declared.numbers.Moment.{Moment}
+use Rattle.gs_base.specs.declared.numbers.ReqId.{ReqId}
+use Rattle.gs_msg.specs.declared.answer.Answer.{Answer}
+use Rattle.gs_msg.specs.declared.answer.Answer.TheVariants as answers
+use Rattle.gs_msg.specs.declared.call.Call.{Call}
+use Rattle.gs_msg.specs.declared.call.Call.TheVariants as calls
+use Rattle.gs_path.specs.Path.{Path}
+use Rattle.gs_master_spec.specs.Calls.{listing}
+use Rattle.gs_master_spec.specs.Handling.{New, new_call, numbered}
+use Rattle.gs_master_spec.specs.State.{State, Turn, last_reply}
+use Rattle.gs_master_spec.specs.declared.reply.KeptReply.{KeptReply}
+use Rattle.gs_master_asked.specs.AtOnce.{OneSays}
+
+-- of two replies at most, one is there that answers this number or a later one
+pub record IsFrom (number : ℕ) (last : Option KeptReply) : Type 0 where
+  pub reply : KeptReply
+  pub has : last ≡ Some reply
+  pub late : number ≤ reply.number
+
+-- A client has had a reply to the request of this number, or to a later one: so none of a lower number, and not this one, is new.
+abbrev pub HasHad : State → ClientId → ℕ → Type 0
+HasHad s client number = IsFrom number (last_reply s client)
+
+-- the names, the phase and the epoch are what they were, and what its client has had
+pub record LeavesNames (s : State) (req : ReqId) (t : Turn) : Type 0 where
+  pub names : t.after.durable.names ≡ s.durable.names
+  pub phase : t.after.durable.phase ≡ s.durable.phase
+  pub epoch : t.after.durable.epoch ≡ s.durable.epoch
+  pub had : (number : ℕ) → HasHad s req.client number → HasHad t.after req.client number
+
+-- a step of an upgrade that ends no other call
+abbrev pub is_commit : Call → Bool
+is_commit calls.PrepareCommit = true
+is_commit calls.PrepareAbort = true
+is_commit calls.Finalize = true
+is_commit calls.RollbackCommit = true
+is_commit call = false
+
+-- ---- what is to hold
+
+-- So it is behind each list that is new; what it is answered is the listing by the names.
+abbrev pub ListsLeaveNames : Type 0
+ListsLeaveNames = (config : Config) (s : State) (req : ReqId) (moment : Moment) (path : Path) → LeavesNames s req (new_call config s req moment (calls.List path))
+
+abbrev pub ListsAreAnswered : Type 0
+ListsAreAnswered = (config : Config) (s : State) (req : ReqId) (moment : Moment) (path : Path) (answer : Answer) → OneSays req (Ok answer) (new_call config s req moment (calls.List path)).sent →
+    listing (fin.entries s.durable.names.tree) path (fin.get s.durable.names.tree path) ≡ Ok answer
+
+-- A commit that is new and accepted is what its client has had last.
+abbrev pub CommitsAreHad : Type 0
+CommitsAreHad = (config : Config) (s : State) (req : ReqId) (moment : Moment) (call : Call) (answer : Answer) → is_commit call ≡ true → numbered (last_reply s req.client) req.number ≡ New → OneSays req (Ok answer) (new_call config s req moment call).sent →
+    HasHad (new_call config s req moment call).after req.client req.number
+
+-- ---- examples
+
+abbrev a_reply : KeptReply
+a_reply = record { number = 7; result = Ok answers.Nothing }
+
+it_has_had_a_lower_one : IsFrom 3 (Some a_reply)
+it_has_had_a_lower_one = record { reply = a_reply; has = refl; late = omega arith }
+
+a_list_is_no_commit : is_commit (calls.List (codes "a" ∷ [])) ≡ false
+a_list_is_no_commit = refl
