@@ -1,4 +1,4 @@
--- What a list leaves, and what is known of the last reply behind a commit.
+-- What a look-up leaves, and what is known of the last reply behind a commit.
 use Rattle.std.proofs.Common.{◌≡◌, ◌≤◌, ◌<◌, ◌⊎◌, inl, inr, ◌∙◌, ◌&&◌, ◌++◌, ◌+◌, ◌==◌, ℕ, Bool, true, false, cond, not, List, [], ◌∷◌, refl, ap, sym, subst, arith}
 use Rattle.std.specs.Prelude.{nat_lt, Option, Some, None, Result, Ok, Err, if◌then◌else◌, unwrap_or}
 use Rattle.std.specs.FinMap as fin
@@ -21,7 +21,7 @@ use Rattle.gs_msg.specs.declared.call.Call.TheVariants as calls
 use Rattle.gs_msg.specs.declared.message.Message.{Message}
 use Rattle.gs_master_record.specs.Plain.{Finalize, PlainEntry, Prepare, RollbackCommit, Said}
 use Rattle.gs_master_spec.specs.Applied.{applied, with_reply}
-use Rattle.gs_master_spec.specs.Calls.{answered_with, listing, looked_up, refused_before}
+use Rattle.gs_master_spec.specs.Calls.{answered_with, found_chunk, listing, location, looked_up, refused_before, status, told_phase}
 use Rattle.gs_master_spec.specs.Durable.{is_rolling, prepared_view}
 use Rattle.gs_master_spec.specs.Handling.{Again, New, Numbered, Older, called_unless, numbered}
 use Rattle.gs_master_spec.specs.Replies.{client_cmp, is_later, later}
@@ -33,7 +33,7 @@ use Rattle.gs_master_spec.specs.declared.change.Change.{Change}
 use Rattle.gs_master_spec.specs.declared.change.Change.TheVariants as changes
 use Rattle.gs_master_spec.specs.declared.reply.KeptReply.{KeptReply}
 use Rattle.gs_master_asked.specs.AtOnce.{OneSays}
-use Rattle.gs_master_asked.specs.Resting.{CommitsAreHad, HasHad, IsFrom, LeavesNames, ListsAreAnswered, ListsLeaveNames, is_commit}
+use Rattle.gs_master_asked.specs.Resting.{CommitsAreHad, HasHad, IsFrom, LeavesNames, ListsAreAnswered, LooksLeaveNames, is_commit, is_look}
 use Rattle.gs_master_asked.proofs.Kept.{client_total, some_is}
 
 -- ---- of two replies the later
@@ -170,11 +170,18 @@ looked_leaves : (s : State) (req : ReqId) (result : Result Answer Refusal) → L
 looked_leaves s req (Ok answer) = answered_leaves s req answer
 looked_leaves s req (Err refusal) = refused_leaves s req refusal
 
-pub lists_leave : ListsLeaveNames
-lists_leave config s req moment path = by_refusal (refused_before s req (calls.List path))
+pub looks_leave : LooksLeaveNames
+looks_leave config s req moment call is = by_refusal (refused_before s req call)
   where
-    by_refusal : (o : Option Refusal) → LeavesNames s req (called_unless config s req moment (calls.List path) o)
-    by_refusal None = looked_leaves s req (listing (fin.entries s.durable.names.tree) path (fin.get s.durable.names.tree path))
+    by_call : (call : Call) → is_look call ≡ true → LeavesNames s req (called_unless config s req moment call None)
+    by_call (calls.List path) is = looked_leaves s req (listing (fin.entries s.durable.names.tree) path (fin.get s.durable.names.tree path))
+    by_call (calls.Status path) is = looked_leaves s req (status s.durable (fin.get s.durable.names.tree path))
+    by_call (calls.FindForReading path index) is = looked_leaves s req (location s.durable (found_chunk (fin.get s.durable.names.tree path) index))
+    by_call calls.Query is = answered_leaves s req (answers.Phase (told_phase s.volatile.is_preparing s.durable.phase) s.durable.epoch)
+    by_call call is = absurd (false≢true is)
+
+    by_refusal : (o : Option Refusal) → LeavesNames s req (called_unless config s req moment call o)
+    by_refusal None = by_call call is
     by_refusal (Some refusal) = refused_leaves s req refusal
 
 -- ---- what is said

@@ -1,4 +1,4 @@
--- What a list leaves, and what is known of the last reply behind a commit.
+-- What a look-up leaves, and what is known of the last reply behind a commit.
 use Rattle.std.specs.Prelude.{[], ◌∷◌, ◌≡◌, ◌≤◌, Bool, Ok, Option, Some, codes, false, refl, true, ℕ}
 use Rattle.std.proofs.Common.{arith}
 use Rattle.std.specs.FinMap as fin
@@ -34,6 +34,14 @@ pub record LeavesNames (s : State) (req : ReqId) (t : Turn) : Type 0 where
   pub epoch : t.after.durable.epoch ≡ s.durable.epoch
   pub had : (number : ℕ) → HasHad s req.client number → HasHad t.after req.client number
 
+-- a call that looks, and changes nothing but what is kept of it
+abbrev pub is_look : Call → Bool
+is_look (calls.List path) = true
+is_look (calls.Status path) = true
+is_look (calls.FindForReading path index) = true
+is_look calls.Query = true
+is_look call = false
+
 -- a step of an upgrade that ends no other call
 abbrev pub is_commit : Call → Bool
 is_commit calls.PrepareCommit = true
@@ -44,10 +52,11 @@ is_commit call = false
 
 -- ---- what is to hold
 
--- So it is behind each list that is new; what it is answered is the listing by the names.
-abbrev pub ListsLeaveNames : Type 0
-ListsLeaveNames = (config : Config) (s : State) (req : ReqId) (moment : Moment) (path : Path) → LeavesNames s req (new_call config s req moment (calls.List path))
+-- So it is behind each look-up that is new.
+abbrev pub LooksLeaveNames : Type 0
+LooksLeaveNames = (config : Config) (s : State) (req : ReqId) (moment : Moment) (call : Call) → is_look call ≡ true → LeavesNames s req (new_call config s req moment call)
 
+-- What a list is answered is the listing by the names.
 abbrev pub ListsAreAnswered : Type 0
 ListsAreAnswered = (config : Config) (s : State) (req : ReqId) (moment : Moment) (path : Path) (answer : Answer) → OneSays req (Ok answer) (new_call config s req moment (calls.List path)).sent →
     listing (fin.entries s.durable.names.tree) path (fin.get s.durable.names.tree path) ≡ Ok answer
@@ -64,6 +73,9 @@ a_reply = record { number = 7; result = Ok answers.Nothing }
 
 it_has_had_a_lower_one : IsFrom 3 (Some a_reply)
 it_has_had_a_lower_one = record { reply = a_reply; has = refl; late = omega arith }
+
+a_list_looks : is_look (calls.List (codes "a" ∷ [])) ≡ true
+a_list_looks = refl
 
 a_list_is_no_commit : is_commit (calls.List (codes "a" ∷ [])) ≡ false
 a_list_is_no_commit = refl

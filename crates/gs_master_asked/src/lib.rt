@@ -3,7 +3,7 @@
 
 ghost use Rattle.gs_master_asked.specs.AtOnce.{AnswersAtOnce};
 ghost use Rattle.gs_master_asked.specs.Concerned.{CheckpointsAnswerNobody, KeptAreTold, MessagesAnswerConcerned, StepsAnswerConcerned, TicksAnswerConcerned};
-ghost use Rattle.gs_master_asked.specs.Resting.{CommitsAreHad, ListsAreAnswered, ListsLeaveNames};
+ghost use Rattle.gs_master_asked.specs.Resting.{CommitsAreHad, ListsAreAnswered, LooksLeaveNames};
 
 /// Each event of the master, whatever it has met before: each reply that it sends is to the call that comes or to one that waits as it comes; each that it keeps behind the event, in memory or on record, it kept
 /// before, or it is to such a call; so is each reply that one of its records tells; and what waits behind it comes with it or has waited. A tick answers only who has waited, and a checkpoint nobody. Where no call comes, and none waits, no record of the event
@@ -26,10 +26,10 @@ pub fn looks_and_commits_are_answered_at_once()
     ensures { AnswersAtOnce }
 {}
 
-/// A new list leaves the names, the phase and the epoch, and what its client has had; what it is answered is the listing by the names. Behind a commit, an abort or a finalize that is new and accepted, its client has had its reply: no call of
+/// A new look-up leaves the names, the phase and the epoch, and what its client has had; what a list is answered is the listing by the names. Behind a commit, an abort or a finalize that is new and accepted, its client has had its reply: no call of
 /// this number, or of a lower one, is new any more.
-pub fn lists_leave_names_and_commits_are_had()
-    ensures lists { ListsLeaveNames }
+pub fn looks_leave_names_and_commits_are_had()
+    ensures looks { LooksLeaveNames }
     ensures listed { ListsAreAnswered }
     ensures commits { CommitsAreHad }
 {}
