@@ -255,7 +255,7 @@ module _ {D : Type 0} (seen : D → List ℕ) (failures : D → ℕ) (P : ReqId 
 
   -- what it does before a checkpoint, where memory is wanting for that
   pub lacking_only : (s : State) (moment : Moment) → AnswersOnly (IsConcerned s None) s (lacking (pressed_all s moment))
-  lacking_only s moment = (let only = steps_concerned s moment in record { sent = only.sent; records = only.records; durable = only.durable; memory = only.memory; waits = only.waits; still = only.still; cuts = only.cuts })
+  lacking_only s moment = (let only = steps_concerned s moment in record { sent = only.sent; records = only.records; durable = only.durable; memory = only.memory; waits = only.waits; still = only.still; rests = only.rests; cut_rests = only.cut_rests; cuts = only.cuts })
 
   tick_left : (moment : Moment) (old new : MasterOf D) (turn : Told_turn) → KeepsOf P old.state → AnswersTick seen failures moment old (Ok turn) new → Left (Standing new) turn.sent.items
   tick_left moment old new turn keeps (inl whole) = as_left (writes_one old.state (pressed_all old.state moment)) (tick old.state moment) (pressed_all old.state moment) old new turn (ticks_concerned old.state moment) keeps whole
