@@ -1,4 +1,5 @@
 -- What a look-up leaves, and what is known of the last reply behind a commit.
+use Rattle.gs_base.specs.declared.numbers.ClientId.{ClientId}
 use Rattle.std.proofs.Common.{◌≡◌, ◌≤◌, ◌<◌, ◌⊎◌, inl, inr, ◌∙◌, ◌&&◌, ◌++◌, ◌+◌, ◌==◌, ℕ, Bool, true, false, cond, not, List, [], ◌∷◌, refl, ap, sym, subst, arith}
 use Rattle.std.specs.Prelude.{nat_lt, Option, Some, None, Result, Ok, Err, if◌then◌else◌, unwrap_or}
 use Rattle.std.specs.FinMap as fin
@@ -213,7 +214,7 @@ lists_answered config s req moment path answer says = by_refusal (refused_before
 
 -- ---- commits
 
-new_later : (o : Option KeptReply) (n : ℕ) → numbered o n ≡ New → is_later o n ≡ true
+pub new_later : (o : Option KeptReply) (n : ℕ) → numbered o n ≡ New → is_later o n ≡ true
 new_later None n e = refl
 new_later (Some reply) n e = by_tests (reply.number == n) refl (nat_lt n reply.number) refl e
   where
@@ -290,3 +291,11 @@ module _ (s : State) (req : ReqId) (answer : Answer) (new : numbered (last_reply
 
 pub commits_had : CommitsAreHad
 commits_had config s req moment call answer is new says = new_had s req answer new config moment call is (refused_before s req call) says
+
+-- none of a number that its client has had is new
+pub had_not_new : (s : State) (client : ClientId) (number other : ℕ) → HasHad s client number → other ≤ number → numbered (last_reply s client) other ≡ New → ⊥
+had_not_new s client number other had low new = by_last (last_reply s client) had (new_later (last_reply s client) other new)
+  where
+    by_last : (o : Option KeptReply) → IsFrom number o → is_later o other ≡ true → ⊥
+    by_last None f test = none_from number f
+    by_last (Some r) f test = (let below = lower r.number other test in let late = late_in number r f in omega arith)

@@ -6,6 +6,7 @@ ghost use Rattle.gs_msg.specs.declared.event.DiskId.{DiskId};
 ghost use Rattle.gs_nodes.specs.declared.place.MasterPlace.{MasterPlace};
 ghost use Rattle.gs_world_asked.specs.Answered.{AnswersAreMade};
 ghost use Rattle.gs_world_asked.specs.Asked.{BeginsAsked, ScriptsAsked, StaysAsked, StaysAskedUnarmed};
+ghost use Rattle.gs_world_asked.specs.Resting.{StaysStill};
 
 use gs_block::promises::configurations_have_sizes;
 
@@ -25,4 +26,9 @@ pub fn of_each_reply_its_client_has_asked<D>()
 /// no answer is older than its call, whatever messages come, how often, and in which order.
 pub fn an_answer_is_made_for_its_call<D>()
     ensures { (seen : D → List ℕ) (failures : D → ℕ) (armed : DiskId → ℕ → MasterPlace D → MasterPlace D) → AnswersAreMade seen failures armed }
+{}
+
+/// As long as a client only looks, whatever else comes, the names, the phase and the epoch of the master stand where no call waits, and all that was called before has a number that the client has had: nothing of before changes them.
+pub fn names_stand_while_a_client_looks<D>()
+    ensures { (seen : D → List ℕ) (failures : D → ℕ) (armed : DiskId → ℕ → MasterPlace D → MasterPlace D) → StaysStill seen failures armed }
 {}
