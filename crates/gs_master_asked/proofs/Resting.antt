@@ -1,7 +1,7 @@
 -- What a look-up leaves, and what is known of the last reply behind a commit.
 use Rattle.gs_base.specs.declared.numbers.ClientId.{ClientId}
 use Rattle.std.proofs.Common.{◌≡◌, ◌≤◌, ◌<◌, ◌⊎◌, inl, inr, ◌∙◌, ◌&&◌, ◌++◌, ◌+◌, ◌==◌, ℕ, Bool, true, false, cond, not, List, [], ◌∷◌, refl, ap, sym, subst, arith}
-use Rattle.std.specs.Prelude.{nat_lt, Option, Some, None, Result, Ok, Err, if◌then◌else◌, unwrap_or}
+use Rattle.std.specs.Prelude.{fold, nat_lt, Option, Some, None, Result, Ok, Err, if◌then◌else◌, unwrap_or}
 use Rattle.std.specs.FinMap as fin
 use Rattle.std.specs.Cmp.{tied_itself}
 use Rattle.std.specs.Ordering.{eq_by_cmp, is_eq}
@@ -22,19 +22,19 @@ use Rattle.gs_msg.specs.declared.call.Call.TheVariants as calls
 use Rattle.gs_msg.specs.declared.message.Message.{Message}
 use Rattle.gs_master_record.specs.Plain.{Finalize, PlainEntry, Prepare, RollbackCommit, Said}
 use Rattle.gs_master_spec.specs.Applied.{applied, with_reply}
-use Rattle.gs_master_spec.specs.Calls.{answered_with, found_chunk, listing, location, looked_up, refused_before, status, told_phase}
-use Rattle.gs_master_spec.specs.Durable.{is_rolling, prepared_view}
+use Rattle.gs_master_spec.specs.Calls.{answered_with, is_locked, ordered, found_chunk, listing, location, looked_up, refused_before, status, told_phase}
+use Rattle.gs_master_spec.specs.Durable.{is_ordinary, is_rolling, prepared_view}
 use Rattle.gs_master_spec.specs.Handling.{Again, New, Numbered, Older, called_unless, numbered}
 use Rattle.gs_master_spec.specs.Replies.{client_cmp, is_later, later}
-use Rattle.gs_master_spec.specs.State.{State, Turn, answer_changes, first_of, fits, if_room, is_kept, kept_in_memory, last_reply, refused, reply_to, turned}
+use Rattle.gs_master_spec.specs.State.{Plan, State, Turn, is_failed, refusal_plan, with_record, answer_changes, first_of, fits, if_room, is_kept, kept_in_memory, last_reply, refused, reply_to, turned}
 use Rattle.gs_master_spec.specs.Undoing.{all_undone}
-use Rattle.gs_master_spec.specs.Upgrades.{accepted_plan, all_unquiet, answers_for, chunk_count, commit_if, commit_on, commit_tests, end_tests, is_last_epoch, tell_all, told_of, unless, unrestored}
+use Rattle.gs_master_spec.specs.Upgrades.{accepted_plan, first_in, if_unquiet, all_unquiet, answers_for, chunk_count, commit_if, commit_on, commit_tests, end_tests, is_last_epoch, tell_all, told_of, unless, unrestored}
 use Rattle.gs_master_spec.specs.Volatile.{Volatile, all_changed}
 use Rattle.gs_master_spec.specs.declared.change.Change.{Change}
 use Rattle.gs_master_spec.specs.declared.change.Change.TheVariants as changes
 use Rattle.gs_master_spec.specs.declared.reply.KeptReply.{KeptReply}
 use Rattle.gs_master_asked.specs.AtOnce.{OneSays}
-use Rattle.gs_master_asked.specs.Resting.{CommitsAreHad, HasHad, IsFrom, LeavesNames, ListsAreAnswered, LooksLeaveNames, is_commit, is_look}
+use Rattle.gs_master_asked.specs.Resting.{CommitsAreHad, Commits, HasHad, IsFrom, LeavesNames, ListsAreAnswered, LooksLeaveNames, WasBegun, is_commit, is_look}
 use Rattle.gs_master_asked.proofs.Kept.{client_total, some_is}
 
 -- ---- of two replies the later
@@ -289,8 +289,89 @@ module _ (s : State) (req : ReqId) (answer : Answer) (new : numbered (last_reply
   new_had config moment call is None = called_had config moment call is
   new_had config moment call is (Some refusal) = refusal_had refusal
 
+  -- ---- no disk fails by it
+
+  abbrev Same : Turn → Type 0
+  Same t = t.after.fault ≡ s.fault
+
+  records_same : (xs : List PlainEntry) (u : State) → (fold with_record u xs).fault ≡ u.fault
+  records_same [] u = refl
+  records_same (x ∷ xs) u = records_same xs (with_record u x)
+
+  turned_same : (plan : Plan) → Same (turned s plan)
+  turned_same plan = records_same plan.records s
+
+  pick_same : (b : Bool) (t u : Turn) → Same t → Same u → Same (if b then t else u)
+  pick_same true t u x y = x
+  pick_same false t u x y = y
+
+  refused_same : (refusal : Refusal) → Same (refused s req refusal)
+  refused_same refusal = turned_same (refusal_plan s req refusal [] (Some refusal))
+
+  room_same : (plan : Plan) → Same (if_room s (turned s plan) (refused s req refusals.Full))
+  room_same plan = pick_same (fits s.log plan.records) (turned s plan) (refused s req refusals.Full) (turned_same plan) (refused_same refusals.Full)
+
+  unless_same : (refusal : Option Refusal) (plan : Plan) → Same (unless refusal s req (turned s plan))
+  unless_same None plan = room_same plan
+  unless_same (Some refusal) plan = refused_same refusal
+
+  lacking_same : (names : NamesView) (lacking : Option ℕ) → Same (commit_if s req names lacking)
+  lacking_same names (Some chunk) = refused_same (refusals.Unrestored chunk)
+  lacking_same names None = room_same (accepted_plan s req (RollbackCommit s.durable.epoch (answers_for (prepared_view s.durable) (told_of s) (fin.entries names.refs)) ∷ []) (changes.RolledBack ∷ []) [] s.durable.epoch)
+
+  commit_same : (names : Option NamesView) → Same (commit_on s req names)
+  commit_same None = refused_same refusals.BadLine
+  commit_same (Some names) = lacking_same names (unrestored (prepared_view s.durable) (told_of s) (fin.entries names.refs))
+
+  called_same : (config : Config) (moment : Moment) (call : Call) → is_commit call ≡ true → Same (called_unless config s req moment call None)
+  called_same config moment calls.PrepareCommit is =
+      unless_same (first_of (commit_tests s.durable.phase s.volatile.is_preparing (all_unquiet s) (is_last_epoch s.durable)))
+      (accepted_plan s req (Prepare (s.durable.epoch + 1) moment.0 (chunk_count s) ∷ []) (changes.Prepare false ∷ []) (tell_all config (s.durable.epoch + 1) ends.Prepare) (s.durable.epoch + 1))
+  called_same config moment calls.PrepareAbort is = pick_same s.volatile.is_preparing (turned s (accepted_plan s req [] (changes.Prepare false ∷ []) [] s.durable.epoch)) (refused s req refusals.NotUpgrading) refl (refused_same refusals.NotUpgrading)
+  called_same config moment calls.Finalize is =
+      unless_same (first_of (end_tests s.durable.phase (is_last_epoch s.durable))) (accepted_plan s req (Finalize (s.durable.epoch + 1) ∷ []) [] (tell_all config (s.durable.epoch + 1) ends.Finalize) (s.durable.epoch + 1))
+  called_same config moment calls.RollbackCommit is =
+      pick_same (is_rolling s.durable.phase) (commit_on s req (all_undone s.durable.inverses s.durable.names)) (refused s req refusals.NotUpgrading) (commit_same (all_undone s.durable.inverses s.durable.names)) (refused_same refusals.NotUpgrading)
+  called_same config moment call is = absurd (false≢true is)
+
+  new_same : (config : Config) (moment : Moment) (call : Call) → is_commit call ≡ true → (refusal : Option Refusal) → Same (called_unless config s req moment call refusal)
+  new_same config moment call is None = called_same config moment call is
+  new_same config moment call is (Some refusal) = refused_same refusal
+
+  -- ---- it was begun
+
+  prepare_begun : (b o : Bool) (unquiet : List ℕ) (exhausted : Bool) (config : Config) (t : Turn) → OneSays req (Ok answer) (unless (first_of ((not b && not o, refusals.AlreadyUpgrading) ∷ (not b, refusals.NotUpgrading) ∷ (if_unquiet (first_in unquiet) ++ (exhausted, refusals.Exhausted) ∷ []))) s req t).sent → b ≡ true
+  prepare_begun true o unquiet exhausted config t says = refl
+  prepare_begun false true unquiet exhausted config t says = no_answer req refusals.NotUpgrading answer [] says
+  prepare_begun false false unquiet exhausted config t says = no_answer req refusals.AlreadyUpgrading answer [] says
+
+  if_begun : (b : Bool) (t : Turn) → OneSays req (Ok answer) (if b then t else refused s req refusals.NotUpgrading).sent → b ≡ true
+  if_begun true t says = refl
+  if_begun false t says = no_answer req refusals.NotUpgrading answer [] says
+
+  called_begun : (config : Config) (moment : Moment) (call : Call) → is_commit call ≡ true → OneSays req (Ok answer) (called_unless config s req moment call None).sent → WasBegun s call
+  called_begun config moment calls.PrepareCommit is says =
+      prepare_begun s.volatile.is_preparing (is_ordinary s.durable.phase) (all_unquiet s) (is_last_epoch s.durable) config
+      (turned s (accepted_plan s req (Prepare (s.durable.epoch + 1) moment.0 (chunk_count s) ∷ []) (changes.Prepare false ∷ []) (tell_all config (s.durable.epoch + 1) ends.Prepare) (s.durable.epoch + 1))) says
+  called_begun config moment calls.PrepareAbort is says = if_begun s.volatile.is_preparing (turned s (accepted_plan s req [] (changes.Prepare false ∷ []) [] s.durable.epoch)) says
+  called_begun config moment calls.Finalize is says = tt
+  called_begun config moment calls.RollbackCommit is says = if_begun (is_rolling s.durable.phase) (commit_on s req (all_undone s.durable.inverses s.durable.names)) says
+  called_begun config moment call is says = absurd (false≢true is)
+
+-- what is answered by an answer isn't refused beforehand, so no disk has failed
+pub sound_so : (s : State) (req : ReqId) (call : Call) → refused_before s req call ≡ None → is_failed s.fault ≡ false
+sound_so s req call none = by_case (is_failed s.fault) none
+  where
+    by_case : (b : Bool) → first_of (ordered b (is_rolling s.durable.phase) s.volatile.is_preparing (is_locked s req call) call) ≡ None → b ≡ false
+    by_case false passes = refl
+    by_case true refused = absurd cc
+
 pub commits_had : CommitsAreHad
-commits_had config s req moment call answer is new says = new_had s req answer new config moment call is (refused_before s req call) says
+commits_had config s req moment call answer is new says = by_refusal (refused_before s req call) refl says
+  where
+    by_refusal : (o : Option Refusal) → refused_before s req call ≡ o → OneSays req (Ok answer) (called_unless config s req moment call o).sent → Commits s req call (called_unless config s req moment call o)
+    by_refusal None none says = record { had = called_had s req answer new config moment call is says; sound = sound_so s req call none; fault = called_same s req answer new config moment call is; begun = called_begun s req answer new config moment call is says }
+    by_refusal (Some refusal) none says = no_answer req refusal answer [] says
 
 -- none of a number that its client has had is new
 pub had_not_new : (s : State) (client : ClientId) (number other : ℕ) → HasHad s client number → other ≤ number → numbered (last_reply s client) other ≡ New → ⊥

@@ -12,8 +12,9 @@ use Rattle.gs_msg.specs.declared.call.Call.{Call}
 use Rattle.gs_msg.specs.declared.call.Call.TheVariants as calls
 use Rattle.gs_path.specs.Path.{Path}
 use Rattle.gs_master_spec.specs.Calls.{listing}
+use Rattle.gs_master_spec.specs.Durable.{is_rolling}
 use Rattle.gs_master_spec.specs.Handling.{New, new_call, numbered}
-use Rattle.gs_master_spec.specs.State.{State, Turn, last_reply}
+use Rattle.gs_master_spec.specs.State.{State, Turn, is_failed, last_reply}
 use Rattle.gs_master_spec.specs.declared.reply.KeptReply.{KeptReply}
 use Rattle.gs_master_asked.specs.AtOnce.{OneSays}
 
@@ -61,10 +62,23 @@ abbrev pub ListsAreAnswered : Type 0
 ListsAreAnswered = (config : Config) (s : State) (req : ReqId) (moment : Moment) (path : Path) (answer : Answer) → OneSays req (Ok answer) (new_call config s req moment (calls.List path)).sent →
     listing (fin.entries s.durable.names.tree) path (fin.get s.durable.names.tree path) ≡ Ok answer
 
--- A commit that is new and accepted is what its client has had last.
+-- where a prepare is committed or given up one was begun; and so of a rollback
+abbrev pub WasBegun : State → Call → Type 0
+WasBegun s calls.PrepareCommit = s.volatile.is_preparing ≡ true
+WasBegun s calls.PrepareAbort = s.volatile.is_preparing ≡ true
+WasBegun s calls.RollbackCommit = is_rolling s.durable.phase ≡ true
+WasBegun s call = Unit {0}
+
+-- Its client has had the reply to a commit that is new and accepted. No disk had failed, and none fails by it.
+pub record Commits (s : State) (req : ReqId) (call : Call) (t : Turn) : Type 0 where
+  pub had : HasHad t.after req.client req.number
+  pub sound : is_failed s.fault ≡ false
+  pub fault : t.after.fault ≡ s.fault
+  pub begun : WasBegun s call
+
 abbrev pub CommitsAreHad : Type 0
 CommitsAreHad = (config : Config) (s : State) (req : ReqId) (moment : Moment) (call : Call) (answer : Answer) → is_commit call ≡ true → numbered (last_reply s req.client) req.number ≡ New → OneSays req (Ok answer) (new_call config s req moment call).sent →
-    HasHad (new_call config s req moment call).after req.client req.number
+    Commits s req call (new_call config s req moment call)
 
 -- ---- examples
 

@@ -27,7 +27,7 @@ pub fn looks_and_commits_are_answered_at_once()
 {}
 
 /// A new look-up leaves the names, the phase and the epoch, and what its client has had; what a list is answered is the listing by the names. Behind a commit, an abort or a finalize that is new and accepted, its client has had its reply: no call of
-/// this number, or of a lower one, is new any more.
+/// this number, or of a lower one, is new any more. No disk had failed, and a prepare or a rollback was begun where one is committed.
 pub fn looks_leave_names_and_commits_are_had()
     ensures looks { LooksLeaveNames }
     ensures listed { ListsAreAnswered }
