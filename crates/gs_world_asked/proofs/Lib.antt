@@ -2,3 +2,4 @@ pub mod Answered
 pub mod Asked
 pub mod Parts
 pub mod Resting
+pub mod Behind

@@ -6,6 +6,7 @@ ghost use Rattle.gs_msg.specs.declared.event.DiskId.{DiskId};
 ghost use Rattle.gs_nodes.specs.declared.place.MasterPlace.{MasterPlace};
 ghost use Rattle.gs_world_asked.specs.Answered.{AnswersAreMade};
 ghost use Rattle.gs_world_asked.specs.Asked.{BeginsAsked, ScriptsAsked, StaysAsked, StaysAskedUnarmed};
+ghost use Rattle.gs_world_asked.specs.Behind.{ListsAreByCommits};
 ghost use Rattle.gs_world_asked.specs.Resting.{StaysStill};
 
 use gs_block::promises::configurations_have_sizes;
@@ -31,4 +32,10 @@ pub fn an_answer_is_made_for_its_call<D>()
 /// As long as a client only looks, whatever else comes, the names, the phase and the epoch of the master stand where no call waits, and all that was called before has a number that the client has had: nothing of before changes them.
 pub fn names_stand_while_a_client_looks<D>()
     ensures { (seen : D → List ℕ) (failures : D → ℕ) (armed : DiskId → ℕ → MasterPlace D → MasterPlace D) → StaysStill seen failures armed }
+{}
+
+/// A client that is the only one has the answer to its commit of a prepare, or of a rollback, and lists a path then, and asks nothing else between but look-ups. What it gets is the listing by the names that stood right behind the event
+/// at which its commit was accepted, whatever else comes, and whatever disks fail.
+pub fn what_is_listed_behind_a_commit_is_by_the_names_then<D>()
+    ensures { (seen : D → List ℕ) (failures : D → ℕ) (armed : DiskId → ℕ → MasterPlace D → MasterPlace D) → ListsAreByCommits seen failures armed }
 {}
