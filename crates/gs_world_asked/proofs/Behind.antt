@@ -94,7 +94,7 @@ refused_none {Z} req e answer messages m are there says = absurd (never (sym (ap
 -- ---- a call that is new, and answered
 
 module _ (config : Config) (s : State) (req : ReqId) (moment : Moment) (call : Call) where
-  turn_is : is_unopened s.fault ≡ false → is_pending s.volatile.pending req ≡ false → numbered (last_reply s req.client) req.number ≡ New → call_turn config s req moment call ≡ new_call config s req moment call
+  pub turn_is : is_unopened s.fault ≡ false → is_pending s.volatile.pending req ≡ false → numbered (last_reply s req.client) req.number ≡ New → call_turn config s req moment call ≡ new_call config s req moment call
   turn_is opened apart new =
       ap (λ (b : Bool). if b then replied_again s req (Err refusals.Device) else if is_pending s.volatile.pending req then waits_still s req else taken_as config s req moment call (numbered (last_reply s req.client) req.number)) opened
       ∙ (ap (λ (b : Bool). if b then waits_still s req else taken_as config s req moment call (numbered (last_reply s req.client) req.number)) apart
@@ -182,20 +182,20 @@ module _ {D : Type 0} (seen : D → List ℕ) (failures : D → ℕ) (armed : Di
 
 -- ---- runs
 
-run_more : {D : Type 0} (seen : D → List ℕ) (failures : D → ℕ) (armed : DiskId → ℕ → MasterPlace D → MasterPlace D) (steps : List Step) (step : Step) (old mid new : History D) → RunsTo seen failures armed steps old mid → Goes seen failures armed step mid new
+pub run_more : {D : Type 0} (seen : D → List ℕ) (failures : D → ℕ) (armed : DiskId → ℕ → MasterPlace D → MasterPlace D) (steps : List Step) (step : Step) (old mid new : History D) → RunsTo seen failures armed steps old mid → Goes seen failures armed step mid new
     → RunsTo seen failures armed (steps ++ step ∷ []) old new
 run_more seen failures armed [] step old mid new same goes = (new, subst (λ (h : History _). Goes seen failures armed step h new) same goes, refl)
 run_more seen failures armed (one ∷ steps) step old mid new (h, first, rest) goes = (h, first, run_more seen failures armed steps step h mid new rest goes)
 
-all_front : {A : Type 0} (S : A → Type 0) (xs ys : List A) → AllByRecursion S (xs ++ ys) → AllByRecursion S xs
+pub all_front : {A : Type 0} (S : A → Type 0) (xs ys : List A) → AllByRecursion S (xs ++ ys) → AllByRecursion S xs
 all_front S [] ys all = tt
 all_front S (x ∷ xs) ys all = (all.0, all_front S xs ys all.1)
 
-all_back : {A : Type 0} (S : A → Type 0) (xs ys : List A) → AllByRecursion S (xs ++ ys) → AllByRecursion S ys
+pub all_back : {A : Type 0} (S : A → Type 0) (xs ys : List A) → AllByRecursion S (xs ++ ys) → AllByRecursion S ys
 all_back S [] ys all = all
 all_back S (x ∷ xs) ys all = all_back S xs ys all.1
 
-all_one_more : {A : Type 0} (S : A → Type 0) (xs : List A) (x : A) → AllByRecursion S xs → S x → AllByRecursion S (xs ++ x ∷ [])
+pub all_one_more : {A : Type 0} (S : A → Type 0) (xs : List A) (x : A) → AllByRecursion S xs → S x → AllByRecursion S (xs ++ x ∷ [])
 all_one_more S [] x all one = (one, tt)
 all_one_more S (y ∷ xs) x all one = (all.0, all_one_more S xs x all.1 one)
 
@@ -203,7 +203,7 @@ all_spare : (client : ClientId) (steps : List Step) → AllByRecursion (IsLookin
 all_spare client [] all = tt
 all_spare client (step ∷ steps) all = (all.0.0, all_spare client steps all.1)
 
-halt_commits : (call : Call) → is_halt call ≡ true → is_commit call ≡ true
+pub halt_commits : (call : Call) → is_halt call ≡ true → is_commit call ≡ true
 halt_commits calls.PrepareCommit is = refl
 halt_commits calls.RollbackCommit is = refl
 halt_commits call is = absurd (false≢true is)
@@ -228,7 +228,7 @@ module _ {D : Type 0} (seen : D → List ℕ) (failures : D → ℕ) (armed : Di
   asked_so : (steps : List Step) (old new : History D) → RunsTo seen failures armed steps old new → AllByRecursion IsStepWithin steps → KeepsTypes old → LastsThrough seen old.nodes.master → AreAsked seen old → AreAsked seen new
   asked_so steps old new runs within keeps lasts are = stays_unarmed seen failures armed steps old new leaves runs within keeps lasts are
 
-  firm_so : (m : MasterOf D) → LastsThrough seen (Standing m) → is_failed m.state.fault ≡ false → IsFirm m.state
+  pub firm_so : (m : MasterOf D) → LastsThrough seen (Standing m) → is_failed m.state.fault ≡ false → IsFirm m.state
   firm_so m lasts sound = by_fault (is_failed m.state.fault) sound lasts
     where
       by_fault : (b : Bool) → b ≡ false → MatchBool b (TellsSteady (text_seen seen m.journal)) (StandsSteady seen m) → IsFirm m.state
