@@ -1,5 +1,5 @@
 -- Epochs never fall.
-use Rattle.std.specs.Prelude.{[], ◌∷◌, ◌+◌, ◌≡◌, ◌≤◌, ◌⊎◌, List, true, ℕ}
+use Rattle.std.specs.Prelude.{◌+◌, ◌≡◌, ◌≤◌, ◌⊎◌, List, true, ℕ}
 use Rattle.std.proofs.Common.{arith, inr, refl}
 use Rattle.gs_master_record.specs.declared.checkpoint.Phase.TheVariants.{Rolling, Upgrade}
 use Rattle.gs_master_spec.specs.Durable.{Durable, is_ordinary, is_rolling, start}

@@ -1,5 +1,5 @@
 -- What a client lists behind a rollback is what it listed behind its prepare.
-use Rattle.std.proofs.Common.{◌≡◌, ◌∙◌, ◌++◌, ◌+◌, ◌*◌, ◌<◌, ◌^◌, ℕ, Bool, true, false, List, [], ◌∷◌, length, Option, Some, None, Result, Ok, Err, refl, sym, ap, subst, arith, slice_get}
+use Rattle.std.proofs.Common.{◌≡◌, ◌∙◌, ◌++◌, ◌+◌, ℕ, Bool, true, false, List, [], ◌∷◌, Option, Some, None, Result, Ok, refl, sym, ap, subst}
 use Rattle.std.specs.Prelude.{MatchBool}
 use Rattle.std.specs.FinMap as fin
 use Rattle.std.specs.List.{AllByRecursion}
@@ -7,20 +7,18 @@ use Rattle.std.proofs.lemmas.Bool.{false≢true, and_parts}
 use Rattle.gs_base.specs.declared.config.Config.{Config}
 use Rattle.gs_base.specs.declared.numbers.ClientId.{ClientId}
 use Rattle.gs_base.specs.declared.numbers.Moment.{Moment}
-use Rattle.gs_base.specs.declared.numbers.ReqId.{ReqId}
+use Rattle.gs_base.specs.declared.refusal.Refusal.{Refusal}
 use Rattle.gs_edit.specs.View.{NamesView}
-use Rattle.gs_journal.specs.Records.{fresh, standing}
 use Rattle.gs_master.specs.Journaled.{text_seen}
 use Rattle.gs_master.specs.Masters.{MasterOf}
 use Rattle.gs_master_asked.proofs.Resting.{commits_had}
 use Rattle.gs_master_asked.specs.Resting.{Commits}
 use Rattle.gs_master_laws.proofs.StandingRuns.{events_fit}
 use Rattle.gs_master_laws.specs.Standing.{Comes as Comes_to, IsFirm, IsNamedCall}
-use Rattle.gs_master_moves.specs.Epochs.{prepares, rolls_back}
 use Rattle.gs_master_spec.specs.Applied.{replayed}
 use Rattle.gs_master_spec.specs.Calls.{listing, refused_before}
 use Rattle.gs_master_spec.specs.Durable.{Durable, is_ordinary, is_rolling, is_upgrade}
-use Rattle.gs_master_spec.specs.Handling.{call_turn, from_node, handle, new_call}
+use Rattle.gs_master_spec.specs.Handling.{call_turn, handle, new_call}
 use Rattle.gs_master_spec.specs.State.{Failed, Fault, Sound, State, Turn, Unopened, is_failed, is_unopened}
 use Rattle.gs_msg.specs.declared.answer.Answer.{Answer}
 use Rattle.gs_msg.specs.declared.answer.Answer.TheVariants as answers
@@ -29,26 +27,25 @@ use Rattle.gs_msg.specs.declared.call.Call.{Call}
 use Rattle.gs_msg.specs.declared.call.Call.TheVariants as calls
 use Rattle.gs_msg.specs.declared.message.Message.{Message}
 use Rattle.gs_msg.specs.declared.node.NodeId.TheVariants as nodes
-use Rattle.gs_nodes.specs.Nodes.{Nodes}
 use Rattle.gs_nodes.specs.declared.place.MasterPlace.{MasterPlace}
 use Rattle.gs_nodes.specs.declared.place.MasterPlace.TheVariants.{Standing, Closed, Away}
 use Rattle.gs_path.specs.Path.{Path}
 use Rattle.gs_world.proofs.Reaching.{HaveSizes}
-use Rattle.gs_world.specs.Histories.{Begins, History}
+use Rattle.gs_world.specs.Histories.{History}
 use Rattle.gs_world.specs.Lasting.{IsToldIn}
 use Rattle.gs_world.specs.Runs.{Comes, Goes, RunsTo, Step}
 use Rattle.gs_world_asked.specs.Answered.{WasAnswered}
 use Rattle.gs_world_asked.specs.Asked.{AreAsked}
-use Rattle.gs_world_asked.specs.Behind.{HasAnswer, IsOnly, ListsByCommit, StandsOn, asks_call, is_halt}
+use Rattle.gs_world_asked.specs.Behind.{HasAnswer, ListsByCommit, StandsOn, asks_call, is_halt}
 use Rattle.gs_world_asked.proofs.Asked.{begins_asked, stays_unarmed}
 use Rattle.gs_world_asked.proofs.Behind.{MadeThere, all_back, all_front, firm_so, halt_commits, lists_are_by_commits, made_there, turn_is}
 use Rattle.gs_world_chunks.proofs.Well.{IsWell, bare_well, begins_well, step_well}
 use Rattle.gs_world_chunks.specs.Back.{GoesBackBy, ToldNamesBack}
 use Rattle.gs_world_chunks.specs.Rising.{EpochsNeverFall}
-use Rattle.gs_world_chunks.specs.Running.{AreAmong, BlocksAmong, IsArmed, IsGiven, IsToldAt, ReplicaAmong, RunsBare, SealAmong, Setup, StepsWithin}
-use Rattle.gs_replica.specs.Replicas.{Sealed}
+use Rattle.gs_world_chunks.specs.Running.{IsArmed, IsGiven, IsToldAt, ReplicaAmong, RunsBare, SealAmong, Setup, StepsWithin}
+use Rattle.gs_replica.specs.Seals.{Sealed}
 use Rattle.gs_world_laws.specs.Reached.{unarmed}
-use Rattle.gs_world_laws.specs.Saying.{IsStepWithin, KeepsTypes}
+use Rattle.gs_world_laws.specs.Saying.{IsStepWithin}
 use Rattle.gs_world_laws.specs.Through.{LastsThrough}
 use Rattle.gs_world_listed.specs.Listed.{ListsComeBack, ListsTwice}
 use Rattle.gs_world_listed.proofs.Commits.{IsPrepared, IsRolledBack, commit_so, prepare_so}
@@ -160,12 +157,12 @@ module _ (sizes : HaveSizes) {D : Type 0} (rises : (x : Setup D) → EpochsNever
       firm : IsFirm s
       firm = firm_so seen failures unarmed (λ disk number place. refl) made.answers.master (subst (LastsThrough seen) made.answers.stands good_now.well.steady) commits.sound
 
-      its_message : Message
+      abbrev its_message : Message
       its_message = record { from = nodes.Client c.req.client; to = nodes.Master; body = bodies.Call c.req call }
 
-      handles : (config : Config) (s : State) (moment : Moment) → handle config s its_message moment ≡ call_turn config s c.req moment call
+      handles : (sizes_of : Config) (u : State) (moment : Moment) → handle sizes_of u its_message moment ≡ call_turn sizes_of u c.req moment call
       unfolding handle
-      handles config s moment = refl
+      handles sizes_of u moment = refl
 
       fits : replayed s.durable t.records ≡ Some t.after.durable
       fits = subst (λ (u : Turn). replayed s.durable u.records ≡ Some u.after.durable)
@@ -205,7 +202,7 @@ module _ (sizes : HaveSizes) {D : Type 0} (rises : (x : Setup D) → EpochsNever
     prepared : Good given l.prepared
     prepared = good_mid given client l.old l.prepared calls.PrepareCommit epoch refl l.prepares old one.made one.durable one.stands
 
-    list_step : List Step
+    abbrev list_step : List Step
     list_step = asks_call l.lists.moment l.lists.req (calls.List path) ∷ l.lists.steps
 
     to_listed : RunsTo seen failures unarmed list_step l.prepared l.listed
@@ -237,10 +234,10 @@ module _ (sizes : HaveSizes) {D : Type 0} (rises : (x : Setup D) → EpochsNever
         (there given client l.later l.back calls.RollbackCommit (epoch + 1) refl l.commits later two.made two.durable two.stands).says (fits given client l.later l.back calls.RollbackCommit (epoch + 1) refl l.commits later two.made two.durable two.stands))
 
     -- what comes between
-    tail : List Step
+    abbrev tail : List Step
     tail = asks_call l.commits.moment l.commits.req calls.RollbackCommit ∷ two.made.before
 
-    way : List Step
+    abbrev way : List Step
     way = one.made.after ++ (list_step ++ (l.between ++ tail))
 
     to_rolling : RunsTo seen failures unarmed way one.made.next two.made.now
@@ -268,9 +265,9 @@ module _ (sizes : HaveSizes) {D : Type 0} (rises : (x : Setup D) → EpochsNever
     goes =
         let told = told_next given client l.old l.prepared calls.PrepareCommit epoch refl l.prepares old one.made one.durable one.stands in
         let rolls = told_now given client l.later l.back calls.RollbackCommit (epoch + 1) refl l.commits later two.made two.durable two.stands in
-        let upgrade = (and_parts (is_ordinary one.made.answers.master.state.durable.phase) (is_upgrade before.phase) is_prepared.prepares).1 in
+        let upgrade = (and_parts (is_ordinary one.made.answers.master.state.durable.phase) (is_upgrade before.phase) is_prepared.accepted).1 in
         let rolled = (and_parts (is_rolling rolling.phase) (is_ordinary two.durable.phase) is_rolled.rolls).0 in
-        let next : rolling.epoch ≡ before.epoch + 1 = is_rolled.epoch ∙ ap (λ k. k + 1) (sym is_prepared.epoch) in
+        let next : rolling.epoch ≡ before.epoch + 1 = is_rolled.within ∙ ap (λ k. k + 1) (sym is_prepared.begins) in
         let head = asks_call l.prepares.moment l.prepares.req calls.PrepareCommit ∷ one.made.before in record {
           given = given;
           begun = l.begun;
@@ -284,7 +281,7 @@ module _ (sizes : HaveSizes) {D : Type 0} (rises : (x : Setup D) → EpochsNever
           step = Comes one.made.event;
           steps = first_step;
           keeps = told;
-          accepted = is_prepared.prepares;
+          accepted = is_prepared.accepted;
           between = way;
           now = two.made.now;
           rest = all_between x (rises x) given before rolling upgrade rolled next way one.made.next two.made.now before (run_bare way one.made.next two.made.now to_rolling way_within) behind told (same_rising before) rolls;
@@ -296,7 +293,7 @@ module _ (sizes : HaveSizes) {D : Type 0} (rises : (x : Setup D) → EpochsNever
           done = is_rolled.rolls;
         }
 
-    answer_is : {a b : Answer} → ◌≡◌ {A = Result Answer _} (Ok a) (Ok b) → a ≡ b
+    answer_is : {a b : Answer} → ◌≡◌ {A = Result Answer Refusal} (Ok a) (Ok b) → a ≡ b
     answer_is is = cc
 
     pub same : has ≡ had
