@@ -58,6 +58,7 @@ use Rattle.gs_world_asked.specs.Resting.{IsLooking, IsOldOrLooks, IsStill, Stand
 use Rattle.gs_world_asked.proofs.Answered.{answers_are_made}
 use Rattle.gs_world_asked.proofs.Asked.{stays_unarmed}
 use Rattle.gs_world_asked.proofs.Resting.{stays_still}
+use Rattle.gs_world_laws.proofs.Keeping.{run_keeps}
 use Rattle.gs_world_laws.proofs.Through.{run_through}
 use Rattle.gs_world_laws.specs.Saying.{IsStepWithin, KeepsTypes}
 use Rattle.gs_world_laws.specs.Steady.{StandsSteady, TellsSteady}
@@ -327,15 +328,28 @@ module _ {D : Type 0} (seen : D → List ℕ) (failures : D → ℕ) (armed : Di
     sound : is_failed there.after.state.fault ≡ false
     sound = ap (λ (u : State). is_failed u.fault) there.is ∙ ap is_failed commits.fault ∙ commits.sound
 
-    module _ (new : History D) (path : Path) (listed : Answer) (l : HasAnswer seen failures armed client mid (calls.List path) listed new) where
+    lasts_mid : LastsThrough seen mid.nodes.master
+    lasts_mid = lasts_so (ask ∷ c.steps) old mid (c.asked, (Ok tt, c.asks.happens), c.runs) c.within keeps lasts
+
+    types_mid : KeepsTypes mid
+    types_mid = run_keeps seen failures armed (ask ∷ c.steps) old mid (c.asked, (Ok tt, c.asks.happens), c.runs) c.within keeps
+
+    module _ (new : History D) (path : Path) (listed : Answer) (way : List Step) (start : History D) (leads : RunsTo seen failures armed way mid start) (way_within : AllByRecursion IsStepWithin way) (way_looks : AllByRecursion (IsLooking client) way)
+        (l : HasAnswer seen failures armed client start (calls.List path) listed new) where
+      are_start : AreAsked seen start
+      are_start = asked_so way mid start leads way_within types_mid lasts_mid are_mid
+
+      still_start : IsStill d client c.req.number start
+      still_start = stays_still seen failures armed d client c.req.number way mid start leads way_looks still_mid
+
       told : WasAnswered seen failures armed l.steps l.asked new l.req (calls.List path) listed
-      told = answers_are_made seen failures armed mid l.asked new l.moment l.req (calls.List path) l.steps l.node listed are_mid l.asks refl l.runs (all_spare client l.steps l.looking) (subst (λ k. client_in new.nodes.clients k ≡ Some l.node) (sym l.own) l.there) l.last l.reply
+      told = answers_are_made seen failures armed start l.asked new l.moment l.req (calls.List path) l.steps l.node listed are_start l.asks refl l.runs (all_spare client l.steps l.looking) (subst (λ k. client_in new.nodes.clients k ≡ Some l.node) (sym l.own) l.there) l.last l.reply
 
       looks_before : AllByRecursion (IsLooking client) told.before
       looks_before = all_front (IsLooking client) told.before (Comes told.event ∷ told.after) (subst (AllByRecursion (IsLooking client)) told.parts l.looking)
 
       still_now : IsStill d client c.req.number told.now
-      still_now = stays_still seen failures armed d client c.req.number (asks_call l.moment l.req (calls.List path) ∷ told.before) mid told.now (l.asked, (Ok tt, l.asks.happens), told.first) ((refl, (l.own, refl)), looks_before) still_mid
+      still_now = stays_still seen failures armed d client c.req.number (asks_call l.moment l.req (calls.List path) ∷ told.before) start told.now (l.asked, (Ok tt, l.asks.happens), told.first) ((refl, (l.own, refl)), looks_before) still_start
 
       there_then : MadeThere seen failures armed told.now told.event.moment told.answers.master l.req (calls.List path) listed told.next.nodes
       there_then = made_there seen failures armed told.now told.event told.said told.next told.happens l.req (calls.List path) listed told.answers
@@ -352,4 +366,4 @@ module _ {D : Type 0} (seen : D → List ℕ) (failures : D → ℕ) (armed : Di
       }
 
 pub lists_are_by_commits : {D : Type 0} (seen : D → List ℕ) (failures : D → ℕ) (armed : DiskId → ℕ → MasterPlace D → MasterPlace D) → ListsAreByCommits seen failures armed
-lists_are_by_commits seen failures armed leaves client old mid new call answer listed path are keeps lasts halt c only l = lists_by seen failures armed leaves client old mid call answer are keeps lasts halt c only new path listed l
+lists_are_by_commits seen failures armed leaves client old mid new call answer listed path are keeps lasts halt c only way start leads way_within way_looks l = lists_by seen failures armed leaves client old mid call answer are keeps lasts halt c only new path listed way start leads way_within way_looks l

@@ -76,7 +76,8 @@ module _ {D : Type 0} (seen : D → List ℕ) (failures : D → ℕ) (armed : Di
 
   -- ---- what is to hold
 
-  -- So it is where it is the only client, and asks nothing else but look-ups.
+  -- So it is where it is the only client, and asks nothing else but look-ups, also between the two.
   abbrev pub ListsAreByCommits : Type 0
   ListsAreByCommits = ((disk : DiskId) (call : ℕ) (place : MasterPlace D) → armed disk call place ≡ place) → (client : ClientId) (old mid new : History D) (call : Call) (answer listed : Answer) (path : Path) → AreAsked seen old → KeepsTypes old → LastsThrough seen old.nodes.master →
-      is_halt call ≡ true → (c : HasAnswer client old call answer mid) → IsOnly client mid → HasAnswer client mid (calls.List path) listed new → ListsByCommit client old call answer mid path listed c
+      is_halt call ≡ true → (c : HasAnswer client old call answer mid) → IsOnly client mid →
+      (way : List Step) (start : History D) → RunsTo seen failures armed way mid start → AllByRecursion IsStepWithin way → AllByRecursion (IsLooking client) way → HasAnswer client start (calls.List path) listed new → ListsByCommit client old call answer mid path listed c

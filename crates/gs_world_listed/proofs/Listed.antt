@@ -197,7 +197,7 @@ module _ (sizes : HaveSizes) {D : Type 0} (rises : (x : Setup D) → EpochsNever
     old = good_on given l.first l.begun l.old l.runs l.within begun
 
     one : ListsByCommit seen failures unarmed client l.old calls.PrepareCommit (answers.Epoch epoch) l.prepared path had l.prepares
-    one = lists_are_by_commits seen failures unarmed (λ disk call place. refl) client l.old l.prepared l.listed calls.PrepareCommit (answers.Epoch epoch) had path old.are old.well.types old.well.steady refl l.prepares l.only l.lists
+    one = lists_are_by_commits seen failures unarmed (λ disk call place. refl) client l.old l.prepared l.listed calls.PrepareCommit (answers.Epoch epoch) had path old.are old.well.types old.well.steady refl l.prepares l.only l.way.steps l.way.end l.way.runs l.way.within l.way.looking l.lists
 
     prepared : Good given l.prepared
     prepared = good_mid given client l.old l.prepared calls.PrepareCommit epoch refl l.prepares old one.made one.durable one.stands
@@ -205,17 +205,20 @@ module _ (sizes : HaveSizes) {D : Type 0} (rises : (x : Setup D) → EpochsNever
     abbrev list_step : List Step
     list_step = asks_call l.lists.moment l.lists.req (calls.List path) ∷ l.lists.steps
 
-    to_listed : RunsTo seen failures unarmed list_step l.prepared l.listed
+    ready : Good given l.way.end
+    ready = good_on given l.way.steps l.prepared l.way.end l.way.runs l.way.within prepared
+
+    to_listed : RunsTo seen failures unarmed list_step l.way.end l.listed
     to_listed = (l.lists.asked, (Ok tt, l.lists.asks.happens), l.lists.runs)
 
     listed : Good given l.listed
-    listed = good_on given list_step l.prepared l.listed to_listed l.lists.within prepared
+    listed = good_on given list_step l.way.end l.listed to_listed l.lists.within ready
 
     later : Good given l.later
     later = good_on given l.between l.listed l.later l.passes l.within_between listed
 
     two : ListsByCommit seen failures unarmed client l.later calls.RollbackCommit (answers.Epoch (epoch + 1)) l.back path has l.commits
-    two = lists_are_by_commits seen failures unarmed (λ disk call place. refl) client l.later l.back l.last calls.RollbackCommit (answers.Epoch (epoch + 1)) has path later.are later.well.types later.well.steady refl l.commits l.only_then l.again
+    two = lists_are_by_commits seen failures unarmed (λ disk call place. refl) client l.later l.back l.last calls.RollbackCommit (answers.Epoch (epoch + 1)) has path later.are later.well.types later.well.steady refl l.commits l.only_then l.way_then.steps l.way_then.end l.way_then.runs l.way_then.within l.way_then.looking l.again
 
     abbrev before : Durable
     before = one.durable
@@ -238,19 +241,21 @@ module _ (sizes : HaveSizes) {D : Type 0} (rises : (x : Setup D) → EpochsNever
     tail = asks_call l.commits.moment l.commits.req calls.RollbackCommit ∷ two.made.before
 
     abbrev way : List Step
-    way = one.made.after ++ (list_step ++ (l.between ++ tail))
+    way = one.made.after ++ (l.way.steps ++ (list_step ++ (l.between ++ tail)))
 
     to_rolling : RunsTo seen failures unarmed way one.made.next two.made.now
     to_rolling =
-        run_join one.made.after (list_step ++ (l.between ++ tail)) one.made.next l.prepared two.made.now one.made.rest
-        (run_join list_step (l.between ++ tail) l.prepared l.listed two.made.now to_listed
-        (run_join l.between tail l.listed l.later two.made.now l.passes (l.commits.asked, (Ok tt, l.commits.asks.happens), two.made.first)))
+        run_join one.made.after (l.way.steps ++ (list_step ++ (l.between ++ tail))) one.made.next l.prepared two.made.now one.made.rest
+        (run_join l.way.steps (list_step ++ (l.between ++ tail)) l.prepared l.way.end two.made.now l.way.runs
+        (run_join list_step (l.between ++ tail) l.way.end l.listed two.made.now to_listed
+        (run_join l.between tail l.listed l.later two.made.now l.passes (l.commits.asked, (Ok tt, l.commits.asks.happens), two.made.first))))
 
     way_within : AllByRecursion IsStepWithin way
     way_within =
-        all_join IsStepWithin one.made.after (list_step ++ (l.between ++ tail)) (within_here given client l.old l.prepared calls.PrepareCommit epoch refl l.prepares old one.made one.durable one.stands).1
+        all_join IsStepWithin one.made.after (l.way.steps ++ (list_step ++ (l.between ++ tail))) (within_here given client l.old l.prepared calls.PrepareCommit epoch refl l.prepares old one.made one.durable one.stands).1
+        (all_join IsStepWithin l.way.steps (list_step ++ (l.between ++ tail)) l.way.within
         (all_join IsStepWithin list_step (l.between ++ tail) l.lists.within
-        (all_join IsStepWithin l.between tail l.within_between (within_now given client l.later l.back calls.RollbackCommit (epoch + 1) refl l.commits later two.made two.durable two.stands)))
+        (all_join IsStepWithin l.between tail l.within_between (within_now given client l.later l.back calls.RollbackCommit (epoch + 1) refl l.commits later two.made two.durable two.stands))))
 
     first_step : StepsWithin x (Comes one.made.event) one.made.now one.made.next
     first_step = step given client l.old l.prepared calls.PrepareCommit epoch refl l.prepares old one.made one.durable one.stands

@@ -12,10 +12,19 @@ use Rattle.gs_path.specs.Path.{Path}
 use Rattle.gs_world.specs.Histories.{Begins, History}
 use Rattle.gs_world.specs.Runs.{RunsTo, Step}
 use Rattle.gs_world_asked.specs.Behind.{HasAnswer, IsOnly}
+use Rattle.gs_world_asked.specs.Resting.{IsLooking}
 use Rattle.gs_world_laws.specs.Reached.{unarmed}
 use Rattle.gs_world_laws.specs.Saying.{IsStepWithin}
 
 module _ {D : Type 0} (seen : D → List ℕ) (failures : D → ℕ) (config : Config) (clients : ℕ) (disks : D × D) where
+  -- steps at which nothing is asked of the master but look-ups of this client, and it isn't started again
+  pub record Way (client : ClientId) (old : History D) : Type 0 where
+    pub steps : List Step
+    pub end : History D
+    pub runs : RunsTo seen failures unarmed steps old end
+    pub within : AllByRecursion IsStepWithin steps
+    pub looking : AllByRecursion (IsLooking client) steps
+
   -- A store has begun over disks that said nothing. Behind some steps a client, the only one, has the answer to its commit of a prepare, by which an epoch begins, and lists a path. Then there are any steps; and then it has the answer
   -- to its commit of a rollback, in the epoch next to that one, and lists the path again. Neither between a commit and its answer, nor between that and the list, it asks anything of the master but look-ups, and there the master isn't started again.
   pub record ListsTwice (client : ClientId) (path : Path) (epoch : ℕ) (had has : Answer) : Type 0 where
@@ -30,8 +39,9 @@ module _ {D : Type 0} (seen : D → List ℕ) (failures : D → ℕ) (config : C
     pub prepared : History D
     pub prepares : HasAnswer seen failures unarmed client old calls.PrepareCommit (answers.Epoch epoch) prepared
     pub only : IsOnly client prepared
+    pub way : Way client prepared
     pub listed : History D
-    pub lists : HasAnswer seen failures unarmed client prepared (calls.List path) had listed
+    pub lists : HasAnswer seen failures unarmed client way.end (calls.List path) had listed
     pub between : List Step
     pub later : History D
     pub passes : RunsTo seen failures unarmed between listed later
@@ -39,8 +49,9 @@ module _ {D : Type 0} (seen : D → List ℕ) (failures : D → ℕ) (config : C
     pub back : History D
     pub commits : HasAnswer seen failures unarmed client later calls.RollbackCommit (answers.Epoch (epoch + 1)) back
     pub only_then : IsOnly client back
+    pub way_then : Way client back
     pub last : History D
-    pub again : HasAnswer seen failures unarmed client back (calls.List path) has last
+    pub again : HasAnswer seen failures unarmed client way_then.end (calls.List path) has last
 
   -- Then it lists the same: the rollback is of that prepare, whatever has come between, and whatever disks fail.
   abbrev pub ListsComeBack : Type 0
