@@ -327,12 +327,30 @@ module _ {D : Type 0} (seen : D → List ℕ) (failures : D → ℕ) where
           moment = ap (λ (w : Way D). w.moment) heard.4 ∙ calm.moment ∙ one.moment;
         }
 
-    by_asked : (asked : Result (Vec Message Global) Refusal) (nodes_there : Nodes D) → Asks_at asked nodes_there → AnswersAsked seen failures req.client asked (with_nodes nodes_there old) (replies.Answer answer) new → IsCarried seen failures req.client old sent call answer new
-    by_asked (Ok out) nodes_there at a = carried_ok out nodes_there at a
+  -- an answer tells that the client was there, and the number fresh
+  module _ (sent : Sent) (old new : Way D) (req : ReqId) (call : Call) (answer : Answer) (covers : Covers sent old) (small : IsNumber old.moment.0) (may : IsNumber req.number × MayBeAsked (requests.Call call)) where
+    abbrev Asks_there : Result (Vec Message Global) Refusal → Nodes D → Type 0
+    Asks_there out after = AtClient req.client (Err refusals.Range) (ClientAsks req.number (requests.Call call)) old.nodes out after
+
+    fresh_one : (out : Vec Message Global) (n after : Node) (b : Bool) → nat_le req.number n.last ≡ b → Asks (if b then Err refusals.Old else Ok (asking n req.number, messages_of (request_of n req.number) (requests.Call call))) (Ok out) n after → n.last < req.number
+    fresh_one out n after true is never = absurd never
+    fresh_one out n after false is made = grind (arith, nat_tests)
+
+    by_node : (o : Option Node) → client_in old.nodes.clients req.client ≡ o → (out : Vec Message Global) (nodes_there : Nodes D) → Asks_there (Ok out) nodes_there
+        → MatchOption o ((nodes_there ≡ old.nodes) × (◌≡◌ {A = Result (Vec Message Global) Refusal} (Ok out) (Err refusals.Range))) (λ n. (after : Node) × (nodes_there ≡ with_clients (slice_set old.nodes.clients (req.client.0 - 1) after) old.nodes) × ClientAsks req.number (requests.Call call) n (Ok out) after)
+        → IsAsked seen failures req.client out.items (with_nodes nodes_there old) (replies.Answer answer) new → IsCarried seen failures req.client old sent call answer new
+    by_node None is out nodes_there at (same, refused) a = absurd (never refused)
+      where
+        never : ◌≡◌ {A = Result (Vec Message Global) Refusal} (Ok out) (Err refusals.Range) → ⊥
+        never is = cc
+    by_node (Some n) is out nodes_there at (after, same, did) a = carried_ok sent old new req call answer n covers small may is (fresh_one out n after (nat_le req.number n.last) refl did) out nodes_there at a
+
+    by_asked : (asked : Result (Vec Message Global) Refusal) (nodes_there : Nodes D) → Asks_there asked nodes_there → AnswersAsked seen failures req.client asked (with_nodes nodes_there old) (replies.Answer answer) new → IsCarried seen failures req.client old sent call answer new
+    by_asked (Ok out) nodes_there at a = by_node (client_in old.nodes.clients req.client) refl out nodes_there at at a
     by_asked (Err refusal) nodes_there at (is, same) = absurd (never is)
       where
         never : replies.Answer answer ≡ replies.Refused refusal → ⊥
         never is = cc
 
 pub calls_are_carried : {D : Type 0} (seen : D → List ℕ) (failures : D → ℕ) → CallsAreCarried seen failures
-calls_are_carried seen failures sent old new req call answer node covers small may there fresh c = by_asked seen failures sent old new req call answer node covers small may there fresh c.asked c.nodes c.asks c.answers
+calls_are_carried seen failures sent old new req call answer covers small may c = by_asked seen failures sent old new req call answer covers small may c.asked c.nodes c.asks c.answers

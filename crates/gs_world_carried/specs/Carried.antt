@@ -29,7 +29,7 @@ module _ {D : Type 0} (seen : D → List ℕ) (failures : D → ℕ) where
 
   -- ---- what is to hold
 
-  -- So it is of each call that a desk carries for a client under a fresh number, within its types, with a reply that is an answer.
+  -- So it is of each call that a desk carries for a client, within its types, with a reply that is an answer: then its number was fresh.
   abbrev pub CallsAreCarried : Type 0
-  CallsAreCarried = (sent : Sent) (old new : Way D) (req : ReqId) (call : Call) (answer : Answer) (node : Node) → Covers sent old → IsNumber old.moment.0 → IsNumber req.number × MayBeAsked (requests.Call call) → client_in old.nodes.clients req.client ≡ Some node → node.last < req.number →
+  CallsAreCarried = (sent : Sent) (old new : Way D) (req : ReqId) (call : Call) (answer : Answer) → Covers sent old → IsNumber old.moment.0 → IsNumber req.number × MayBeAsked (requests.Call call) →
       Carries seen failures req (requests.Call call) old (replies.Answer answer) new → IsCarried req.client old sent call answer new
