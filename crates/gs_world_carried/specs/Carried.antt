@@ -1,14 +1,12 @@
 -- What a desk carries for a client is a call with its answer.
-use Rattle.std.specs.Prelude.{[], ◌∷◌, ◌≡◌, ◌<◌, List, Some, ℕ}
+use Rattle.std.specs.Prelude.{[], ◌∷◌, ◌≡◌, List, ℕ}
 use Rattle.gs_base.specs.Told.{IsNumber}
 use Rattle.gs_base.specs.declared.numbers.ClientId.{ClientId}
 use Rattle.gs_base.specs.declared.numbers.ReqId.{ReqId}
-use Rattle.gs_client.specs.Nodes.{Node}
 use Rattle.gs_client.specs.declared.link.Reply.TheVariants as replies
 use Rattle.gs_msg.specs.declared.answer.Answer.{Answer}
 use Rattle.gs_msg.specs.declared.call.Call.{Call}
 use Rattle.gs_msg.specs.declared.event.Request.TheVariants as requests
-use Rattle.gs_nodes.specs.Happenings.{client_in}
 use Rattle.gs_shell_desk.specs.Ways.{Carries, Way}
 use Rattle.gs_world.specs.Histories.{History}
 use Rattle.gs_world.specs.Runs.{RunsTo, Takes}
