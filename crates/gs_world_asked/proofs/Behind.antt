@@ -200,7 +200,7 @@ pub all_one_more : {A : Type 0} (S : A → Type 0) (xs : List A) (x : A) → All
 all_one_more S [] x all one = (one, tt)
 all_one_more S (y ∷ xs) x all one = (all.0, all_one_more S xs x all.1 one)
 
-all_spare : (client : ClientId) (steps : List Step) → AllByRecursion (IsLooking client) steps → AllByRecursion (λ step. spares_master step ≡ true) steps
+pub all_spare : (client : ClientId) (steps : List Step) → AllByRecursion (IsLooking client) steps → AllByRecursion (λ step. spares_master step ≡ true) steps
 all_spare client [] all = tt
 all_spare client (step ∷ steps) all = (all.0.0, all_spare client steps all.1)
 
@@ -209,7 +209,7 @@ halt_commits calls.PrepareCommit is = refl
 halt_commits calls.RollbackCommit is = refl
 halt_commits call is = absurd (false≢true is)
 
-halt_at_once : (call : Call) → is_halt call ≡ true → is_answered_at_once call ≡ true
+pub halt_at_once : (call : Call) → is_halt call ≡ true → is_answered_at_once call ≡ true
 halt_at_once calls.PrepareCommit is = refl
 halt_at_once calls.RollbackCommit is = refl
 halt_at_once call is = absurd (false≢true is)

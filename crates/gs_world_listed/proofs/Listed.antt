@@ -38,7 +38,10 @@ use Rattle.gs_world_asked.specs.Answered.{WasAnswered}
 use Rattle.gs_world_asked.specs.Asked.{AreAsked}
 use Rattle.gs_world_asked.specs.Behind.{HasAnswer, ListsByCommit, StandsOn, asks_call, is_halt}
 use Rattle.gs_world_asked.proofs.Asked.{begins_asked, stays_unarmed}
-use Rattle.gs_world_asked.proofs.Behind.{MadeThere, all_back, all_front, firm_so, halt_commits, lists_are_by_commits, made_there, turn_is}
+use Rattle.gs_base.specs.Told.{IsNumber}
+use Rattle.gs_nodes.specs.Happenings.{client_in}
+use Rattle.gs_world_asked.proofs.Answered.{answers_are_made}
+use Rattle.gs_world_asked.proofs.Behind.{MadeThere, all_back, all_front, all_spare, firm_so, halt_at_once, halt_commits, lists_are_by_commits, made_there, turn_is}
 use Rattle.gs_world_chunks.proofs.Well.{IsWell, bare_well, begins_well, step_well}
 use Rattle.gs_world_chunks.specs.Back.{GoesBackBy, ToldNamesBack}
 use Rattle.gs_world_chunks.specs.Rising.{EpochsNeverFall}
@@ -47,7 +50,7 @@ use Rattle.gs_replica.specs.Seals.{Sealed}
 use Rattle.gs_world_laws.specs.Reached.{unarmed}
 use Rattle.gs_world_laws.specs.Saying.{IsStepWithin}
 use Rattle.gs_world_laws.specs.Through.{LastsThrough}
-use Rattle.gs_world_listed.specs.Listed.{ListsComeBack, ListsTwice}
+use Rattle.gs_world_listed.specs.Listed.{EpochsAreNumbers, ListsComeBack, ListsTwice}
 use Rattle.gs_world_listed.proofs.Commits.{IsPrepared, IsRolledBack, commit_so, prepare_so}
 use Rattle.gs_world_listed.proofs.Rising.{all_between, same_rising}
 
@@ -169,6 +172,10 @@ module _ (sizes : HaveSizes) {D : Type 0} (rises : (x : Setup D) → EpochsNever
           (handles made.answers.master.config s made.event.moment ∙ turn_is made.answers.master.config s c.req made.event.moment call (opened s.fault commits.sound) made.answers.apart made.answers.new)
           (events_fit made.answers.master.config s (Comes_to its_message made.event.moment) (halt_named call halt, within_here.0.0) firm).fits
 
+      after_firm : IsFirm t.after
+      after_firm = subst (λ (u : Turn). IsFirm u.after) (handles made.answers.master.config s made.event.moment ∙ turn_is made.answers.master.config s c.req made.event.moment call (opened s.fault commits.sound) made.answers.apart made.answers.new)
+          (events_fit made.answers.master.config s (Comes_to its_message made.event.moment) (halt_named call halt, within_here.0.0) firm).firm
+
       standing_is : {a b : MasterOf D} → ◌≡◌ {A = MasterPlace D} (Standing a) (Standing b) → a ≡ b
       standing_is is = cc
 
@@ -183,6 +190,50 @@ module _ (sizes : HaveSizes) {D : Type 0} (rises : (x : Setup D) → EpochsNever
 
       step : StepsWithin x (Comes made.event) made.now made.next
       step = step_bare (Comes made.event) made.now made.next (made.said, made.happens) within_here.0
+
+  -- ---- the epoch that is answered
+
+  module _ (given : IsGiven x) (client : ClientId) (old mid : History D) (call : Call) (epoch : ℕ) (halt : is_halt call ≡ true) (c : HasAnswer seen failures unarmed client old call (answers.Epoch epoch) mid) (g : Good given old) where
+    its_made : WasAnswered seen failures unarmed c.steps c.asked mid c.req call (answers.Epoch epoch)
+    its_made = answers_are_made seen failures unarmed old c.asked mid c.moment c.req call c.steps c.node (answers.Epoch epoch) g.are c.asks (halt_at_once call halt) c.runs (all_spare client c.steps c.looking)
+        (subst (λ k. client_in mid.nodes.clients k ≡ Some c.node) (sym c.own) c.there) c.last c.reply
+
+    its_there : MadeThere seen failures unarmed its_made.now its_made.event.moment its_made.answers.master c.req call (answers.Epoch epoch) its_made.next.nodes
+    its_there = made_there seen failures unarmed its_made.now its_made.event its_made.said its_made.next its_made.happens c.req call (answers.Epoch epoch) its_made.answers
+
+    its_commits : Commits its_made.answers.master.state c.req call (new_call its_made.answers.master.config its_made.answers.master.state c.req its_made.event.moment call)
+    its_commits = commits_had its_made.answers.master.config its_made.answers.master.state c.req its_made.event.moment call (answers.Epoch epoch) (halt_commits call halt) its_made.answers.new its_there.says
+
+    its_stands : StandsOn its_made.next.nodes.master its_there.after.state.durable
+    its_stands = record { master = its_there.after; stands = its_there.stands; sound = ap (λ (u : State). is_failed u.fault) its_there.is ∙ ap is_failed its_commits.fault ∙ its_commits.sound; keeps = refl }
+
+    its_fits : replayed its_made.answers.master.state.durable (new_call its_made.answers.master.config its_made.answers.master.state c.req its_made.event.moment call).records
+        ≡ Some (new_call its_made.answers.master.config its_made.answers.master.state c.req its_made.event.moment call).after.durable
+    its_fits = fits given client old mid call epoch halt c g its_made its_there.after.state.durable its_stands
+
+    its_firm : IsFirm its_made.answers.master.state
+    its_firm = firm given client old mid call epoch halt c g its_made its_there.after.state.durable its_stands
+
+    its_after_firm : IsFirm (new_call its_made.answers.master.config its_made.answers.master.state c.req its_made.event.moment call).after
+    its_after_firm = after_firm given client old mid call epoch halt c g its_made its_there.after.state.durable its_stands
+
+  numbers : (given : IsGiven x) (client : ClientId) (old mid : History D) (call : Call) (epoch : ℕ) (halt : is_halt call ≡ true) (c : HasAnswer seen failures unarmed client old call (answers.Epoch epoch) mid) → Good given old → IsNumber epoch
+  numbers given client old mid calls.PrepareCommit epoch halt c g =
+      let made = its_made given client old mid calls.PrepareCommit epoch halt c g in
+      let so = prepare_so made.answers.master.config made.answers.master.state c.req made.event.moment epoch (refused_before made.answers.master.state c.req calls.PrepareCommit) (its_there given client old mid calls.PrepareCommit epoch halt c g).says
+      (its_fits given client old mid calls.PrepareCommit epoch halt c g) in
+      subst IsNumber so.begins (its_after_firm given client old mid calls.PrepareCommit epoch halt c g).stands.kept.now
+  numbers given client old mid calls.RollbackCommit epoch halt c g =
+      let made = its_made given client old mid calls.RollbackCommit epoch halt c g in
+      let so = commit_so made.answers.master.config made.answers.master.state c.req made.event.moment epoch (refused_before made.answers.master.state c.req calls.RollbackCommit) (its_there given client old mid calls.RollbackCommit epoch halt c g).says
+      (its_fits given client old mid calls.RollbackCommit epoch halt c g) in
+      subst IsNumber so.within (its_firm given client old mid calls.RollbackCommit epoch halt c g).stands.kept.now
+  numbers given client old mid call epoch halt c g = absurd (false≢true halt)
+
+  pub epochs_so : EpochsAreNumbers seen failures config clients disks
+  epochs_so client call epoch new few begun old mid first begins runs within halt c =
+      let given : IsGiven x = record { new = new; few = few; armed = λ disk number place. still place; empty = refl } in
+      numbers given client old mid call epoch halt c (good_on given first begun old runs within (record { are = begins_asked sizes seen failures unarmed config clients disks begun new begins; well = begins_well x given begun begins }))
 
   -- ---- twice
 
@@ -306,3 +357,6 @@ module _ (sizes : HaveSizes) {D : Type 0} (rises : (x : Setup D) → EpochsNever
 
 pub lists_come_back : HaveSizes → {D : Type 0} → ((x : Setup D) → EpochsNeverFall x) → ((x : Setup D) → ToldNamesBack x) → (seen : D → List ℕ) (failures : D → ℕ) (config : Config) (clients : ℕ) (disks : D × D) → ListsComeBack seen failures config clients disks
 lists_come_back sizes {D} rises back seen failures config clients disks client path epoch had has l = same sizes rises back seen failures config clients disks client path epoch had has l
+
+pub epochs_are_numbers : HaveSizes → {D : Type 0} → ((x : Setup D) → EpochsNeverFall x) → ((x : Setup D) → ToldNamesBack x) → (seen : D → List ℕ) (failures : D → ℕ) (config : Config) (clients : ℕ) (disks : D × D) → EpochsAreNumbers seen failures config clients disks
+epochs_are_numbers sizes rises back seen failures config clients disks = epochs_so sizes rises back seen failures config clients disks

@@ -1,17 +1,19 @@
 -- What a client lists behind a prepare, and behind its rollback.
-use Rattle.std.specs.Prelude.{◌+◌, ◌≡◌, ◌<◌, List, ℕ}
+use Rattle.std.specs.Prelude.{◌+◌, ◌≡◌, ◌<◌, List, true, ℕ}
 use Rattle.std.proofs.Common.{◌^◌}
 use Rattle.std.specs.List.{AllByRecursion}
+use Rattle.gs_base.specs.Told.{IsNumber}
 use Rattle.gs_base.specs.declared.config.Config.{Config}
 use Rattle.gs_base.specs.declared.numbers.ClientId.{ClientId}
 use Rattle.gs_journal.specs.Records.{fresh, standing}
 use Rattle.gs_msg.specs.declared.answer.Answer.{Answer}
 use Rattle.gs_msg.specs.declared.answer.Answer.TheVariants as answers
+use Rattle.gs_msg.specs.declared.call.Call.{Call}
 use Rattle.gs_msg.specs.declared.call.Call.TheVariants as calls
 use Rattle.gs_path.specs.Path.{Path}
 use Rattle.gs_world.specs.Histories.{Begins, History}
 use Rattle.gs_world.specs.Runs.{RunsTo, Step}
-use Rattle.gs_world_asked.specs.Behind.{HasAnswer, IsOnly}
+use Rattle.gs_world_asked.specs.Behind.{HasAnswer, IsOnly, is_halt}
 use Rattle.gs_world_asked.specs.Resting.{IsLooking}
 use Rattle.gs_world_laws.specs.Reached.{unarmed}
 use Rattle.gs_world_laws.specs.Saying.{IsStepWithin}
@@ -56,3 +58,8 @@ module _ {D : Type 0} (seen : D → List ℕ) (failures : D → ℕ) (config : C
   -- Then it lists the same: the rollback is of that prepare, whatever has come between, and whatever disks fail.
   abbrev pub ListsComeBack : Type 0
   ListsComeBack = (client : ClientId) (path : Path) (epoch : ℕ) (had has : Answer) → ListsTwice client path epoch had has → has ≡ had
+
+  -- An epoch that is answered to the commit of a prepare, or of a rollback, is a number of 64 bits.
+  abbrev pub EpochsAreNumbers : Type 0
+  EpochsAreNumbers = (client : ClientId) (call : Call) (epoch : ℕ) → standing (seen disks.0) (seen disks.1) ≡ fresh → clients < 2 ^ 32 → (begun old mid : History D) (first : List Step) → Begins seen failures unarmed config clients disks begun → RunsTo seen failures unarmed first begun old →
+      AllByRecursion IsStepWithin first → is_halt call ≡ true → HasAnswer seen failures unarmed client old call (answers.Epoch epoch) mid → IsNumber epoch
