@@ -46,7 +46,7 @@ use Rattle.gs_world_laws.specs.Asking.{MayBeAsked, MayBeCalled}
 use Rattle.gs_world_laws.specs.Reached.{Covers, history, unarmed}
 use Rattle.gs_world_laws.specs.Saying.{IsStepWithin}
 use Rattle.gs_world_laws.specs.Within.{IsReachedWithin}
-use Rattle.gs_world_listed.specs.Listed.{ListsComeBack, ListsTwice}
+use Rattle.gs_world_listed.specs.Listed.{EpochsAreNumbers, ListsComeBack, ListsTwice}
 use Rattle.gs_shell_listed.proofs.Dialogues.{BeginsAndCommits, Lists, list_asks, prepare_asks, rollback_asks}
 use Rattle.gs_shell_listed.specs.Lines.{ListTheSame, ListTwice}
 
@@ -129,7 +129,7 @@ module _ {D : Type 0} (seen : D → List ℕ) (failures : D → ℕ) where
   may_call : (call : Call) → MayBeCalled call → MayBeAsked (requests.Call call)
   may_call call may = may
 
-  module _ (config : Config) (disks : D × D) (path : List ℕ) (epoch : ℕ) (had has : List ListedName) (l : ListTwice seen failures config disks path epoch had has) where
+  module _ (config : Config) (disks : D × D) (path : List ℕ) (epoch next : ℕ) (had has : List ListedName) (l : ListTwice seen failures config disks path epoch next had has) where
     r : IsReachedWithin seen failures config disks l.begun
     r = l.reached
 
@@ -157,14 +157,14 @@ module _ {D : Type 0} (seen : D → List ℕ) (failures : D → ℕ) where
     lines_on : StepsSo seen failures true (way_of l.listed.wire) (way_of l.later.wire) listed.after
     lines_on = lines_lead l.between l.texts l.listed l.later l.passes listed.after listed.covers small_two
 
-    two : BeginsAndCommits Carries_at (requests.Call calls.RollbackBegin) (requests.Call calls.RollbackCommit) (at l.later) (epoch + 1) (at l.back)
-    two = rolls_asks l.later l.back (epoch + 1) l.rolls
+    two : BeginsAndCommits Carries_at (requests.Call calls.RollbackBegin) (requests.Call calls.RollbackCommit) (at l.later) next (at l.back)
+    two = rolls_asks l.later l.back next l.rolls
 
     second : StepsSo seen failures true (way_of l.later.wire) (way_of two.mid.1) lines_on.after
     second = leads_on (at l.later) two.mid (requests.Call calls.RollbackBegin) two.reply (record { named = tt; met = λ names. tt }) two.begins lines_on.after lines_on.covers lines_on.moment
 
-    back : IsCarried seen failures (next_request two.mid.0).client (way_of two.mid.1) second.after calls.RollbackCommit (said.Epoch (epoch + 1)) (way_of l.back.wire)
-    back = answered_on second.after two.mid (at l.back) calls.RollbackCommit (said.Epoch (epoch + 1)) second.covers second.moment (record { named = tt; met = λ names. tt }) two.commits
+    back : IsCarried seen failures (next_request two.mid.0).client (way_of two.mid.1) second.after calls.RollbackCommit (said.Epoch next) (way_of l.back.wire)
+    back = answered_on second.after two.mid (at l.back) calls.RollbackCommit (said.Epoch next) second.covers second.moment (record { named = tt; met = λ names. tt }) two.commits
 
     small_three : IsNumber l.back.wire.moment.0
     small_three = subst (λ (m : Moment). IsNumber m.0) (sym back.moment) second.moment
@@ -245,7 +245,7 @@ module _ {D : Type 0} (seen : D → List ℕ) (failures : D → ℕ) where
 
     to_back : RunsTo seen failures unarmed S6 start back.mid
     to_back = join S5 (asks_call back.has.moment back.has.req calls.RollbackCommit ∷ back.has.steps) start (history second.after (way_of two.mid.1)) back.mid to_later
-        (ask_runs (next_request two.mid.0).client (history second.after (way_of two.mid.1)) calls.RollbackCommit (said.Epoch (epoch + 1)) back.mid back.has)
+        (ask_runs (next_request two.mid.0).client (history second.after (way_of two.mid.1)) calls.RollbackCommit (said.Epoch next) back.mid back.has)
 
     abbrev S7 : List Step
     S7 = S6 ++ (Takes (next_request two.mid.0).client ∷ [])
@@ -263,8 +263,31 @@ module _ {D : Type 0} (seen : D → List ℕ) (failures : D → ℕ) where
     its : (client : ClientId) (old : History D) (call : Call) (answer : Answer) (new : History D) (h : HasAnswer seen failures unarmed client old call answer new) (steps : List Step) → RunsTo seen failures unarmed steps start new → HasAnswer seen failures unarmed the_client old call answer new
     its client old call answer new h steps runs = subst (λ k. HasAnswer seen failures unarmed k old call answer new) (only_at steps new runs client h.node h.there) h
 
-    twice : ListsTwice seen failures config 1 disks the_client list_one.path epoch (said.Names had) (said.Names has)
-    twice = record {
+    prepare_has : HasAnswer seen failures unarmed the_client (history first.after (way_of one.mid.1)) calls.PrepareCommit (said.Epoch epoch) prepared.mid
+    prepare_has = its (next_request one.mid.0).client (history first.after (way_of one.mid.1)) calls.PrepareCommit (said.Epoch epoch) prepared.mid prepared.has S2 to_prepared
+
+    rollback_has : HasAnswer seen failures unarmed the_client (history second.after (way_of two.mid.1)) calls.RollbackCommit (said.Epoch next) back.mid
+    rollback_has = its (next_request two.mid.0).client (history second.after (way_of two.mid.1)) calls.RollbackCommit (said.Epoch next) back.mid back.has S6 to_back
+
+    within_one : AllByRecursion IsStepWithin S1
+    within_one = all_join IsStepWithin r.reached.steps first.steps r.within first.within
+
+    within_B : AllByRecursion IsStepWithin B
+    within_B = (tt, all_join IsStepWithin lines_on.steps second.steps lines_on.within second.within)
+
+    within_five : AllByRecursion IsStepWithin S5
+    within_five =
+        all_join IsStepWithin S4 B
+        (all_join IsStepWithin S3 (asks_call listed.has.moment listed.has.req (calls.List list_one.path) ∷ listed.has.steps)
+        (all_join IsStepWithin S2 (Takes (next_request one.mid.0).client ∷ []) (all_join IsStepWithin S1 (asks_call prepared.has.moment prepared.has.req calls.PrepareCommit ∷ prepared.has.steps) within_one prepared.has.within) (tt, tt)) listed.has.within) within_B
+
+    next_is : EpochsAreNumbers seen failures config 1 disks → next ≡ epoch + 1
+    next_is numbers =
+        l.follows (numbers the_client calls.PrepareCommit epoch l.new (omega arith) start (history first.after (way_of one.mid.1)) prepared.mid S1 r.reached.begins to_old within_one refl prepare_has)
+        (numbers the_client calls.RollbackCommit next l.new (omega arith) start (history second.after (way_of two.mid.1)) back.mid S5 r.reached.begins to_later within_five refl rollback_has)
+
+    twice : EpochsAreNumbers seen failures config 1 disks → ListsTwice seen failures config 1 disks the_client list_one.path epoch (said.Names had) (said.Names has)
+    twice numbers = record {
       new = l.new;
       few = omega arith;
       begun = start;
@@ -272,9 +295,9 @@ module _ {D : Type 0} (seen : D → List ℕ) (failures : D → ℕ) where
       first = S1;
       old = history first.after (way_of one.mid.1);
       runs = to_old;
-      within = all_join IsStepWithin r.reached.steps first.steps r.within first.within;
+      within = within_one;
       prepared = prepared.mid;
-      prepares = its (next_request one.mid.0).client (history first.after (way_of one.mid.1)) calls.PrepareCommit (said.Epoch epoch) prepared.mid prepared.has S2 to_prepared;
+      prepares = prepare_has;
       only = only_at S2 prepared.mid to_prepared;
       way = record { steps = Takes (next_request one.mid.0).client ∷ []; end = history prepared.after (way_of l.prepared.wire); runs = prepared.takes; within = (tt, tt); looking = ((refl, tt), tt) };
       listed = listed.mid;
@@ -282,9 +305,9 @@ module _ {D : Type 0} (seen : D → List ℕ) (failures : D → ℕ) where
       between = B;
       later = history second.after (way_of two.mid.1);
       passes = passes;
-      within_between = (tt, all_join IsStepWithin lines_on.steps second.steps lines_on.within second.within);
+      within_between = within_B;
       back = back.mid;
-      commits = its (next_request two.mid.0).client (history second.after (way_of two.mid.1)) calls.RollbackCommit (said.Epoch (epoch + 1)) back.mid back.has S6 to_back;
+      commits = subst (λ k. HasAnswer seen failures unarmed the_client (history second.after (way_of two.mid.1)) calls.RollbackCommit (said.Epoch k) back.mid) (next_is numbers) rollback_has;
       only_then = only_at S6 back.mid to_back;
       way_then = record { steps = Takes (next_request two.mid.0).client ∷ []; end = history back.after (way_of l.back.wire); runs = back.takes; within = (tt, tt); looking = ((refl, tt), tt) };
       last = again.mid;
@@ -295,8 +318,9 @@ module _ {D : Type 0} (seen : D → List ℕ) (failures : D → ℕ) where
     names_are : {a b : List ListedName} → said.Names a ≡ said.Names b → a ≡ b
     names_are is = cc
 
-    pub the_same : ListsComeBack seen failures config 1 disks → has ≡ had
-    the_same law = names_are (law the_client list_one.path epoch (said.Names had) (said.Names has) twice)
+    pub the_same : EpochsAreNumbers seen failures config 1 disks → ListsComeBack seen failures config 1 disks → has ≡ had
+    the_same numbers law = names_are (law the_client list_one.path epoch (said.Names had) (said.Names has) (twice numbers))
 
-pub list_the_same : {D : Type 0} → ((seen : D → List ℕ) (failures : D → ℕ) (config : Config) (clients : ℕ) (disks : D × D) → ListsComeBack seen failures config clients disks) → (seen : D → List ℕ) (failures : D → ℕ) (config : Config) (disks : D × D) → ListTheSame seen failures config disks
-list_the_same law seen failures config disks path epoch had has l = the_same seen failures config disks path epoch had has l (law seen failures config 1 disks)
+pub list_the_same : {D : Type 0} → ((seen : D → List ℕ) (failures : D → ℕ) (config : Config) (clients : ℕ) (disks : D × D) → EpochsAreNumbers seen failures config clients disks)
+    → ((seen : D → List ℕ) (failures : D → ℕ) (config : Config) (clients : ℕ) (disks : D × D) → ListsComeBack seen failures config clients disks) → (seen : D → List ℕ) (failures : D → ℕ) (config : Config) (disks : D × D) → ListTheSame seen failures config disks
+list_the_same numbers law seen failures config disks path epoch next had has l = the_same seen failures config disks path epoch next had has l (numbers seen failures config 1 disks) (law seen failures config 1 disks)

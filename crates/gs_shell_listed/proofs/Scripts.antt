@@ -1,13 +1,13 @@
 -- What a script is answered to `ls` right behind a prepare, and right behind its rollback.
-use Rattle.std.proofs.Common.{◌≡◌, ◌∙◌, ◌⊎◌, inl, inr, ◌++◌, ◌+◌, ℕ, suc, Bool, true, false, List, [], ◌∷◌, Option, Some, None, MatchOption, Result, Ok, Err, length, nat_le, refl, sym, ap, subst}
-use Rattle.std.specs.Prelude.{codes, decimal, take}
+use Rattle.std.proofs.Common.{◌≡◌, ◌∙◌, inl, inr, ◌++◌, ◌+◌, ℕ, suc, Bool, true, false, List, [], ◌∷◌, Option, Some, None, MatchOption, Result, Ok, Err, length, nat_le, refl, sym, ap, subst, arith}
+use Rattle.std.specs.Prelude.{codes, decimal}
+use Rattle.gs_base.specs.Told.{IsNumber}
 use Rattle.gs_base.specs.declared.config.Config.{Config}
 use Rattle.gs_base.specs.declared.refusal.Refusal.{Refusal}
 use Rattle.gs_base.specs.declared.refusal.Refusal.TheVariants as refusals
 use Rattle.gs_client.specs.Sends.{Sends as Asks}
 use Rattle.gs_journal.specs.Records.{fresh, standing}
 use Rattle.gs_msg.specs.declared.lists.ListedName.{ListedName}
-use Rattle.gs_shell.specs.Serving.{Serves}
 use Rattle.gs_shell_calls.specs.Texts.{answer_text}
 use Rattle.gs_shell_calls.specs.declared.answer.Answer.{Answer}
 use Rattle.gs_shell_calls.specs.declared.answer.Answer.TheVariants as answers
@@ -22,8 +22,8 @@ use Rattle.gs_shell_script.specs.Run as script
 use Rattle.gs_shell_script.specs.Run.{lines_of}
 use Rattle.gs_world_laws.proofs.Lines.{line_reaches, start_reaches}
 use Rattle.gs_world_laws.specs.Within.{IsReachedWithin}
-use Rattle.gs_shell_listed.proofs.Texts.{list_comes, names_told, number_told, prepare_comes, refused_never, rollback_comes}
-use Rattle.gs_shell_listed.specs.Lines.{ListTheSame, ListTwice}
+use Rattle.gs_shell_listed.proofs.Texts.{list_comes, names_told, number_told, prepare_comes, refused_never, rollback_comes, same_numbers}
+use Rattle.gs_shell_listed.specs.Lines.{ListTheSame}
 use Rattle.gs_shell_listed.specs.Scripts.{AreListedTwice, AsksFor, IsAccepted, ScriptsListTheSame}
 
 module _ {D : Type 0} (seen : D → List ℕ) (failures : D → ℕ) where
@@ -73,19 +73,24 @@ module _ {D : Type 0} (seen : D → List ℕ) (failures : D → ℕ) where
 
   -- ---- which answer it is
 
-  prepared : (line : List ℕ) (epoch : ℕ) (old new : Desk D) → AsksFor (lines.RollingUpgrade upgrades.Prepare) line → Line_answered old line (codes "ok " ++ decimal epoch) new → Comes seen failures (lines.RollingUpgrade upgrades.Prepare) old (Ok (answers.Number epoch)) new
+  record Epoch_at (request : Request) (epoch : ℕ) (old new : Desk D) : Type 0 where
+    number : ℕ
+    comes : Comes seen failures request old (Ok (answers.Number number)) new
+    digits : decimal number ≡ decimal epoch
+
+  prepared : (line : List ℕ) (epoch : ℕ) (old new : Desk D) → AsksFor (lines.RollingUpgrade upgrades.Prepare) line → Line_answered old line (codes "ok " ++ decimal epoch) new → Epoch_at (lines.RollingUpgrade upgrades.Prepare) epoch old new
   unfolding Comes
   prepared line epoch old new asks a =
       let c = came (lines.RollingUpgrade upgrades.Prepare) line (codes "ok " ++ decimal epoch) old new asks refl a in
-      subst (λ r. Comes seen failures (lines.RollingUpgrade upgrades.Prepare) old r new)
-      (number_told c.answer (codes "ok " ++ decimal epoch) epoch (prepare_comes (Asks (carried seen failures)) (old.caller.client, old.wire) (new.caller.client, new.wire) c.answer c.comes) c.told refl) c.comes
+      let found = number_told c.answer (codes "ok " ++ decimal epoch) epoch (prepare_comes (Asks (carried seen failures)) (old.caller.client, old.wire) (new.caller.client, new.wire) c.answer c.comes) c.told refl in
+      record { number = found.0; comes = subst (λ r. Comes seen failures (lines.RollingUpgrade upgrades.Prepare) old r new) found.1 c.comes; digits = found.2 }
 
-  rolled : (line : List ℕ) (epoch : ℕ) (old new : Desk D) → AsksFor (lines.RollingUpgrade upgrades.Rollback) line → Line_answered old line (codes "ok " ++ decimal epoch) new → Comes seen failures (lines.RollingUpgrade upgrades.Rollback) old (Ok (answers.Number epoch)) new
+  rolled : (line : List ℕ) (epoch : ℕ) (old new : Desk D) → AsksFor (lines.RollingUpgrade upgrades.Rollback) line → Line_answered old line (codes "ok " ++ decimal epoch) new → Epoch_at (lines.RollingUpgrade upgrades.Rollback) epoch old new
   unfolding Comes
   rolled line epoch old new asks a =
       let c = came (lines.RollingUpgrade upgrades.Rollback) line (codes "ok " ++ decimal epoch) old new asks refl a in
-      subst (λ r. Comes seen failures (lines.RollingUpgrade upgrades.Rollback) old r new)
-      (number_told c.answer (codes "ok " ++ decimal epoch) epoch (rollback_comes (Asks (carried seen failures)) (old.caller.client, old.wire) (new.caller.client, new.wire) c.answer c.comes) c.told refl) c.comes
+      let found = number_told c.answer (codes "ok " ++ decimal epoch) epoch (rollback_comes (Asks (carried seen failures)) (old.caller.client, old.wire) (new.caller.client, new.wire) c.answer c.comes) c.told refl in
+      record { number = found.0; comes = subst (λ r. Comes seen failures (lines.RollingUpgrade upgrades.Rollback) old r new) found.1 c.comes; digits = found.2 }
 
   record Listed (path text : List ℕ) (old new : Desk D) : Type 0 where
     names : List ListedName
@@ -124,19 +129,25 @@ module _ {D : Type 0} (seen : D → List ℕ) (failures : D → ℕ) where
         let first = split q.before q.texts_before (q.prepare ∷ q.list ∷ (q.between ++ q.rollback ∷ q.again ∷ q.behind)) ((codes "ok " ++ decimal epoch) ∷ had ∷ (q.texts_between ++ (codes "ok " ++ decimal (epoch + 1)) ∷ has ∷ q.texts_behind)) begun ended q.long_before told in
         by_first first.0 (reached q.before q.texts_before begun first.0 first.1 r) first.2
       where
+        lower : (k : ℕ) → IsNumber (k + 1) → IsNumber k
+        lower k small = omega arith
+
         by_second : (start mid listed_at later : Desk D) → IsReachedWithin seen failures config disks start → Line_answered start q.prepare (codes "ok " ++ decimal epoch) mid → Line_answered mid q.list had listed_at → Lines_run listed_at q.between q.texts_between later
             → Lines_run later (q.rollback ∷ q.again ∷ q.behind) ((codes "ok " ++ decimal (epoch + 1)) ∷ has ∷ q.texts_behind) ended → has ≡ had
         by_second start mid listed_at later reached_there a b lines_between (back, c, (last, e, rest)) =
             let one = listed path q.list had mid listed_at q.lists q.was b in
             let two = listed path q.again has back last q.repeats q.is e in
+            let first = prepared q.prepare epoch start mid q.prepares a in
+            let next = rolled q.rollback (epoch + 1) later back q.rolls c in
             two.is
             ∙ ap (λ names. answer_text (Ok (answers.Names names)))
-            (law path epoch one.names two.names (record {
+            (law path first.number next.number one.names two.names (record {
               new = new;
+              follows = λ small high. same_numbers next.number (epoch + 1) high q.small next.digits ∙ ap (λ k. k + 1) (sym (same_numbers first.number epoch small (lower epoch q.small) first.digits));
               begun = start;
               reached = reached_there;
               prepared = mid;
-              prepares = prepared q.prepare epoch start mid q.prepares a;
+              prepares = first.comes;
               listed = listed_at;
               lists = one.comes;
               between = q.between;
@@ -144,7 +155,7 @@ module _ {D : Type 0} (seen : D → List ℕ) (failures : D → ℕ) where
               later = later;
               passes = lines_between;
               back = back;
-              rolls = rolled q.rollback (epoch + 1) later back q.rolls c;
+              rolls = next.comes;
               last = last;
               again = two.comes;
             }))

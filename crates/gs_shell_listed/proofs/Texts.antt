@@ -1,7 +1,8 @@
 -- What a text of an answer tells of it.
-use Rattle.std.proofs.Common.{◌≡◌, ◌∙◌, ◌⊎◌, inl, inr, ◌++◌, ◌+◌, ℕ, Bool, true, false, List, [], ◌∷◌, Option, Some, None, Result, Ok, Err, refl, sym, ap, subst, arith, if◌then◌else◌}
+use Rattle.std.proofs.Common.{◌≡◌, ◌∙◌, ◌⊎◌, inl, inr, ◌++◌, ℕ, Bool, true, false, List, [], ◌∷◌, Result, Ok, Err, refl, sym, ap, arith, if◌then◌else◌}
 use Rattle.std.specs.Prelude.{codes, decimal, get_or, take}
 use Rattle.std.proofs.lemmas.Fmt.{decimal_injective}
+use Rattle.gs_base.specs.Told.{IsNumber}
 use Rattle.gs_base.specs.Refusals.{refusal_text}
 use Rattle.gs_base.specs.declared.refusal.Refusal.{Refusal}
 use Rattle.gs_base.specs.declared.refusal.Refusal.TheVariants as refusals
@@ -68,7 +69,7 @@ first_of_two (x ∷ xs) = refl
 pub refused_never : {Z : Type 0} (r : Refusal) (text : List ℕ) → text ≡ refusal_text r → IsAccepted text → Z
 refused_never r text is accepted = absurd (apart (sym (refusal_first r) ∙ ap (λ (t : List ℕ). get_or t 0 0) (sym is) ∙ sym (first_of_two text) ∙ ap (λ (t : List ℕ). get_or t 0 0) accepted))
   where
-    apart : 114 ≡ 111 → ⊥
+    apart : ◌≡◌ {A = ℕ} 114 111 → ⊥
     apart is = omega arith
 
 -- ---- what lines come to
@@ -120,15 +121,19 @@ module _ {S : Type 0} (carries : S → Request → Reply → S → Type 0) where
 
 -- ---- which answer it is
 
-number_of : (a b : ℕ) → codes "ok " ++ decimal a ≡ codes "ok " ++ decimal b → a ≡ b
-number_of a b is = decimal_injective a b (tail is)
+same_digits : (a b : ℕ) → codes "ok " ++ decimal a ≡ codes "ok " ++ decimal b → decimal a ≡ decimal b
+same_digits a b is = tail is
   where
     tail : {x y : List ℕ} → codes "ok " ++ x ≡ codes "ok " ++ y → x ≡ y
     tail is = cc
 
-pub number_told : (result : Result Answer Refusal) (text : List ℕ) (epoch : ℕ) → ((k : ℕ) × (result ≡ Ok (answers.Number k))) ⊎ ((refusal : Refusal) × (result ≡ Err refusal)) → IsText result text → text ≡ codes "ok " ++ decimal epoch → result ≡ Ok (answers.Number epoch)
+-- numbers of 64 bits with the same digits are the same
+pub same_numbers : (a b : ℕ) → IsNumber a → IsNumber b → decimal a ≡ decimal b → a ≡ b
+same_numbers a b first second is = decimal_injective a b first second is
+
+pub number_told : (result : Result Answer Refusal) (text : List ℕ) (epoch : ℕ) → ((k : ℕ) × (result ≡ Ok (answers.Number k))) ⊎ ((refusal : Refusal) × (result ≡ Err refusal)) → IsText result text → text ≡ codes "ok " ++ decimal epoch → (k : ℕ) × (result ≡ Ok (answers.Number k)) × (decimal k ≡ decimal epoch)
 number_told result text epoch what (inr memory) is = refused_never refusals.Memory text memory (ap (take 2) is)
-number_told result text epoch (inl (k, number)) (inl told) is = number ∙ ap (λ n. Ok (answers.Number n)) (number_of k epoch (sym (ap answer_text number) ∙ sym told ∙ is))
+number_told result text epoch (inl (k, number)) (inl told) is = (k, number, same_digits k epoch (sym (ap answer_text number) ∙ sym told ∙ is))
 number_told result text epoch (inr (refusal, refused)) (inl told) is = refused_never refusal text (told ∙ ap answer_text refused) (ap (take 2) is)
 
 pub names_told : (result : Result Answer Refusal) (text : List ℕ) → ((names : List ListedName) × (result ≡ Ok (answers.Names names))) ⊎ ((refusal : Refusal) × (result ≡ Err refusal)) → IsText result text → IsAccepted text

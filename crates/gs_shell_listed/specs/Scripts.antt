@@ -1,5 +1,6 @@
 -- What a script is answered to `ls` right behind a prepare, and right behind its rollback.
-use Rattle.std.specs.Prelude.{◌+◌, ◌++◌, ◌∷◌, ◌≡◌, List, Option, Some, codes, decimal, length, nat_le, take, true, ℕ}
+use Rattle.std.specs.Prelude.{◌+◌, ◌++◌, ◌∷◌, ◌≡◌, List, Option, Some, codes, decimal, length, take, ℕ}
+use Rattle.gs_base.specs.Told.{IsNumber}
 use Rattle.gs_base.specs.declared.config.Config.{Config}
 use Rattle.gs_journal.specs.Records.{fresh, standing}
 use Rattle.gs_shell.specs.Serving.{Serves}
@@ -19,11 +20,19 @@ AsksFor request line = line_request (content line) ≡ Some request
 
 -- Of the lines of a script, and of their answers: `rollingUpgrade prepare` is answered by an epoch, and `ls` of a path right behind it by a list. Behind any lines `rollingUpgrade rollback` is answered by the next epoch, and the same `ls` right behind it by a list.
 pub record AreListedTwice (all texts : List (List ℕ)) (path : List ℕ) (epoch : ℕ) (had has : List ℕ) : Type 0 where
-  pub before between behind : List (List ℕ)
-  pub prepare list rollback again : List ℕ
+  pub before : List (List ℕ)
+  pub prepare : List ℕ
+  pub list : List ℕ
+  pub between : List (List ℕ)
+  pub rollback : List ℕ
+  pub again : List ℕ
+  pub behind : List (List ℕ)
   pub lines_are : all ≡ before ++ prepare ∷ list ∷ (between ++ rollback ∷ again ∷ behind)
-  pub texts_before texts_between texts_behind : List (List ℕ)
+  pub texts_before : List (List ℕ)
+  pub texts_between : List (List ℕ)
+  pub texts_behind : List (List ℕ)
   pub texts_are : texts ≡ texts_before ++ (codes "ok " ++ decimal epoch) ∷ had ∷ (texts_between ++ (codes "ok " ++ decimal (epoch + 1)) ∷ has ∷ texts_behind)
+  pub small : IsNumber (epoch + 1)
   pub long_before : length texts_before ≡ length before
   pub long_between : length texts_between ≡ length between
   pub prepares : AsksFor (lines.RollingUpgrade upgrades.Prepare) prepare

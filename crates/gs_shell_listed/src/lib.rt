@@ -6,13 +6,17 @@ ghost use Rattle.gs_shell_listed.specs.Lines.{ListTheSame};
 ghost use Rattle.gs_shell_listed.specs.Scripts.{ScriptsListTheSame};
 ghost use Rattle.std.specs.Prelude.{List, ℕ};
 
-use gs_world_listed::what_is_listed_behind_a_rollback_is_what_was_listed_behind_its_prepare;
+use gs_world_listed::{
+    epochs_that_are_answered_are_numbers,
+    what_is_listed_behind_a_rollback_is_what_was_listed_behind_its_prepare,
+};
 
 /// A desk answers an epoch to `rollingUpgrade prepare`, and names to `ls` of a path right behind that; behind any lines it answers the next epoch to `rollingUpgrade rollback`, and names to the same `ls` right behind that. These names
 /// are the same, whatever lines come between, and whatever disks fail.
 pub fn what_is_listed_twice_by_lines_is_the_same<D>()
     ensures { (seen : D → List ℕ) (failures : D → ℕ) (config : Config) (disks : D × D) → ListTheSame seen failures config disks }
 {
+    epochs_that_are_answered_are_numbers::<D>();
     what_is_listed_behind_a_rollback_is_what_was_listed_behind_its_prepare::<D>();
 }
 
@@ -21,5 +25,6 @@ pub fn what_is_listed_twice_by_lines_is_the_same<D>()
 pub fn what_a_script_lists_behind_a_rollback_is_what_it_listed_behind_its_prepare<D>()
     ensures { ScriptsListTheSame D }
 {
+    epochs_that_are_answered_are_numbers::<D>();
     what_is_listed_behind_a_rollback_is_what_was_listed_behind_its_prepare::<D>();
 }
