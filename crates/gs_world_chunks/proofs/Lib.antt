@@ -67,3 +67,4 @@ pub mod SeeingThrough
 mod MasterSays
 mod Cutting
 mod ToldBack
+mod Rising

@@ -23,3 +23,4 @@ pub mod Accepting
 pub mod Back
 pub mod Hearing
 pub mod SeenThrough
+pub mod Rising

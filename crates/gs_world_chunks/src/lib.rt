@@ -6,6 +6,7 @@
 ghost use Rattle.std.specs.Prelude.{List, ℕ, ◌≡◌, Bool, [], true};
 ghost use Rattle.gs_base.specs.declared.config.Config.{Config};
 ghost use Rattle.gs_base.specs.declared.numbers.ReqId.{ReqId};
+ghost use Rattle.gs_world_chunks.specs.Rising.{EpochsNeverFall};
 ghost use Rattle.gs_world_chunks.specs.Running.{Setup, BlocksAmong, FirstIsOne, HaveAccounts, NextIsOne, ReachedStaySound};
 ghost use Rattle.gs_world_chunks.specs.SeenThrough.{EachIsSeenThrough, EachSeesOnThrough, ReachedStayThrough};
 ghost use Rattle.gs_world_chunks.specs.Agreeing.{BirthsAgree, BlanksStay, ListsStayOn, MastersAgree, MastersKeepLists, ServersAgree, ServersKeepLists, StillAgree, StillKeepsLists};
@@ -288,3 +289,9 @@ pub fn a_rollback_gives_back_names_and_bytes<D>()
     configurations_have_sizes();
     a_message_edits_a_replica_by_what_it_says();
 }
+
+/// Epochs never fall over a run, whatever disks of the master fail in it; and where the epoch is the same at two places of it, so is the phase, or a rollback was committed between. It is said of what is told: by a master of which no disk has failed, or
+/// else by its disks.
+pub fn epochs_never_fall<D>()
+    ensures { (x : Setup D) → EpochsNeverFall x }
+{}

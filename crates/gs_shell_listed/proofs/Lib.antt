@@ -1,0 +1,4 @@
+pub mod Dialogues
+pub mod Lines
+pub mod Texts
+pub mod Scripts

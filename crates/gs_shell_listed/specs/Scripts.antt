@@ -1,0 +1,98 @@
+-- What a script is answered to `ls` right behind a prepare, and right behind its rollback.
+use Rattle.std.specs.Prelude.{◌+◌, ◌++◌, ◌∷◌, ◌≡◌, List, Option, Some, codes, decimal, length, take, ℕ, [], get_or, refl}
+use Rattle.std.proofs.Common.{ap, arith}
+use Rattle.std.specs.Char.{encode_utf8}
+use Rattle.std.specs.Fmt.{digits}
+use Rattle.std.specs.Str.{chars, is_utf8}
+use Rattle.gs_base.specs.Told.{IsNumber}
+use Rattle.gs_base.specs.declared.config.Config.{Config}
+use Rattle.gs_journal.specs.Records.{fresh, standing}
+use Rattle.gs_shell.specs.Serving.{Serves}
+use Rattle.gs_shell_grammar.specs.Grammar.{Request, line_request, two_words, upgrade_line}
+use Rattle.gs_shell_grammar.specs.Grammar as lines
+use Rattle.gs_shell_grammar.specs.declared.command.Upgrade.TheVariants as upgrades
+use Rattle.gs_shell_line.specs.Line.{content}
+use Rattle.gs_shell_script.specs.Run.{lines_of}
+
+-- an answer that isn't a refusal
+abbrev pub IsAccepted : List ℕ → Type 0
+IsAccepted text = take 2 text ≡ codes "ok"
+
+-- what a line asks for
+abbrev pub AsksFor : Request → List ℕ → Type 0
+AsksFor request line = line_request (content line) ≡ Some request
+
+-- Of the lines of a script, and of their answers: `rollingUpgrade prepare` is answered by an epoch, and `ls` of a path right behind it by a list. Behind any lines `rollingUpgrade rollback` is answered by the next epoch, and the same `ls` right behind it by a list.
+pub record AreListedTwice (all texts : List (List ℕ)) (path : List ℕ) (epoch : ℕ) (had has : List ℕ) : Type 0 where
+  pub before : List (List ℕ)
+  pub prepare : List ℕ
+  pub list : List ℕ
+  pub between : List (List ℕ)
+  pub rollback : List ℕ
+  pub again : List ℕ
+  pub behind : List (List ℕ)
+  pub lines_are : all ≡ before ++ prepare ∷ list ∷ (between ++ rollback ∷ again ∷ behind)
+  pub texts_before : List (List ℕ)
+  pub texts_between : List (List ℕ)
+  pub texts_behind : List (List ℕ)
+  pub texts_are : texts ≡ texts_before ++ (codes "ok " ++ decimal epoch) ∷ had ∷ (texts_between ++ (codes "ok " ++ decimal (epoch + 1)) ∷ has ∷ texts_behind)
+  pub small : IsNumber (epoch + 1)
+  pub long_before : length texts_before ≡ length before
+  pub long_between : length texts_between ≡ length between
+  pub prepares : AsksFor (lines.RollingUpgrade upgrades.Prepare) prepare
+  pub lists : AsksFor (lines.Ls path) list
+  pub rolls : AsksFor (lines.RollingUpgrade upgrades.Rollback) rollback
+  pub repeats : AsksFor (lines.Ls path) again
+  pub was : IsAccepted had
+  pub is : IsAccepted has
+
+-- ---- what is to hold
+
+-- Then both lists are the same: whatever lines come before, between and behind, lines that damage blocks among them, and whatever disks fail.
+abbrev pub ScriptsListTheSame : Type 0 → Type 0
+ScriptsListTheSame D = (seen : D → List ℕ) (failures : D → ℕ) (config : Config) (disks : D × D) (input : List ℕ) (old new : Option (List ℕ)) (s : Serves seen failures config disks input old new) → standing (seen disks.0) (seen disks.1) ≡ fresh →
+    (path : List ℕ) (epoch : ℕ) (had has : List ℕ) → AreListedTwice (lines_of input) s.writes.texts path epoch had has → has ≡ had
+
+-- ---- examples: a script of four lines that is answered so
+
+abbrev some_lines : List (List ℕ)
+some_lines = (codes "rollingUpgrade prepare" ++ 10 ∷ []) ∷ (codes "ls /" ++ 10 ∷ []) ∷ (codes "rollingUpgrade rollback" ++ 10 ∷ []) ∷ (codes "ls /" ++ 10 ∷ []) ∷ []
+
+abbrev some_texts : List ℕ → List ℕ → List (List ℕ)
+some_texts had has = codes "ok 1" ∷ had ∷ codes "ok 2" ∷ has ∷ []
+
+they_are_lines : lines_of (codes "rollingUpgrade prepare" ++ 10 ∷ codes "ls /" ++ 10 ∷ codes "rollingUpgrade rollback" ++ 10 ∷ codes "ls /" ++ 10 ∷ []) ≡ some_lines
+they_are_lines = refl
+
+-- so it is asked that both lists are the same
+it_is_such_a_script : (had has : List ℕ) → IsAccepted had → IsAccepted has → AreListedTwice some_lines (some_texts had has) (codes "/") 1 had has
+unfolding two_words upgrade_line is_utf8 chars encode_utf8 digits
+it_is_such_a_script had has was is = record {
+  before = [];
+  prepare = codes "rollingUpgrade prepare" ++ 10 ∷ [];
+  list = codes "ls /" ++ 10 ∷ [];
+  between = [];
+  rollback = codes "rollingUpgrade rollback" ++ 10 ∷ [];
+  again = codes "ls /" ++ 10 ∷ [];
+  behind = [];
+  lines_are = refl;
+  texts_before = [];
+  texts_between = [];
+  texts_behind = [];
+  texts_are = refl;
+  small = omega arith;
+  long_before = refl;
+  long_between = refl;
+  prepares = refl;
+  lists = refl;
+  rolls = refl;
+  repeats = refl;
+  was = was;
+  is = is;
+}
+
+a_list_that_is_refused_is_no_answer : IsAccepted (codes "refused 1 BadPath") → ⊥
+a_list_that_is_refused_is_no_answer is = apart (ap (λ (t : List ℕ). get_or t 0 0) is)
+  where
+    apart : ◌≡◌ {A = ℕ} 114 111 → ⊥
+    apart is = omega arith

@@ -1,0 +1,30 @@
+//! What `ls` is answered right behind an accepted rollback is what it was answered right behind its prepare.
+#![tactic(auto)]
+
+ghost use Rattle.gs_base.specs.declared.config.Config.{Config};
+ghost use Rattle.gs_shell_listed.specs.Lines.{ListTheSame};
+ghost use Rattle.gs_shell_listed.specs.Scripts.{ScriptsListTheSame};
+ghost use Rattle.std.specs.Prelude.{List, ℕ};
+
+use gs_world_listed::{
+    epochs_that_are_answered_are_numbers,
+    what_is_listed_behind_a_rollback_is_what_was_listed_behind_its_prepare,
+};
+
+/// A desk answers an epoch to `rollingUpgrade prepare`, and names to `ls` of a path right behind that; behind any lines it answers the next epoch to `rollingUpgrade rollback`, and names to the same `ls` right behind that. These names
+/// are the same, whatever lines come between, and whatever disks fail.
+pub fn what_is_listed_twice_by_lines_is_the_same<D>()
+    ensures { (seen : D → List ℕ) (failures : D → ℕ) (config : Config) (disks : D × D) → ListTheSame seen failures config disks }
+{
+    epochs_that_are_answered_are_numbers::<D>();
+    what_is_listed_behind_a_rollback_is_what_was_listed_behind_its_prepare::<D>();
+}
+
+/// For every script over disks that said nothing, what `ls` of a path is answered right behind an accepted rollback is what it was answered right behind its prepare, wherever both answer: byte for byte, whatever else the script does, whatever lines come between, and whatever disks of the master fail. The rollback is of that prepare since
+/// it is answered the next epoch.
+pub fn what_a_script_lists_behind_a_rollback_is_what_it_listed_behind_its_prepare<D>()
+    ensures { ScriptsListTheSame D }
+{
+    epochs_that_are_answered_are_numbers::<D>();
+    what_is_listed_behind_a_rollback_is_what_was_listed_behind_its_prepare::<D>();
+}

@@ -1,0 +1,5 @@
+pub mod Answered
+pub mod Asked
+pub mod Parts
+pub mod Resting
+pub mod Behind

@@ -1,0 +1,10 @@
+//! What a desk carries for a client is a call with its answer, as the laws of calls have it.
+#![tactic(auto)]
+
+ghost use Rattle.gs_world_carried.specs.Carried.{CallsAreCarried};
+ghost use Rattle.std.specs.Prelude.{List, ℕ};
+
+/// A desk carries a call of a client to an answer: that is a run of a store, in which the client asks under that number, and has the answer behind deliveries and ticks, at which nothing is asked; and then it takes it.
+pub fn a_call_that_is_carried_has_its_answer<D>()
+    ensures { (seen : D → List ℕ) (failures : D → ℕ) → CallsAreCarried seen failures }
+{}
