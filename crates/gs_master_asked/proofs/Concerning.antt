@@ -162,7 +162,7 @@ module _ (P : ReqId → Type 0) (s : State) (t : Turn) (so : TurnSo P s t) where
     rests = λ none. (record { names = (only.rests none).0.names; phase = (only.rests none).0.phase; epoch = (only.rests none).0.epoch; replies = (only.rests none).0.replies }, (only.rests none).1);
     cut_rests = λ none place within.
         subst (λ (es : List PlainEntry). StaysAtRest s (fold with_record s es)) (sym (take-append-le place t.records (Whole (checkpoint_of t.after.durable) ∷ []) (before_last place t.records (Whole (checkpoint_of t.after.durable)) within)))
-            (some_rest P s place t.records none so.records);
+        (some_rest P s place t.records none so.records);
     cuts = λ place within.
         subst (λ (es : List PlainEntry). KeepsOn P s.durable.replies (fold with_record s es).durable.replies) (sym (take-append-le place t.records (Whole (checkpoint_of t.after.durable) ∷ []) (before_last place t.records (Whole (checkpoint_of t.after.durable)) within)))
         (records_done P (take place t.records) s (some_records P place t.records (records_of P t.records so.records)));
