@@ -41,8 +41,8 @@ never : {A Z : Type 0} {a : A} {e : Refusal} → ◌≡◌ {A = Result A Refusal
 never is = absurd (cc)
 
 module _ (path : Path) where
-  -- Whatever is answered, each request of a call may be asked, behind what was said before it; and what it comes to is this of what was said then.
-  Goes : {A : Type 0} → Pairs → Call A → (Pairs → Result A Refusal → Type 0) → Type 0
+  -- Whatever is answered, each request of a call may be asked, behind what was said before it; and what it comes to is this of what was said last.
+  abbrev Goes : {A : Type 0} → Pairs → Call A → (Pairs → Result A Refusal → Type 0) → Type 0
   Goes before (Say result) P = P before result
   Goes before (Ask asked more) P = MayAsk path before asked × ((reply : Reply) → Goes (before ++ (asked, reply) ∷ []) (more reply) P)
   Goes before (Grow call) P = Goes before call P
@@ -89,14 +89,14 @@ module _ (path : Path) where
 
   -- ---- where a chunk is
 
+  abbrev found_behind : Pairs → ℕ → Reply → Pairs
+  found_behind before index reply = before ++ (requests.Call (calls.FindForReading path index), reply) ∷ []
+
   find_goes : (index : ℕ) (before : Pairs) → Goes before (find_call path index) (Where (λ now l. WasTold path now l))
   find_goes index before = (refl, by_reply)
     where
-      abbrev behind : Reply → Pairs
-      behind reply = before ++ (requests.Call (calls.FindForReading path index), reply) ∷ []
-
-      by_answer : (answer : Answer) (l : Located) → located_in index answer ≡ Ok l → WasTold path (behind (replies.Answer answer)) l
-      by_answer (answers.Location handle view epoch) l is = subst (WasTold path (behind (replies.Answer (answers.Location handle view epoch)))) (ok_is is) (Contains-push before (requests.Call (calls.FindForReading path index), replies.Answer (answers.Location handle view epoch)))
+      by_answer : (answer : Answer) (l : Located) → located_in index answer ≡ Ok l → WasTold path (found_behind before index (replies.Answer answer)) l
+      by_answer (answers.Location handle view epoch) l is = subst (WasTold path (found_behind before index (replies.Answer (answers.Location handle view epoch)))) (ok_is is) (Contains-push before (requests.Call (calls.FindForReading path index), replies.Answer (answers.Location handle view epoch)))
       by_answer answers.Nothing l is = never is
       by_answer (answers.Path p) l is = never is
       by_answer answers.Absent l is = never is
@@ -107,7 +107,7 @@ module _ (path : Path) where
       by_answer (answers.Epoch epoch) l is = never is
       by_answer (answers.Phase phase epoch) l is = never is
 
-      by_reply : (reply : Reply) (l : Located) → and_then (located_in index) (looked reply) ≡ Ok l → WasTold path (behind reply) l
+      by_reply : (reply : Reply) (l : Located) → and_then (located_in index) (looked reply) ≡ Ok l → WasTold path (found_behind before index reply) l
       by_reply (replies.Answer answer) l is = by_answer answer l is
       by_reply (replies.Outcome outcome) l is = never is
       by_reply (replies.Given given) l is = never is
@@ -115,6 +115,9 @@ module _ (path : Path) where
       by_reply replies.Lost l is = never is
 
   -- ---- what its members give
+
+  abbrev given_behind : Pairs → Located → Asked → ℕ → Reply → Pairs
+  given_behind before l asked member reply = before ++ (requests.Fetch member l.handle l.view.stamp l.epoch asked, reply) ∷ []
 
   either : (m : ℕ) (members : List ℕ) → is_member (m ∷ members) m ≡ true
   either m members = rw (same m) refl
@@ -133,15 +136,12 @@ module _ (path : Path) where
   members_go l asked [] last before all told = λ g is. never is
   members_go l asked (member ∷ members) last before all told = (
     record { location = l; told = told; member = all member (either member members); chunk = refl; under = refl; within = refl },
-    λ reply. by_given reply (given_by last reply),
+    λ reply. by_given reply (given_by last reply) (λ e. members_go l asked members e (given_behind before l asked member reply) (λ m is. all m (later member m members is)) (told_on before (requests.Fetch member l.handle l.view.stamp l.epoch asked, reply) l told)),
   )
     where
-      abbrev behind : Reply → Pairs
-      behind reply = before ++ (requests.Fetch member l.handle l.view.stamp l.epoch asked, reply) ∷ []
-
-      by_given : (reply : Reply) (r : Result Given Refusal) → Goes (behind reply) (otherwise (members_call l asked members) r) (Where (λ now g. WasTold path now l))
-      by_given reply (Ok g) = λ x is. told_on before (requests.Fetch member l.handle l.view.stamp l.epoch asked, reply) l told
-      by_given reply (Err e) = members_go l asked members e (behind reply) (λ m is. all m (later member m members is)) (told_on before (requests.Fetch member l.handle l.view.stamp l.epoch asked, reply) l told)
+      by_given : (reply : Reply) (r : Result Given Refusal) → ((e : Refusal) → Goes (given_behind before l asked member reply) (members_call l asked members e) (Where (λ now g. WasTold path now l))) → Goes (given_behind before l asked member reply) (otherwise (members_call l asked members) r) (Where (λ now g. WasTold path now l))
+      by_given reply (Ok g) more = λ x is. told_on before (requests.Fetch member l.handle l.view.stamp l.epoch asked, reply) l told
+      by_given reply (Err e) more = more e
 
   abbrev Found : Pairs → Given × Located → Type 0
   Found now found = WasTold path now found.1
@@ -183,7 +183,7 @@ module _ (path : Path) where
   end_goes : (size : ℕ) (known : Option Located) (count offset many : ℕ) (before : Pairs) → IsKnown before known → Goes before (end_call size path known count offset many) (Where (Remembers {A = ℕ}))
   end_goes size known count offset many before there = by_test (nat_le (offset + many) ((count - 1) * size))
     where
-      abbrev ended : ℕ × Option Located → Call (ℕ × Option Located)
+      ended : ℕ × Option Located → Call (ℕ × Option Located)
       ended l = if nat_lt l.0 offset then Say (Err refusals.Range) else Say (Ok (min (offset + many) l.0, l.1))
 
       by_length : (now : Pairs) (l : ℕ × Option Located) (b : Bool) → IsKnown now l.1 → Goes now (if b then Say (Err refusals.Range) else Say (Ok (min (offset + many) l.0, l.1))) (Where (Remembers {A = ℕ}))
@@ -223,33 +223,33 @@ module _ (path : Path) where
   abbrev IsOpened : File → Type 0
   IsOpened file = (chunks : ℕ) × (file ≡ opened_with path chunks)
 
-  opened_goes : {A : Type 0} (call : File → Call A) → ((chunks : ℕ) (now : Pairs) → Goes now (call (opened_with path chunks)) (Where (λ then x. Unit {0}))) → Goes [] (on_opened path call) (Where (λ then x. Unit {0}))
+  opened_goes : {A : Type 0} (call : File → Call A) → ((chunks : ℕ) (now : Pairs) → Goes now (call (opened_with path chunks)) (Where (λ last x. Unit {0}))) → Goes [] (on_opened path call) (Where (λ last x. Unit {0}))
   opened_goes call goes =
-      both_goes (open_call path) call [] (λ now file. IsOpened file) (λ then x. Unit {0})
+      both_goes (open_call path) call [] (λ now file. IsOpened file) (λ last x. Unit {0})
       (both_goes (chunks_call path) (λ chunks. Say (Ok (opened_with path chunks))) [] (λ now n. Unit {0}) (λ now file. IsOpened file) (chunks_go []) (λ now chunks _. λ x is. (chunks, sym (ok_is is))))
-      (λ now file is. subst (λ (f : File). Goes now (call f) (Where (λ then x. Unit {0}))) (sym is.1) (goes is.0 now))
+      (λ now file is. subst (λ (f : File). Goes now (call f) (Where (λ last x. Unit {0}))) (sym is.1) (goes is.0 now))
 
-  known_goes : (chunks : ℕ) {A : Type 0} (go : ℕ → Call A) (before : Pairs) → ((n : ℕ) → Goes before (go n) (Where (λ then x. Unit {0}))) → Goes before (both (known_call path (Some chunks)) go) (Where (λ then x. Unit {0}))
-  known_goes chunks go before next = said (Ok chunks) go before (λ then x. Unit {0}) next
+  known_goes : (chunks : ℕ) {A : Type 0} (go : ℕ → Call A) (before : Pairs) → ((n : ℕ) → Goes before (go n) (Where (λ last x. Unit {0}))) → Goes before (both (known_call path (Some chunks)) go) (Where (λ last x. Unit {0}))
+  known_goes chunks go before next = said (Ok chunks) go before (λ last x. Unit {0}) next
 
-  read_goes : (size offset many chunks : ℕ) (now : Pairs) → Goes now (read_call size path (Some chunks) None offset many) (Where (λ then x. Unit {0}))
+  read_goes : (size offset many chunks : ℕ) (now : Pairs) → Goes now (read_call size path (Some chunks) None offset many) (Where (λ last x. Unit {0}))
   read_goes size offset many chunks now =
       known_goes chunks (λ n. both (end_call size path None n offset many) (λ e. pieces_call size path n e.0 e.1 (offset / size) (offset % size) (span size offset e.0) [])) now
-      (λ n. both_goes (end_call size path None n offset many) (λ e. pieces_call size path n e.0 e.1 (offset / size) (offset % size) (span size offset e.0) []) now (Remembers {A = ℕ}) (λ then x. Unit {0}) (end_goes size None n offset many now tt)
-      (λ then e told. pieces_go size n e.0 e.1 (offset / size) (offset % size) (span size offset e.0) [] then told))
+      (λ n. both_goes (end_call size path None n offset many) (λ e. pieces_call size path n e.0 e.1 (offset / size) (offset % size) (span size offset e.0) []) now (Remembers {A = ℕ}) (λ last x. Unit {0}) (end_goes size None n offset many now tt)
+      (λ last e told. pieces_go size n e.0 e.1 (offset / size) (offset % size) (span size offset e.0) [] last told))
 
-  digest_goes : (index block chunks : ℕ) (now : Pairs) → Goes now (digest_call path (Some chunks) None index block) (Where (λ then x. Unit {0}))
+  digest_goes : (index block chunks : ℕ) (now : Pairs) → Goes now (digest_call path (Some chunks) None index block) (Where (λ last x. Unit {0}))
   digest_goes index block chunks now =
       known_goes chunks (λ n. both (fetch_call path None index (asks.Digest block)) (λ f. both (Say (digest_in f.0)) (λ digest. Say (Ok (digest, Some f.1))))) now
-      (λ n. both_goes (fetch_call path None index (asks.Digest block)) (λ f. both (Say (digest_in f.0)) (λ digest. Say (Ok (digest, Some f.1)))) now Found (λ then x. Unit {0}) (fetch_goes None index (asks.Digest block) now tt)
-      (λ then f told. said (digest_in f.0) (λ digest. Say (Ok (digest, Some f.1))) then (λ then x. Unit {0}) (λ digest. λ x is. tt)))
+      (λ n. both_goes (fetch_call path None index (asks.Digest block)) (λ f. both (Say (digest_in f.0)) (λ digest. Say (Ok (digest, Some f.1)))) now Found (λ last x. Unit {0}) (fetch_goes None index (asks.Digest block) now tt)
+      (λ last f told. said (digest_in f.0) (λ digest. Say (Ok (digest, Some f.1))) last (λ last x. Unit {0}) (λ digest. λ x is. tt)))
 
 pub readers_ask_so : (path : Path) → ReadersAskSo path
 readers_ask_so path size offset many pairs result says =
     let call : File → Call (List ℕ × Option Located) = λ file. read_call size file.path file.opened file.located offset many in
-    says_so path (on_opened path call) [] pairs (Where path (λ then x. Unit {0})) result (opened_goes path call (λ chunks now. read_goes path size offset many chunks now)) says
+    says_so path (on_opened path call) [] pairs (Where path (λ last x. Unit {0})) result (opened_goes path call (λ chunks now. read_goes path size offset many chunks now)) says
 
 pub digesters_ask_so : (path : Path) → DigestersAskSo path
 digesters_ask_so path index block pairs result says =
     let call : File → Call (List ℕ × Option Located) = λ file. digest_call file.path file.opened file.located index block in
-    says_so path (on_opened path call) [] pairs (Where path (λ then x. Unit {0})) result (opened_goes path call (λ chunks now. digest_goes path index block chunks now)) says
+    says_so path (on_opened path call) [] pairs (Where path (λ last x. Unit {0})) result (opened_goes path call (λ chunks now. digest_goes path index block chunks now)) says

@@ -1,4 +1,5 @@
 -- Under which locations a client reads a file: those that it was told in that very call.
+use Rattle.std.proofs.Common.{arith}
 use Rattle.std.specs.Prelude.{[], ◌++◌, ◌∷◌, ◌≡◌, Contains, List, None, Option, Result, refl, true, ℕ}
 use Rattle.gs_base.specs.Members.{is_member}
 use Rattle.gs_base.specs.declared.numbers.Stamp.{Stamp}
@@ -66,7 +67,7 @@ abbrev found : Path → Request × Reply
 found path = (requests.Call (calls.FindForReading path 0), replies.Answer (answers.Location 7 a_view 0))
 
 it_may_be_asked : (path : Path) → MayAsk path (found path ∷ []) (requests.Fetch 1 7 (record { epoch = 0; version = 3 }) 0 asks.Length)
-it_may_be_asked path = record { location = a_location; told = (0, refl, refl); member = refl; chunk = refl; under = refl; within = refl }
+it_may_be_asked path = record { location = a_location; told = (0, omega arith, refl); member = refl; chunk = refl; under = refl; within = refl }
 
 nothing_else_is_asked : (path other : Path) → MayAsk path [] (requests.Call (calls.Mkdirs other)) → ⊥
 nothing_else_is_asked path other may = may
