@@ -1,0 +1,4 @@
+mod Sending
+mod Asking
+mod Coming
+mod Fetched
