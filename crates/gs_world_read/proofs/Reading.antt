@@ -1,6 +1,6 @@
 -- What a client that has halted a store reads of a file is of what stood there.
 use Rattle.std.proofs.Common.{◌≡◌, ◌∙◌, ◌⊎◌, inl, inr, ◌++◌, Bool, true, false, List, [], ◌∷◌, None, Option, Some, Result, Ok, Err, ℕ, map, refl, sym, ap, subst, append_assoc, slice_get}
-use Rattle.std.specs.Prelude.{Contains, MatchBool, drop, is_some, length, take}
+use Rattle.std.specs.Prelude.{Contains, drop, is_some, length, take}
 use Rattle.std.specs.FinMap as fin
 use Rattle.std.specs.List.{AllByRecursion}
 use Rattle.std.proofs.lemmas.List.Elements.{Contains-push_cases}
@@ -19,7 +19,6 @@ use Rattle.gs_client_plain.specs.Files.{AreOf, IsOf, Stands, TellsChunks, TellsP
 use Rattle.gs_client_plain.specs.Located.{AskSo, IsUnder, MayAsk, WasTold}
 use Rattle.gs_edit.specs.View.{NamesView}
 use Rattle.gs_lease.specs.declared.view.View.{View}
-use Rattle.gs_master.specs.Journaled.{text_seen}
 use Rattle.gs_master.specs.Masters.{MasterOf}
 use Rattle.gs_master_looked.specs.Looked.{Locates}
 use Rattle.gs_master_spec.specs.Applied.{view_in}
@@ -67,7 +66,7 @@ use Rattle.gs_world_looked.specs.Looked.{AnswersAreByNames, IsPlaceOf, IsStatusO
 use Rattle.gs_world_looked.specs.Unled.{IsHalted, StaysHalted}
 use Rattle.gs_world_unled.specs.Unled.{IsUnledAt, ReadsAreOfUnled, ReadsUnled, RunsUnled}
 use Rattle.gs_world_read.proofs.Halting.{unled_on, unled_there, y}
-use Rattle.gs_world_read.proofs.Stepping.{accounts_on, all_back, all_front, among_front, among_on, bare_so, run_join}
+use Rattle.gs_world_read.proofs.Stepping.{accounts_on, all_back, all_front, among_front, among_on, bare_so, runs_of, told_stands}
 use Rattle.gs_world_read.specs.Read.{AreAmongAnyhow, Exchanged, steps_in, steps_of}
 
 abbrev Pairs : Type 0
@@ -114,16 +113,6 @@ module _ {D : Type 0} (seen : D → List ℕ) (failures : D → ℕ) (stays : St
     -- what is told in a world that is reached
     reached_told : (h : History D) (a : Account) → IsReached x h a → IsToldAt seen h.nodes.master a.durable
     reached_told h a r = runs_told x r.steps r.begun h r.first a r.begins.told r.runs
-
-    told_stands : (place : MasterPlace D) (e : Durable) → StandsOn place e → IsToldAt seen place e
-    told_stands place e s = subst (λ (p : MasterPlace D). IsToldAt seen p e) (sym s.stands) (subst (λ b. MatchBool b (IsToldIn (text_seen seen s.master.journal) e) (e ≡ s.master.state.durable)) (sym s.sound) (sym s.keeps))
-
-    runs_of : (h : History D) (request : Request) (reply : Reply) (mid : History D) (went : Went seen failures client h request reply mid) → RunsTo seen failures unarmed (steps_of seen failures client h request reply mid went) h mid
-    runs_of h request (replies.Answer answer) mid r = (r.asked, (Ok tt, r.happens), r.behind.runs)
-    runs_of h request (replies.Given part) mid r = (r.asked, (Ok tt, r.happens), r.behind.runs)
-    runs_of h request (replies.Outcome outcome) mid went = went.runs
-    runs_of h request (replies.Refused refusal) mid went = went.runs
-    runs_of h request replies.Lost mid went = went.runs
 
     -- so far
     record Now (before : Pairs) (h : History D) (b : Account) : Type 0 where
@@ -351,7 +340,7 @@ module _ {D : Type 0} (seen : D → List ℕ) (failures : D → ℕ) (stays : St
         told_there = reached_told l.made.now one.c (there before l.made.now one.c one.next)
 
         durable_is : one.c.durable ≡ p.by.durable
-        durable_is = told_at_once seen l.made.now.nodes.master one.c.durable p.by.durable told_there (told_stands l.made.now.nodes.master p.by.durable p.by.stands)
+        durable_is = told_at_once seen l.made.now.nodes.master one.c.durable p.by.durable told_there (told_stands seen failures l.made.now.nodes.master p.by.durable p.by.stands)
 
         phase_is : p.by.durable.phase ≡ d.phase
         phase_is = ap (λ (e : Durable). e.phase) (sym p.by.stands.keeps) ∙ (subst (StandsStillAt d client number) p.by.stands.stands l.met.still.master).phase
@@ -548,7 +537,7 @@ module _ {D : Type 0} (seen : D → List ℕ) (failures : D → ℕ) (stays : St
         let shape : AreAmongAnyhow seen failures among (first ++ (looks.steps ++ (more ++ rest))) h =
         subst (λ (ys : List Step). AreAmongAnyhow seen failures among ys h) (append_assoc first (looks.steps ++ more) rest ∙ ap (λ (ys : List Step). first ++ ys) (append_assoc looks.steps more rest)) all in
         let one = by_pair before h b now pair.0 pair.1 mid next went looks (more ++ rest) asks.0 shape in
-        (one.is, all_of (before ++ pair ∷ []) pairs next new one.c one.now others rest asks.1 (among_on seen failures among looks.steps (more ++ rest) mid next looks.runs (among_on seen failures among first (looks.steps ++ (more ++ rest)) h mid (runs_of h pair.0 pair.1 mid went) shape)))
+        (one.is, all_of (before ++ pair ∷ []) pairs next new one.c one.now others rest asks.1 (among_on seen failures among looks.steps (more ++ rest) mid next looks.runs (among_on seen failures among first (looks.steps ++ (more ++ rest)) h mid (runs_of seen failures client h pair.0 pair.1 mid went) shape)))
 
     pub are_of : (pairs : Pairs) (steps : List Step) (h new : History D) (b : Account) → Runs x steps h0 a0 h b → AllByRecursion (IsLooking client) steps → (e : Exchanged seen failures client pairs h new) (rest : List Step) → AskSo path [] pairs
         → AreAmongAnyhow seen failures among (steps_in seen failures client pairs h new e ++ rest) h → AreOf file pairs
