@@ -1,2 +1,2 @@
-mod Following
-mod Located
+pub mod Following
+pub mod Located

@@ -1,4 +1,4 @@
-mod Sending
-mod Asking
-mod Coming
-mod Fetched
+pub mod Sending
+pub mod Asking
+pub mod Coming
+pub mod Fetched
