@@ -242,6 +242,13 @@ impl<N: Plan, C: Core + Drop> Node<N, C> {
         place_of(&self.ways, &self.me)
     }
 
+    /// How many nodes there are, itself among them.
+    pub fn many(&self) -> usize
+        ensures { result ≡ length (all_ids N.setting) }
+    {
+        self.ways.len()
+    }
+
     pub fn core(&self) -> &C
         ensures { result.now ≡ self.now.past.core }
     {
