@@ -1,5 +1,5 @@
 -- A chunk's machine over steps behind each of which nobody leads the chunk.
-use Rattle.std.proofs.Common.{◌≡◌, ◌∙◌, ◌<◌, inl, inr, ℕ, Bool, true, false, List, [], ◌∷◌, Option, Some, None, refl, sym, ap, subst}
+use Rattle.std.proofs.Common.{◌≡◌, ◌∙◌, inl, inr, ℕ, Bool, true, false, List, [], ◌∷◌, Option, Some, None, refl, sym, ap, subst}
 use Rattle.std.specs.FinMap as fin
 use Rattle.gs_base.specs.declared.numbers.ReqId.{ReqId}
 use Rattle.gs_block.specs.Written.{TellsApart}

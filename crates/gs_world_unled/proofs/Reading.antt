@@ -6,13 +6,11 @@ use Rattle.std.specs.FinMap as fin
 use Rattle.std.proofs.lemmas.Bool.{false≢true, true≢false}
 use Rattle.gs_base.specs.Members.{is_member}
 use Rattle.gs_base.specs.declared.numbers.ReqId.{ReqId}
-use Rattle.gs_chunk.proofs.Facts.{reached_world}
 use Rattle.gs_chunk.specs.Events.{is_of}
 use Rattle.gs_chunk.specs.Laws as machine
 use Rattle.gs_chunk.specs.Laws.{settled}
 use Rattle.gs_chunk.specs.Machine.{ChunkWorld}
 use Rattle.gs_chunk.specs.Stamps.{stamp_at}
-use Rattle.gs_lease.specs.declared.view.View.{View}
 use Rattle.gs_master_entry.proofs.Stamps.{of_member}
 use Rattle.gs_master_record.specs.declared.checkpoint.Phase.{Phase}
 use Rattle.gs_master_record.specs.declared.checkpoint.Phase.TheVariants.{Ordinary, Rolling, Upgrade}
@@ -44,11 +42,11 @@ use Rattle.gs_world_chunks.proofs.Edits.{AreNumbered}
 use Rattle.gs_world_chunks.proofs.Fetching.{IsServed, served}
 use Rattle.gs_world_chunks.proofs.Holding.{reach_more, runs_then}
 use Rattle.gs_world_chunks.proofs.Runs.{keeps_told, living_listed, seen_of}
-use Rattle.gs_world_chunks.proofs.SeeingThrough.{reached_through, each_is_seen_through, reached_well, sees_for_through, through_stays}
+use Rattle.gs_world_chunks.proofs.SeeingThrough.{each_is_seen_through, reached_through, reached_well, sees_for_through, through_stays}
 use Rattle.gs_world_chunks.proofs.Viewing.{IsViewed, viewed}
 use Rattle.gs_world_chunks.specs.Accepting.{MembersHaveNamed}
 use Rattle.gs_world_chunks.specs.Accounts.{Account, settled_edits, settled_in, text_of, view_at}
-use Rattle.gs_world_chunks.specs.Back.{GivesNamesTold, GivesSettledBack, HasRolledBack}
+use Rattle.gs_world_chunks.specs.Back.{GivesNamesTold, GivesSettledBack}
 use Rattle.gs_world_chunks.specs.Joined.{IsSeen}
 use Rattle.gs_world_chunks.specs.Reading.{GivesBytes, given_of}
 use Rattle.gs_world_chunks.specs.Running.{IsGiven, IsReached, Runs, Setup}

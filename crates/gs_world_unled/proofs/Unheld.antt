@@ -1,13 +1,13 @@
 -- A chunk's machine within one epoch, as long as nobody may number in any view that is settled.
-use Rattle.std.proofs.Common.{◌≡◌, ◌≢◌, ◌∙◌, ◌++◌, ◌+◌, ◌<◌, ◌≤◌, ◌⊎◌, inl, inr, ⊎_elim, ℕ, zero, suc, Bool, true, false, cond, List, [], ◌∷◌, length, take, Option, Some, None, refl, sym, ap, subst, arith, length-append}
-use Rattle.std.specs.Prelude.{nat_eq, slice_get}
+use Rattle.std.proofs.Common.{◌≡◌, ◌∙◌, ◌+◌, ◌<◌, ◌≤◌, ◌⊎◌, inl, inr, ⊎_elim, ℕ, zero, suc, true, false, List, [], ◌∷◌, length, take, Some, None, refl, sym, ap, subst, arith, length-append}
+use Rattle.std.specs.Prelude.{slice_get}
 use Rattle.std.proofs.lemmas.Bool.{cases_eq, cases_lt, false≢true, ne_eqb}
 use Rattle.gs_base.specs.declared.epoch.EpochEnd.TheVariants.{Rollback}
 use Rattle.gs_replica.specs.Stands.{Edit}
 use Rattle.gs_chunk.proofs.Committed.{masters_stay_calm}
 use Rattle.gs_chunk.proofs.Exact.{quiet_is_settled}
 use Rattle.gs_chunk.proofs.Facts.{reached_world}
-use Rattle.gs_chunk.proofs.Known.{KnownOk, Later, Undone, false_from, false_true, unheld_bare}
+use Rattle.gs_chunk.proofs.Known.{KnownOk, Later, false_from, false_true, unheld_bare}
 use Rattle.gs_chunk.proofs.Lists.{at_front, some_same}
 use Rattle.gs_chunk.proofs.Mastering.{masters_settle_once}
 use Rattle.gs_chunk.proofs.Stamps.{epoch_of-le, epoch_of-start}
@@ -17,7 +17,7 @@ use Rattle.gs_chunk.proofs.Worlds.{WorldOk, leads_later, leads_then, leads_world
 use Rattle.gs_chunk.specs.Events.{Leads, Rests}
 use Rattle.gs_chunk.specs.Laws.{IsLegalRead, IsReached, StandsStill, WasUndone, settled, world_of}
 use Rattle.gs_chunk.specs.Machine.{ChunkWorld, Known}
-use Rattle.gs_chunk.specs.Mastering.{AreOfMaster, KeepsLists, RestoresList, SettlesList, SettlesOnce}
+use Rattle.gs_chunk.specs.Mastering.{AreOfMaster, RestoresList, SettlesList, SettlesOnce}
 use Rattle.gs_chunk.specs.Stamps.{epoch_of, start_of}
 
 -- In another world of the same epoch nothing is rolled back, and nobody may number in any view from the settled one of the first on.
