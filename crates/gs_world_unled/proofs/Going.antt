@@ -45,7 +45,7 @@ module _ {D : Type 0} (x : Setup D) (bytes : ReqId → List ℕ) (chunk : ℕ) (
   abbrev Free : Type 0
   Free = v.known.holder v.known.view ≡ None
 
-  -- Nobody may number in the settled view, be it told, or of a chunk of which none is told; a chunk that is unknown needs a word.
+  -- Nobody may number in the settled view: nobody leads one that is told, and a known chunk of which none is told was settled on none. Of one that is known no more it has to be said.
   pub free_now : (v.entry.is_known ≡ false → Free) → Free
   free_now faded = by_row (fin.get c.durable.chunks chunk) refl
     where
