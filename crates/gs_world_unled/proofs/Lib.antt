@@ -1,0 +1,3 @@
+mod Unheld
+mod Going
+mod Reading
