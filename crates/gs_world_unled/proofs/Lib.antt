@@ -1,3 +1,3 @@
-mod Unheld
-mod Going
-mod Reading
+pub mod Unheld
+pub mod Going
+pub mod Reading

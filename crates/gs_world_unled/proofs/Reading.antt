@@ -251,7 +251,7 @@ listed_so None more = absurd (omega arith)
 listed_so (Some n) more = refl
 
 -- a chunk that stands in a file is listed
-listed_there : HaveSizes → AreNumbered → {D : Type 0} (x : Setup D) (h : History D) (a : Account) → IsReached x h a → (p : Path) (index chunk : ℕ) → found_chunk (fin.get a.durable.names.tree p) index ≡ Ok chunk → is_listed a.durable chunk ≡ true
+pub listed_there : HaveSizes → AreNumbered → {D : Type 0} (x : Setup D) (h : History D) (a : Account) → IsReached x h a → (p : Path) (index chunk : ℕ) → found_chunk (fin.get a.durable.names.tree p) index ≡ Ok chunk → is_listed a.durable chunk ≡ true
 listed_there sizes law x h a reached p index chunk found =
     let sees = each_is_seen_through sizes law x h a reached in
     listed_so (fin.get a.durable.names.refs chunk) (referred a.durable p index chunk (keeps_told x sees.0 (left_in h) a sees.2) found)
