@@ -1,0 +1,2 @@
+pub mod Unled
+pub mod Looked
