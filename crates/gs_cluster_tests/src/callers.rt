@@ -2,8 +2,9 @@ ghost use Rattle.gs_cluster.specs.Opened.{IsNew, names_of};
 ghost use Rattle.gs_journal.specs.Memory.{bytes_of, times_failed};
 ghost use Rattle.std.specs.Prelude.{◌≡◌};
 
+use crate::whole::{delivered, many_sent, sends_the_same};
 use gs_base::{ClientId, Config, Moment, Refusal};
-use gs_cluster::{Caller, Cluster, Opened};
+use gs_cluster::{Caller, Cluster, Opened, Whole};
 use gs_cluster_node::{Open, Plan};
 use gs_journal::MemoryDisk;
 use gs_nodes::{Nodes, empty_disks};
@@ -22,12 +23,12 @@ use std::time::Clock;
 /// How many writes each caller makes.
 const WRITES: u64 = 50;
 
-/// What a caller was answered: how many lines were accepted, how many were unsure, and what a read gave in the end.
+/// What a caller was answered: how many lines were accepted, how many were unsure, and whether a read gave all that was written in the end.
 #[derive(Drop)]
 struct Tally {
     accepted: u64,
     unsure: u64,
-    read: String,
+    is_read: bool,
 }
 
 /// A caller that has asked all, with what it was answered.
@@ -67,18 +68,22 @@ fn write_many<N: Plan, T: Wait + Clock + Drop>(
     let mut tally = Tally {
         accepted: 0,
         unsure: 0,
-        read: String::new(alloc),
+        is_read: false,
     };
     let caller = gs_shell_calls::Caller::new(alloc, ClientId(number), config);
     let mut desk = Desk { caller, link };
     let create = format!(in alloc; "create /f{number}")?;
     ask_until(alloc, &mut desk, create.as_bytes(), &mut tally)?;
+    let byte = format!(in alloc; "6{number}")?;
+    let mut written = String::from_str(alloc, "ok ")?;
     for at in 0..WRITES {
-        let write = format!(in alloc; "write /f{number} {at} 6{number}")?;
+        let write = format!(in alloc; "write /f{number} {at} {byte}")?;
         ask_until(alloc, &mut desk, write.as_bytes(), &mut tally)?;
+        written.push_str(&byte)?;
     }
-    let read = format!(in alloc; "read /f{number} 48 9")?;
-    tally.read = desk.answer(alloc, read.as_bytes())?;
+    let read = format!(in alloc; "read /f{number} 0 64")?;
+    let answer = desk.answer(alloc, read.as_bytes())?;
+    tally.is_read = answer.as_str() == written.as_str();
     Ok(Done { desk, tally })
 }
 
@@ -95,15 +100,6 @@ fn writer<
 ) -> Result<JoinHandle<Result<Done<N, T>, AllocError>>, AllocError> {
     let handle = thread::spawn(rt, move || write_many(alloc, config, number, link))?;
     Ok(handle)
-}
-
-/// What four callers were answered, and what a store of these nodes answers then.
-#[derive(Drop)]
-struct Told {
-    accepted: u64,
-    unsure: u64,
-    reads: String,
-    later: String,
 }
 
 /// A store on one thread of nodes that ran in threads, and the client that asks it.
@@ -141,58 +137,132 @@ fn answers_later(
     Ok(text)
 }
 
-/// Four callers write at once, are handed back in another order, and the nodes go on on one thread.
-fn four_write<
+/// Threads in which callers write, each into a file of its own.
+fn writers<
     N: Plan + Send + Sync + 'static,
     T: Threads + Wait + Clock + Copy + Drop + Send + Sync + 'static,
->(rt: &T, alloc: Global, opened: Opened<MemoryDisk>) -> Result<Told, Refusal>
-    requires names { N.names ≡ names_of N.setting.config.servers opened.seeds.items }
-    requires config { opened.config ≡ N.setting.config }
-    requires new { IsNew bytes_of times_failed N.setting opened.seeds.items }
-{
-    let config = opened.config;
-    let (cluster, links) = Cluster::<N, MemoryDisk>::start(rt, alloc, Open, opened)?;
+>(
+    rt: &T,
+    alloc: Global,
+    config: Config,
+    links: Vec<Caller<N, MemoryDisk, T>>,
+) -> Result<Vec<JoinHandle<Result<Done<N, T>, AllocError>>>, AllocError> {
     let mut handles = Vec::new(alloc);
     let mut number: u32 = 0;
     for link in links {
         number = number.wrapping_add(1);
         handles.push(writer(rt, alloc, config, number, link)?)?;
     }
+    Ok(handles)
+}
+
+/// What all callers were answered, and they themselves, the last of them first.
+#[derive(Drop)]
+struct Told<N: Plan, T: Wait + Clock + Drop> {
+    accepted: u64,
+    unsure: u64,
+    /// How many have read back all that they have written.
+    read: u64,
+    links: Vec<Caller<N, MemoryDisk, T>>,
+    /// The one that was numbered first.
+    first: Option<gs_shell_calls::Caller>,
+}
+
+/// Waits until all have written.
+fn told_by<N: Plan, T: Threads + Wait + Clock + Drop>(
+    rt: &T,
+    alloc: Global,
+    handles: Vec<JoinHandle<Result<Done<N, T>, AllocError>>>,
+) -> Result<Told<N, T>, AllocError> {
+    let mut handles = handles;
     let mut told = Told {
         accepted: 0,
         unsure: 0,
-        reads: String::new(alloc),
-        later: String::new(alloc),
+        read: 0,
+        links: Vec::new(alloc),
+        first: None,
     };
-    let mut links = Vec::new(alloc);
-    let mut callers = Vec::new(alloc);
     while let Some(handle) = handles.pop() {
         let Done { desk, tally } = handle.join(rt)?;
         told.accepted = told.accepted.saturating_add(tally.accepted);
         told.unsure = told.unsure.saturating_add(tally.unsure);
-        told.reads.push_str(&tally.read)?;
+        told.read = told.read.saturating_add(u64::from(tally.is_read));
         let Desk { caller, link } = desk;
-        links.push(link)?;
-        callers.push(caller)?;
+        told.links.push(link)?;
+        told.first = Some(caller);
     }
-    let nodes = cluster.finish(rt, links)?;
-    let Some(caller) = callers.pop() else {
-        return Err(Refusal::Stray);
-    };
-    told.later = answers_later(alloc, nodes, caller)?;
     Ok(told)
 }
 
+/// What four callers were answered, what the cluster comes to, and one of the clients.
+#[derive(Drop)]
+struct Written {
+    accepted: u64,
+    unsure: u64,
+    read: u64,
+    whole: Whole<MemoryDisk>,
+    caller: gs_shell_calls::Caller,
+}
+
+/// Four callers write at once, and are handed back in another order.
+fn four_write<
+    N: Plan + Send + Sync + 'static,
+    T: Threads + Wait + Clock + Copy + Drop + Send + Sync + 'static,
+>(rt: &T, alloc: Global, opened: Opened<MemoryDisk>) -> Result<Written, Refusal>
+    requires names { N.names ≡ names_of N.setting.config.servers opened.seeds.items }
+    requires config { opened.config ≡ N.setting.config }
+    requires new { IsNew bytes_of times_failed N.setting opened.seeds.items }
+{
+    let config = opened.config;
+    let (cluster, links) = Cluster::<N, MemoryDisk>::start(rt, alloc, Open, opened)?;
+    let handles = writers(rt, alloc, config, links)?;
+    let Told {
+        accepted,
+        unsure,
+        read,
+        links,
+        first,
+    } = told_by(rt, alloc, handles)?;
+    let whole = cluster.finish_whole(rt, links)?;
+    let Some(caller) = first else {
+        return Err(Refusal::Stray);
+    };
+    Ok(Written {
+        accepted,
+        unsure,
+        read,
+        whole,
+        caller,
+    })
+}
+
+/// All is accepted in the end, and reads back. The nodes go on on one thread, where the master begins again; and the events that the
+/// cluster gives, run by a new store on one thread, send what was sent in it. Three quarters of that, at least, are delivered in them.
 #[test]
 fn four_callers_write_at_once(rt: HostRuntime) -> Result<(), Fail> {
     let alloc = rt.alloc();
     let config = Config::new(3, 1, 3, 64, 256)?;
-    let opened = Opened::new(alloc, config, 4, empty_disks(alloc))?;
-    let told = four_write::<Brand, HostRuntime>(&rt, alloc, opened)?;
-    assert_eq!(rt; told.accepted, 204);
-    assert_eq!(rt; told.unsure, 0);
-    assert_eq!(rt; told.reads.as_str(), "ok 6464ok 6363ok 6262ok 6161");
-    assert_eq!(rt; told.later.as_str(), "ok ok 6363");
+    let mut opened = Opened::new(alloc, config, 4, empty_disks(alloc))?;
+    opened.are_noted = true;
+    let Written {
+        accepted,
+        unsure,
+        read,
+        whole,
+        caller,
+    } = four_write::<Brand, HostRuntime>(&rt, alloc, opened)?;
+    assert_eq!(rt; accepted, 204);
+    assert_eq!(rt; unsure, 0);
+    assert_eq!(rt; read, 4);
+    let Whole {
+        nodes,
+        sent,
+        events,
+    } = whole;
+    let later = answers_later(alloc, nodes, caller)?;
+    assert_eq!(rt; later.as_str(), "ok ok 6363");
+    assert!(rt; delivered(&events).saturating_mul(4) >= many_sent(&sent).saturating_mul(3));
+    assert!(rt; sends_the_same(alloc, config, &sent, events)?);
     Ok(())
 }
 

@@ -5,12 +5,12 @@ ghost use Rattle.std.specs.Prelude.{◌≡◌};
 use gs_base::{ClientId, Config, Refusal, ServerId};
 use gs_cluster::{Cluster, Opened, Whole};
 use gs_cluster_node::{Open, Plan};
-use gs_journal::MemoryDisk;
+use gs_journal::{FailingDisk, Fault, MemoryDisk};
 use gs_msg::{Event, Happening, NodeId, Outbox, Post};
 use gs_nodes::empty_disks;
 use gs_shell_script::Answering;
 use gs_shell_threads::Desk;
-use gs_world::World;
+use gs_world::{Posts, World};
 use std::alloc::Global;
 use std::marker::Brand;
 use std::sync::Wait;
@@ -73,7 +73,7 @@ fn has_sent_the_same(one: Option<&Outbox>, other: Option<&Outbox>) -> bool {
 }
 
 /// How many events are messages that came.
-fn delivered(events: &[Event]) -> u64 {
+pub(crate) fn delivered(events: &[Event]) -> u64 {
     let mut many: u64 = 0;
     for event in events.iter() {
         if matches!(&event.happening, Happening::Deliver(_)) {
@@ -83,36 +83,50 @@ fn delivered(events: &[Event]) -> u64 {
     many
 }
 
-/// The events of a cluster, on one thread, are a run of a new store in which each node sends what it has sent in the cluster. Three quarters
-/// of all that was sent are delivered in them, at least.
-#[test]
-fn events_of_threads_run_on_one(rt: HostRuntime) -> Result<(), Fail> {
-    let alloc = rt.alloc();
-    let config = Config::new(3, 1, 3, 64, 256)?;
-    let mut opened = Opened::new(alloc, config, 1, empty_disks(alloc))?;
-    opened.are_noted = true;
-    let Whole {
-        nodes: _,
-        sent,
-        events,
-    } = one_asks::<Brand, HostRuntime>(&rt, alloc, opened)?;
-    let came = delivered(&events);
-    let mut world = World::new(alloc, config)?;
-    drop(world.run(events)?);
-    let mut many: u64 = 0;
-    let nodes = [
+/// All nodes of a store of three servers and four clients.
+fn all_nodes() -> [NodeId; 8] {
+    [
         NodeId::Master,
         NodeId::Server(ServerId::new(0).unwrap()),
         NodeId::Server(ServerId::new(1).unwrap()),
         NodeId::Server(ServerId::new(2).unwrap()),
         NodeId::Client(ClientId(1)),
-    ];
-    for node in nodes {
-        assert!(rt; has_sent_the_same(sent.outbox(node), world.sent.outbox(node)));
+        NodeId::Client(ClientId(2)),
+        NodeId::Client(ClientId(3)),
+        NodeId::Client(ClientId(4)),
+    ]
+}
+
+/// How many messages they have sent.
+pub(crate) fn many_sent(sent: &Posts) -> u64 {
+    let mut many: u64 = 0;
+    for node in all_nodes() {
         many = many.saturating_add(sent.count(node));
     }
-    assert!(rt; came.saturating_mul(4) >= many.saturating_mul(3));
-    Ok(())
+    many
+}
+
+/// Whether these events, run by a new store on one thread, send what was sent, each node the same.
+pub(crate) fn sends_the_same(
+    alloc: Global,
+    config: Config,
+    sent: &Posts,
+    events: Vec<Event>,
+) -> Result<bool, Refusal> {
+    let (first, second) = empty_disks(alloc);
+    let first = FailingDisk::new(first, Fault::Never);
+    let second = FailingDisk::new(second, Fault::Never);
+    let mut world = match World::over(alloc, config, 4, (first, second)) {
+        Ok(world) => world,
+        Err(unopened) => return Err(unopened.refusal),
+    };
+    drop(world.run(events)?);
+    for node in all_nodes() {
+        if !has_sent_the_same(sent.outbox(node), world.sent.outbox(node)) {
+            return Ok(false);
+        }
+    }
+    Ok(true)
 }
 
 /// Without notes there is no whole end.

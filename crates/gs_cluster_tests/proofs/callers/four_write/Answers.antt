@@ -3,5 +3,5 @@ use denote.Param.Send.{arg_send, param_send}
 use Rattle.gs_cluster_tests.proofs.Sending.{memory_disk_row}
 use Rattle.gs_cluster_tests.proofs.callers.four_write.Goals as goal
 
-pub finish-requires-send-D : goal.finish-requires-send-D
-finish-requires-send-D g c κs within = param_send 1 _ (arg_send _ no _ memory_disk_row)
+pub finish_whole-requires-send-D : goal.finish_whole-requires-send-D
+finish_whole-requires-send-D g c κs within = param_send 1 _ (arg_send _ no _ memory_disk_row)

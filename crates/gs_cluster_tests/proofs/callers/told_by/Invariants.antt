@@ -1,5 +1,5 @@
 use Rattle.std.specs.Prelude.{vec_len}
-use Rattle.gs_cluster_tests.proofs.callers.four_write.Given as goal
+use Rattle.gs_cluster_tests.proofs.callers.told_by.Given as goal
 
 abbrev pub invariant-loop-handle : goal.invariant-loop-handle
 invariant-loop-handle g l = Unit {0}
