@@ -25,7 +25,7 @@ use Rattle.gs_client.specs.Looking.{anew_call, chunks_call, count_in, fetch_call
 use Rattle.gs_client.specs.Replies.{chunks_in, given, located_in, looked, status_in}
 use Rattle.gs_client.specs.Trees.{and_then, look}
 use Rattle.gs_call_causes.specs.Causes.{Exchanges, IsFound, IsPassedOver, NoneGives, Why, WhyNoReplica, is_fetch, is_passed_over}
-use Rattle.gs_call_causes.proofs.Ways.{Caused, Holds, IsClear, IsOther, both_has, chosen_has, err_clear, err_is, grown, never, ok_clear, otherwise_has, said, stray_other, the_whole, upon_has, upon_splits}
+use Rattle.gs_call_causes.proofs.Ways.{Caused, Holds, IsClear, IsOther, both_has, chosen_has, err_clear, err_is, grown, never, not_other, ok_clear, otherwise_has, said, stray_other, the_whole, upon_has, upon_splits}
 use Rattle.gs_call_causes.proofs.Replies.{look_has, reads_located, reads_status, refused_so}
 use Rattle.std.specs.List.{AllByRecursion}
 
@@ -61,10 +61,10 @@ all_passed l asked (member ∷ members) [] none = absurd none
 all_passed l asked (member ∷ members) (exchange ∷ rest) (is, passed, none) =
     ((ap (λ (r : Request). is_fetch r) is, passed), all_passed l asked members rest none)
 
-module _ (l : Located) (asked : Asked) where
-  rounds : (members : List ℕ) (last e : Refusal) (exchanges : Exchanges) → Says (members_call l asked members last) exchanges (Err e) → Rounds l asked members last e exchanges
-  rounds [] last e exchanges h = Nobody (err_is h.0) h.1
-  rounds (member ∷ members) last e exchanges (reply, rest, is, says) = by_reply reply is says (λ next h. rounds members next e rest h)
+module _ (e : Refusal) (either : (e ≡ refusals.NoReplica) ⊎ (e ≡ refusals.Unsure)) (l : Located) (asked : Asked) where
+  rounds : (members : List ℕ) (last : Refusal) (exchanges : Exchanges) → Says (members_call l asked members last) exchanges (Err e) → Rounds l asked members last e exchanges
+  rounds [] last exchanges h = Nobody (err_is h.0) h.1
+  rounds (member ∷ members) last exchanges (reply, rest, is, says) = by_reply reply is says (λ next h. rounds members next rest h)
     where
       -- a member that was passed over is one more of those
       passes : (reply : Reply) → exchanges ≡ (fetch_of l asked member, reply) ∷ rest → is_passed_over reply ≡ true → Rounds l asked members last e rest → Rounds l asked (member ∷ members) last e exchanges
@@ -76,12 +76,17 @@ module _ (l : Located) (asked : Asked) where
           Somebody [] member rest (is ∙ ap (λ g. (fetch_of l asked member, replies.Refused g) ∷ rest) (sym so)) (all_passed l asked members rest none)
       refuses f is (Somebody before to behind stands all) = Somebody ((fetch_of l asked member, replies.Refused f) ∷ before) to behind (is ∙ ap (λ xs. (fetch_of l asked member, replies.Refused f) ∷ xs) stands) all
 
+      -- what answers as no member does is the last, and neither 28 nor 29
+      strays : (reply : Reply) → exchanges ≡ (fetch_of l asked member, reply) ∷ rest → Rounds l asked members refusals.Stray e rest → Rounds l asked (member ∷ members) last e exchanges
+      strays reply is (Nobody so none) = not_other e either (subst IsOther (sym so) stray_other)
+      strays reply is (Somebody before to behind stands all) = Somebody ((fetch_of l asked member, reply) ∷ before) to behind (is ∙ ap (λ xs. (fetch_of l asked member, reply) ∷ xs) stands) all
+
       by_reply : (reply : Reply) → exchanges ≡ (fetch_of l asked member, reply) ∷ rest → Says (otherwise (members_call l asked members) (given last reply)) rest (Err e)
           → ((next : Refusal) → Says (members_call l asked members next) rest (Err e) → Rounds l asked members next e rest) → Rounds l asked (member ∷ members) last e exchanges
       by_reply (replies.Given g) is says more = never says.0
       by_reply (replies.Refused f) is says more = refuses f is (more f says)
-      by_reply (replies.Answer answer) is says more = passes (replies.Answer answer) is refl (more last says)
-      by_reply (replies.Outcome outcome) is says more = passes (replies.Outcome outcome) is refl (more last says)
+      by_reply (replies.Answer answer) is says more = strays (replies.Answer answer) is (more refusals.Stray says)
+      by_reply (replies.Outcome outcome) is says more = strays (replies.Outcome outcome) is (more refusals.Stray says)
       by_reply replies.Lost is says more = passes replies.Lost is refl (more last says)
 
 -- ---- where a chunk is
@@ -146,7 +151,7 @@ module _ (e : Refusal) (either : (e ≡ refusals.NoReplica) ⊎ (e ≡ refusals.
       by_result (Err f) first second is says rest =
           let whole : exchanges ≡ first = is ∙ ap (λ xs. first ++ xs) rest.1 ∙ append-nil first in
           subst (λ xs. Rounds l what l.view.members refusals.NoReplica e xs) (sym whole)
-          (rounds l what l.view.members refusals.NoReplica e first (subst (λ g. Says (members_call l what l.view.members refusals.NoReplica) first (Err g)) (sym (err_is rest.0)) says))
+          (rounds e either l what l.view.members refusals.NoReplica first (subst (λ g. Says (members_call l what l.view.members refusals.NoReplica) first (Err g)) (sym (err_is rest.0)) says))
 
 module _ {e : Refusal} {either : (e ≡ refusals.NoReplica) ⊎ (e ≡ refusals.Unsure)} where
   pub chunks_has : (path : Path) → Holds e either (chunks_call path)

@@ -43,11 +43,10 @@ may_change (requests.Fetch to handle stamp epoch asked) = false
 
 -- ---- replies
 
--- Of a member: it neither gives nor refuses. Nothing came, or an answer of another kind than a member's.
+-- Of a member: nothing came from it.
 abbrev pub is_passed_over : Reply → Bool
-is_passed_over (replies.Given given) = false
-is_passed_over (replies.Refused refusal) = false
-is_passed_over reply = true
+is_passed_over replies.Lost = true
+is_passed_over reply = false
 
 -- a member was asked, and passed over
 abbrev pub IsPassedOver : Request × Reply → Type 0
@@ -80,7 +79,7 @@ pub data WhyNoReplica (asked : Request) (reply : Reply) (behind : Exchanges) : T
   Unanswered : only_looks asked ≡ true → reply ≡ replies.Lost → behind ≡ [] → WhyNoReplica asked reply behind
   -- a chunk was found, and has no members
   NoMembers : (path : Path) (l : Located) → IsFound path l asked reply → l.view.members ≡ [] → behind ≡ [] → WhyNoReplica asked reply behind
-  -- a chunk was found, each of its members was asked, and none gave or refused anything
+  -- a chunk was found, each of its members was asked, and nothing came from any
   PassedOver : (path : Path) (l : Located) (what : Asked) (first : ℕ) (others : List ℕ) → IsFound path l asked reply → l.view.members ≡ first ∷ others
       → NoneGives l what (first ∷ others) behind → WhyNoReplica asked reply behind
 

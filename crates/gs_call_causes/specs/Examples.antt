@@ -70,12 +70,12 @@ no_members = refl
 by_that_location : Why refusals.NoReplica (requests.Call (calls.FindForReading f 0)) (replies.Answer (answers.Location 1 lonely 0)) []
 by_that_location = WhyNoReplica.NoMembers f nowhere (refl, refl) refl refl
 
--- its two members are asked; one doesn't answer, and one answers as the master does
-none_gives : comes_to (digest_call f (Some 1) None 0 0) (at 1 4 ∷ replies.Lost ∷ replies.Answer answers.Nothing ∷ []) ≡ Err refusals.NoReplica
+-- its two members are asked, and neither answers
+none_gives : comes_to (digest_call f (Some 1) None 0 0) (at 1 4 ∷ replies.Lost ∷ replies.Lost ∷ []) ≡ Err refusals.NoReplica
 none_gives = refl
 
 by_those_members : Why refusals.NoReplica (requests.Call (calls.FindForReading f 0)) (at 1 4)
-    ((fetch_of (located 0 1 4) (asks.Digest 0) 0, replies.Lost) ∷ (fetch_of (located 0 1 4) (asks.Digest 0) 1, replies.Answer answers.Nothing) ∷ [])
+    ((fetch_of (located 0 1 4) (asks.Digest 0) 0, replies.Lost) ∷ (fetch_of (located 0 1 4) (asks.Digest 0) 1, replies.Lost) ∷ [])
 by_those_members = WhyNoReplica.PassedOver f (located 0 1 4) (asks.Digest 0) 0 (1 ∷ []) (refl, refl) refl (refl, refl, (refl, refl, refl))
 
 -- the first of them refuses so, and the other one is passed over
@@ -125,3 +125,7 @@ no_number_is_left = refl
 
 another_kind_of_answer : comes_to (mkdirs_call f) (replies.Answer answers.Absent ∷ []) ≡ Err refusals.Stray
 another_kind_of_answer = refl
+
+-- one member answers as the master does, and from the other nothing comes
+another_kind_of_answer_of_a_member : comes_to (digest_call f (Some 1) None 0 0) (at 1 4 ∷ replies.Answer answers.Nothing ∷ replies.Lost ∷ []) ≡ Err refusals.Stray
+another_kind_of_answer_of_a_member = refl

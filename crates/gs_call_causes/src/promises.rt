@@ -29,7 +29,7 @@ pub fn a_call_is_a_way_through_its_dialogue<L: Link, A>()
 /// the link.
 ///
 /// A 28 is from a refusal that says so; from no answer to a call that only looks; or from the location of a chunk that has no members, or none of whose
-/// members gave or refused anything. A 29 is from a refusal that says so; or, of a request that may change something, from a refusal for memory or for a
+/// members answered. A 29 is from a refusal that says so; or, of a request that may change something, from a refusal for memory or for a
 /// disk, or from no answer. Where memory of the client's own is wanting that is the answer (33), and so is that it has no number left (31): both are no
 /// cause, and the reply that is one came over the link.
 pub fn an_unsure_answer_has_a_cause<L: Link>()

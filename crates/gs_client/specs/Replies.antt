@@ -96,11 +96,12 @@ abbrev pub edited : Reply → Result EditOutcome Refusal
 edited (replies.Outcome outcome) = Ok outcome
 edited reply = Err (unsettled reply)
 
--- What a member gives, or the refusal that is the last so far: its own, or, where it didn't answer, the one before.
+-- What a member gives, or the refusal that is the last so far: its own, or, where it didn't answer, the one before. An answer of another kind is no member's.
 abbrev pub given : Refusal → Reply → Result Given Refusal
 given last (replies.Given g) = Ok g
 given last (replies.Refused refusal) = Err refusal
-given last reply = Err last
+given last replies.Lost = Err last
+given last reply = Err refusals.Stray
 
 -- bytes that were asked for, and no more of them
 abbrev pub as_many : ℕ → List ℕ → Result (List ℕ) Refusal
@@ -148,3 +149,6 @@ no_file = refl
 
 no_answer_of_a_member : given refusals.Old replies.Lost ≡ Err refusals.Old
 no_answer_of_a_member = refl
+
+an_answer_of_the_master_for_a_member : given refusals.Old (replies.Answer answers.Nothing) ≡ Err refusals.Stray
+an_answer_of_the_master_for_a_member = refl

@@ -182,7 +182,8 @@ pub(crate) fn given(last: Refusal, reply: Reply) -> Result<Given, Refusal>
     match reply {
         Reply::Given(given) => Ok(given),
         Reply::Refused(refusal) => Err(refusal),
-        _ => Err(last),
+        Reply::Lost => Err(last),
+        _ => Err(Refusal::Stray),
     }
 }
 

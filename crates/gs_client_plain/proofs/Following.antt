@@ -167,8 +167,8 @@ module _ {S : Type 0} (carries : S → Request → Reply → S → Type 0) where
         by_reply : (reply : Reply) → IsOf f (requests.Fetch member l.handle l.view.stamp l.epoch asked) reply → Follows (otherwise (members_call l asked members) (given_by last reply)) mid (Ok g) new
             → ((next : Refusal) → Follows (members_call l asked members next) mid (Ok g) new → g ≡ part_of f.block (f.text l.handle) asked) → g ≡ part_of f.block (f.text l.handle) asked
         by_reply (replies.Given other) told rest more = ok_is rest.0 ∙ told
-        by_reply (replies.Answer answer) told rest more = more last rest
-        by_reply (replies.Outcome outcome) told rest more = more last rest
+        by_reply (replies.Answer answer) told rest more = more refusals.Stray rest
+        by_reply (replies.Outcome outcome) told rest more = more refusals.Stray rest
         by_reply (replies.Refused refusal) told rest more = more refusal rest
         by_reply replies.Lost told rest more = more last rest
 

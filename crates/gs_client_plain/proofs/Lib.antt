@@ -1,1 +1,2 @@
-mod Following
+pub mod Following
+pub mod Located

@@ -132,11 +132,10 @@ impl<N: Plan + Send + Sync + 'static, D: Disk + Drop + Send + 'static> Cluster<N
             seeds,
             are_noted,
         } = opened;
-        let many = seeds.len();
         let nodes = wire(rt, alloc, are_noted, seeds)?;
         let (keepers, clients) = parted(alloc, config.servers as usize + 1, nodes)?;
         let callers = callers_of(rt, alloc, clients)?;
-        let hosts = Hosts::start(rt, alloc, gate, many, keepers)?;
+        let hosts = Hosts::start(rt, alloc, gate, keepers)?;
         let cluster = Cluster {
             alloc,
             config,

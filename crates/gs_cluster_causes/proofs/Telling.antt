@@ -25,7 +25,7 @@ use Rattle.gs_cluster.specs.Calling.{Carries}
 use Rattle.gs_cluster_core.specs.declared.role.Role.{Role}
 use Rattle.gs_cluster_history.specs.Histories.{Among, Entry, Kept}
 use Rattle.gs_call_causes.specs.Carried.{Carried, Explained, Explains}
-use Rattle.gs_call_causes.specs.Causes.{Exchanges, NoneGives, WhyNoReplica, WhyUnsure, is_fetch, is_passed_over, may_change}
+use Rattle.gs_call_causes.specs.Causes.{Exchanges, NoneGives, WhyNoReplica, WhyUnsure, is_passed_over, may_change}
 use Rattle.gs_cluster_causes.specs.Told.{InHistory, IsAsked, IsTold, NoReplicaOf, Tells, UnsureOf}
 
 -- ---- more that was taken
@@ -55,13 +55,11 @@ module _ (took more : List Entry) where
   replica_before client (NoReplicaOf.Refused request told) = NoReplicaOf.Refused request (told_before client request (replies.Refused refusals.NoReplica) told)
   replica_before client (NoReplicaOf.NoMembers path l told none) =
       NoReplicaOf.NoMembers path l (told_before client (requests.Call (calls.FindForReading path l.index)) (replies.Answer (answers.Location l.handle l.view l.epoch)) told) none
-  replica_before client (NoReplicaOf.OtherKind request reply fetches told passed) = NoReplicaOf.OtherKind request reply fetches (told_before client request reply told) passed
 
   replica_behind : (client : Option ClientId) → NoReplicaOf client more → NoReplicaOf client (took ++ more)
   replica_behind client (NoReplicaOf.Refused request told) = NoReplicaOf.Refused request (told_behind client request (replies.Refused refusals.NoReplica) told)
   replica_behind client (NoReplicaOf.NoMembers path l told none) =
       NoReplicaOf.NoMembers path l (told_behind client (requests.Call (calls.FindForReading path l.index)) (replies.Answer (answers.Location l.handle l.view l.epoch)) told) none
-  replica_behind client (NoReplicaOf.OtherKind request reply fetches told passed) = NoReplicaOf.OtherKind request reply fetches (told_behind client request reply told) passed
 
   unsure_before : (client : Option ClientId) → UnsureOf client took → UnsureOf client (took ++ more)
   unsure_before client (UnsureOf.Refused request told) = UnsureOf.Refused request (told_before client request (replies.Refused refusals.Unsure) told)
@@ -239,32 +237,17 @@ module _ {D : Type 0} (seen : D → List ℕ) (failures : D → ℕ) where
     exhausted_apart : refusals.NoReplica ≡ refusals.Exhausted → ⊥
     exhausted_apart is = cc
 
-    -- of the members that were passed over the first
-    passed : (l : Located) (what : Asked) (first : ℕ) (others : List ℕ) (exchanges : Exchanges) (old new : S) → NoneGives l what (first ∷ others) exchanges → Carried carries old exchanges new
-        → InHistory NoReplicaOf (node old) (node new)
-    passed l what first others [] old new none carried = absurd none
-    passed l what first others (x ∷ xs) old new (is, over_it, none) (mid, one, rest) =
+    -- something came from each member that was asked
+    never_passed : {A : Type 0} (l : Located) (what : Asked) (first : ℕ) (others : List ℕ) (exchanges : Exchanges) (old new : S) → NoneGives l what (first ∷ others) exchanges
+        → Carried carries old exchanges new → A
+    never_passed l what first others [] old new none carried = absurd none
+    never_passed l what first others (x ∷ xs) old new (is, over_it, none) (mid, one, rest) =
         let h = heard (node old) x.0 x.1 (node mid) (over old x.0 x.1 mid one) in
-        let after = all_grow xs mid new rest in
-        let all = grows_then (node old) (node mid) (node new) h.more after in
-        record {
-          took = h.more.took ++ after.took;
-          grows = after.grows ∙ ap (λ ys. ys ++ after.took) h.more.grows ∙ append_assoc (node old).entries h.more.took after.took;
-          cause = replica_before h.more.took after.took (client_of (node old).past.core)
-              (NoReplicaOf.OtherKind x.0 x.1 (ap is_fetch is) (brought_so h.more.took (client_of (node old).past.core) x.0 x.1 (unrefused x.1 over_it) h.told) over_it);
-        }
+        never_silent h.more.took (client_of (node old).past.core) x.0 x.1 (lost x.1 over_it) h.told
       where
-        unrefused : (reply : Reply) → is_passed_over reply ≡ true → is_refused reply ≡ false
-        unrefused (replies.Refused refusal) so = sym so
-        unrefused reply so = refl
-
-    after_others : (Cause : Option ClientId → List Entry → Type 0) → ((took more : List Entry) (client : Option ClientId) → Cause client more → Cause client (took ++ more))
-        → (old mid new : S) → Grows (node old) (node mid) → InHistory Cause (node mid) (node new) → InHistory Cause (node old) (node new)
-    after_others Cause back old mid new one h = record {
-      took = one.took ++ h.took;
-      grows = h.grows ∙ ap (λ xs. xs ++ h.took) one.grows ∙ append_assoc (node old).entries one.took h.took;
-      cause = back one.took h.took (client_of (node old).past.core) (subst (λ c. Cause c h.took) one.stays h.cause);
-    }
+        lost : (reply : Reply) → is_passed_over reply ≡ true → reply ≡ replies.Lost
+        lost replies.Lost so = refl
+        lost reply so = differ so
 
     replica : {A : Type 0} (call : Call A) (old new : S) → Explained carries call refusals.NoReplica old new → InHistory NoReplicaOf (node old) (node new)
     replica call old new x = by_why x.why
@@ -291,8 +274,7 @@ module _ {D : Type 0} (seen : D → List ℕ) (failures : D → ℕ) where
             (subst (λ q. IsTold h.more.took (client_of (node x.from).past.core) q (replies.Answer (answers.Location l.handle l.view l.epoch))) there.0
             (subst (λ r. IsTold h.more.took (client_of (node x.from).past.core) x.asked r) there.1 t))
             members)
-        by_why (WhyNoReplica.PassedOver path l what one others there members none) =
-            after_others NoReplicaOf replica_behind old x.to new (grows_then (node old) (node x.from) (node x.to) first h.more) (passed l what one others x.behind x.to new none x.left)
+        by_why (WhyNoReplica.PassedOver path l what one others there members none) = never_passed l what one others x.behind x.to new none x.left
 
     unsure : {A : Type 0} (call : Call A) (old new : S) → Explained carries call refusals.Unsure old new → InHistory UnsureOf (node old) (node new)
     unsure call old new x = by_why x.why

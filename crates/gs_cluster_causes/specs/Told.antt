@@ -22,7 +22,7 @@ use Rattle.gs_cluster.specs.Calling.{asking}
 use Rattle.gs_cluster_core.specs.declared.role.Role.{Role}
 use Rattle.gs_cluster_history.specs.Histories.{Among, Entry, Kept}
 use Rattle.gs_cluster_history.specs.declared.took.Took.TheVariants.{Heard, Did}
-use Rattle.gs_call_causes.specs.Causes.{is_fetch, is_passed_over, may_change}
+use Rattle.gs_call_causes.specs.Causes.{may_change}
 
 -- what was asked in a call, as the history has it
 pub record IsAsked (took : List Entry) (request : Request) : Type 0 where
@@ -44,8 +44,6 @@ pub data NoReplicaOf (client : Option ClientId) (took : List Entry) : Type 0 whe
   -- a message brings a location without members
   NoMembers : (path : Path) (l : Located) → IsTold took client (requests.Call (calls.FindForReading path l.index)) (replies.Answer (answers.Location l.handle l.view l.epoch)) → l.view.members ≡ []
       → NoReplicaOf client took
-  -- a member of a chunk was asked, and a message brings an answer of another kind than a member's
-  OtherKind : (request : Request) (reply : Reply) → is_fetch request ≡ true → IsTold took client request reply → is_passed_over reply ≡ true → NoReplicaOf client took
 
 -- Of 29.
 pub data UnsureOf (client : Option ClientId) (took : List Entry) : Type 0 where

@@ -18,10 +18,9 @@ use std::time::Clock;
 
 /// Each 28 and 29 of a call of a caller has a cause that its history took in that call. No reply of a caller's is lost: it waits for one.
 ///
-/// A 28 is from a message that brings that refusal, or the location of a chunk without members; or a member of a chunk was asked, and a message brings an
-/// answer of another kind than a member's. A 29 is from a message that brings that refusal, or that memory or a disk was wanting for a request that may
-/// change something; or memory of the caller's own was wanting for such a request, or for the copy of its reply. Neither is from a clock or a number at its
-/// last value.
+/// A 28 is from a message that brings that refusal, or the location of a chunk without members. A 29 is from a message that brings that refusal, or that
+/// memory or a disk was wanting for a request that may change something; or memory of the caller's own was wanting for such a request, or for the copy of
+/// its reply. Neither is from a clock or a number at its last value.
 pub fn an_unsure_caller_has_a_cause<N: Plan, D: Disk + Drop, R: Wait + Clock + Drop>()
     ensures calls { OfEachCall (Tells (Sends (carried {N = N} {R = R} D.seen D.failures)) (λ (s : Client × Caller N D R). s.1.node)) }
     ensures edits { OfEachCall (Tells (Edits (carried {N = N} {R = R} D.seen D.failures)) (λ (s : Client × ℕ × Caller N D R). s.2.node)) }

@@ -33,7 +33,7 @@ past_as core clock sent = record { core = core; clock = clock; sent = sent }
 abbrev pub kept_as : {C : Type 0} → NodeId → C → ℕ → List Listed → List Entry → Kept C
 kept_as me core clock sent entries = record { me = me; past = past_as core clock sent; entries = entries }
 
-map_length : {A B : Type 0} (f : A → B) (xs : List A) → length (map f xs) ≡ length xs
+pub map_length : {A B : Type 0} (f : A → B) (xs : List A) → length (map f xs) ≡ length xs
 map_length f [] = refl
 map_length f (x ∷ xs) = ap suc (map_length f xs)
 

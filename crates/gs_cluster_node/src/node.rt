@@ -163,6 +163,37 @@ fn go<N: Plan, C: Core, R: Wait>(
     said
 }
 
+/// What a node keeps that has taken nothing: what it sends at first stands in its list at clock 0, and goes on its ways. It keeps notes
+/// where that is said.
+fn first_diary<N: Plan, R: Wait>(
+    rt: &R,
+    alloc: Global,
+    are_noted: bool,
+    me: &NodeId,
+    turn: Turn,
+    ways: &mut Vec<Way<N>>,
+) -> Diary
+    requires silent { HaveSentNothing ways.old.items }
+    ensures entries { result.log.entries ≡ [] }
+    ensures sent { result.log.sent ≡ first_sent turn }
+    ensures agrees { Agrees me.now result }
+    ensures routes { Routes me.now result.log.sent ways.old.items ways.new.items }
+{
+    let log = Log::new().first(&turn);
+    let count = turn.sent.len() as u64;
+    let notes = Notes::first(alloc, are_noted, &turn.sent);
+    let mut waiting = VecDeque::new(alloc);
+    let at = Moment(0);
+    put_all(rt, ways, &mut waiting, &log, me, 0, 0, at, turn.sent);
+    Diary {
+        log,
+        count,
+        waiting,
+        asked: Vec::new(alloc),
+        notes,
+    }
+}
+
 impl<N: Plan, C: Core + Drop> Node<N, C> {
     /// A node that has taken nothing: what it sends at first stands in its list at clock 0, and goes on its ways. It keeps notes where
     /// that is said.
@@ -184,35 +215,15 @@ impl<N: Plan, C: Core + Drop> Node<N, C> {
         requires whole { ear.parts + length (all_ids N.setting) ≡ 1024 }
         ensures { result ≡ record { me = me; past = record { core = core; clock = 0; sent = first_sent turn }; entries = [] } }
     {
-        let log = Log::new().first(&turn);
         let mut ways = ways;
-        let count = turn.sent.len() as u64;
-        let notes = Notes::first(alloc, are_noted, &turn.sent);
-        let mut waiting = VecDeque::new(alloc);
-        put_all(
-            rt,
-            &mut ways,
-            &mut waiting,
-            &log,
-            &me,
-            0,
-            0,
-            Moment(0),
-            turn.sent,
-        );
+        let diary = first_diary(rt, alloc, are_noted, &me, turn, &mut ways);
         Node {
             me,
             core,
             clock: 0,
             steps: 0,
             told: Moment(0),
-            diary: Diary {
-                log,
-                count,
-                waiting,
-                asked: Vec::new(alloc),
-                notes,
-            },
+            diary,
             ways,
             ear,
         }
@@ -229,6 +240,13 @@ impl<N: Plan, C: Core + Drop> Node<N, C> {
         ensures { slice_get (all_ids N.setting) result ≡ Some self.now.me }
     {
         place_of(&self.ways, &self.me)
+    }
+
+    /// How many nodes there are, itself among them.
+    pub fn many(&self) -> usize
+        ensures { result ≡ length (all_ids N.setting) }
+    {
+        self.ways.len()
     }
 
     pub fn core(&self) -> &C

@@ -1,13 +1,14 @@
 -- What comes back of threads.
-use Rattle.std.proofs.Common.{◌≡◌, ℕ, zero, suc, ◌+◌, ◌≤◌, List, [], ◌∷◌, ◌++◌, length, sym, subst, arith}
+use Rattle.std.proofs.Common.{◌≡◌, ℕ, zero, suc, ◌+◌, ◌≤◌, List, [], ◌∷◌, ◌++◌, Result, Ok, Err, length, sym, subst, arith}
 use Rattle.std.proofs.lemmas.Option.{none-some}
+use Rattle.gs_base.specs.declared.refusal.Refusal.{Refusal}
+use Rattle.gs_base.specs.declared.refusal.Refusal.TheVariants as refusals
 use Rattle.gs_msg.specs.declared.message.Message.{Message}
 use Rattle.gs_msg.specs.declared.node.NodeId.{NodeId}
 use Rattle.gs_cluster_history.specs.declared.took.Took.{Took}
 use Rattle.gs_cluster_history.specs.Histories.{Among, Kept, Upshot}
-use Rattle.gs_cluster_notes.specs.declared.notes.Notes.{Notes}
-use Rattle.gs_cluster_threads.specs.Gathered.{IsWhole}
-use Rattle.gs_cluster_threads.specs.declared.gathering.Member.{Member}
+use Rattle.gs_cluster_threads.specs.Gathered.{Finished, Gathers}
+use Rattle.gs_cluster_threads.specs.declared.gathering.Gathered.{Gathered}
 
 -- The callers' nodes are among these, and there is room for those of the threads that are left.
 pub record Ending {C : Type 0} (callers : List (Kept C)) (threads : ℕ) (nodes : List (Kept C)) (many left place : ℕ) : Type 0 where
@@ -36,7 +37,12 @@ one_ended {C} callers threads nodes new k many more left less place room e put l
   room = (let h = e.room in omega arith);
 }
 
--- what is whole with all nodes is so with the callers' alone
-pub whole_for : {C : Type 0} (Does : Took → C → Upshot → C → Type 0) (Starts : NodeId → C → List Message → Type 0) (all : List NodeId) (callers nodes : List (Kept C)) (members : List (Member C)) (notes : List Notes)
-    → ((k : Kept C) → Among callers k → Among nodes k) → IsWhole Does Starts all nodes members notes → IsWhole Does Starts all callers members notes
-whole_for Does Starts all callers nodes members notes among w = record { nodes = w.nodes; among = λ k a. w.among k (among k a); numbers = w.numbers; kept = w.kept; match = w.match; are = w.are; told = w.told }
+-- with none left, what all nodes come to is what the threads and the callers do
+pub ends_so : {C : Type 0} (Does : Took → C → Upshot → C → Type 0) (Starts : NodeId → C → List Message → Type 0) (all : List NodeId) (callers nodes : List (Kept C)) (threads many left place : ℕ)
+    → Ending callers threads nodes many left place → left ≡ 0 → many ≡ length nodes → (result : Result (Gathered C) Refusal) → Gathers Does Starts all nodes result → Finished Does Starts all threads callers result
+ends_so Does Starts all callers nodes threads many left place e none long (Ok gathered) w =
+    record { nodes = w.nodes; among = λ k a. w.among k (e.among k a); numbers = w.numbers; kept = w.kept; match = w.match; are = w.are; told = w.told }
+ends_so Does Starts all callers nodes threads many left place e none long (Err refusals.Memory) w = tt
+ends_so Does Starts all callers nodes threads many left place e none long (Err refusals.Stray) other =
+    λ same. other (let h = e.all in let l : ℕ = length nodes in let c : ℕ = length callers in omega arith)
+ends_so Does Starts all callers nodes threads many left place e none long (Err refusal) never = never

@@ -20,18 +20,25 @@ abbrev pub AllTell : {C : Type 0} → List (Kept C) → List Notes → Type 0
 AllTell {C} nodes notes = AllKeep notes (map (λ (k : Kept C). k.entries) nodes) (map (λ (k : Kept C). k.past.sent) nodes)
 
 module _ {C : Type 0} (Does : Took → C → Upshot → C → Type 0) (Starts : NodeId → C → List Message → Type 0) (all : List NodeId) where
-  -- The members are all nodes, in the order of their numbers, those that the callers had among them. Each node's history leads to what
-  -- it is, the histories match, and the notes are of them.
-  pub record IsWhole (callers : List (Kept C)) (members : List (Member C)) (notes : List Notes) : Type 0 where
+  -- The members are all nodes, in the order of their numbers, these among them. Each node's history leads to what it is, the histories
+  -- match, and the notes are of them.
+  pub record IsWhole (given : List (Kept C)) (members : List (Member C)) (notes : List Notes) : Type 0 where
     pub nodes : List (Kept C)
-    pub among : (k : Kept C) → Among callers k → Among nodes k
+    pub among : (k : Kept C) → Among given k → Among nodes k
     pub numbers : map (λ (k : Kept C). k.me) nodes ≡ all
     pub kept : AllKept Does Starts nodes
     pub match : Matches nodes
     pub are : members ≡ map member_of nodes
     pub told : AllTell nodes notes
 
-  -- Of so many threads' nodes and those of the callers. `Stray` is said only where they aren't as many as there are nodes.
+  -- Of these nodes. `Stray` is said only where they aren't as many as there are.
+  abbrev pub Gathers : List (Kept C) → Result (Gathered C) Refusal → Type 0
+  Gathers given (Ok gathered) = IsWhole given gathered.members.items gathered.notes.items
+  Gathers given (Err refusals.Memory) = ⊤
+  Gathers given (Err refusals.Stray) = length given ≡ length all → ⊥
+  Gathers given (Err refusal) = ⊥
+
+  -- Of so many threads' nodes and those of the callers.
   abbrev pub Finished : ℕ → List (Kept C) → Result (Gathered C) Refusal → Type 0
   Finished threads callers (Ok gathered) = IsWhole callers gathered.members.items gathered.notes.items
   Finished threads callers (Err refusals.Memory) = ⊤

@@ -1,15 +1,16 @@
 // What nodes come to when nothing happens to them any more.
-ghost use Rattle.std.specs.Prelude.{◌≡◌, IfOk, length, vec_len};
+ghost use Rattle.std.specs.Prelude.{◌≡◌, ◌↔◌, IsTrue, length, vec_len};
 ghost use Rattle.gs_cluster_history.specs.Setting.{all_ids};
-ghost use Rattle.gs_cluster_threads.specs.Gathered.{IsWhole};
+ghost use Rattle.gs_cluster_threads.specs.Gathered.{Gathers};
 
 use crate::placing::placed;
 use crate::settling::{Apart, settle_all, take_apart};
+use gs_base::Refusal;
 use gs_cluster_history::Core;
 use gs_cluster_node::{Node, Plan};
 use gs_cluster_notes::Notes;
 use gs_msg::NodeId;
-use std::alloc::{AllocError, Global};
+use std::alloc::Global;
 
 /// What a node has come to.
 #[derive(Drop)]
@@ -25,14 +26,27 @@ pub struct Gathered<C: Core + Drop> {
     pub notes: Vec<Notes>,
 }
 
-/// What these nodes have come to.
-pub(crate) fn gather<N: Plan, C: Core + Drop>(
+/// Whether these are as many nodes as there are.
+fn are_all<N: Plan, C: Core + Drop>(nodes: &Vec<Node<N, C>>) -> bool
+    ensures { IsTrue result ↔ (vec_len nodes.now ≡ length (all_ids N.setting)) }
+{
+    match nodes.first() {
+        Some(node) => nodes.len() == node.many(),
+        None => false,
+    }
+}
+
+/// What these nodes have come to, in whatever order they are, and what each has noted: their histories match. `Stray` where they
+/// aren't as many as there are.
+pub fn gather<N: Plan, C: Core + Drop>(
     alloc: Global,
     nodes: Vec<Node<N, C>>,
-) -> Result<Gathered<C>, AllocError>
-    requires { vec_len nodes ≡ length (all_ids N.setting) }
-    ensures { IfOk result (λ g. IsWhole C.Does (C.Starts N.setting) (all_ids N.setting) nodes.items g.members.items g.notes.items) }
+) -> Result<Gathered<C>, Refusal>
+    ensures { Gathers C.Does (C.Starts N.setting) (all_ids N.setting) nodes.items result }
 {
+    if !are_all(&nodes) {
+        return Err(Refusal::Stray);
+    }
     let nodes = placed(alloc, nodes)?;
     let Apart {
         members,

@@ -1,4 +1,4 @@
-ghost use Rattle.std.specs.Prelude.{◌≡◌, ◌+◌, ◌≤◌, IfOk, OnOk, length, vec_capacity, vec_len};
+ghost use Rattle.std.specs.Prelude.{◌≡◌, ◌+◌, ◌≤◌, IfOk, OnOk, vec_capacity, vec_len};
 ghost use Rattle.gs_cluster_history.specs.Setting.{all_ids};
 ghost use Rattle.gs_cluster_threads.specs.Gathered.{Finished};
 
@@ -18,10 +18,7 @@ use std::time::Clock;
 pub struct Hosts<N: Plan, C: Core + Drop> {
     alloc: Global,
     end: Arc<AtomicBool, Global>,
-    /// How many nodes there are, those of callers among them.
-    many: usize,
     pub handles: Vec<JoinHandle<Node<N, C>>>,
-    ghost all: { many ≡ length (all_ids N.setting) },
 }
 
 impl<N: Plan, C: Core + Drop> Drop for Hosts<N, C> {
@@ -29,7 +26,6 @@ impl<N: Plan, C: Core + Drop> Drop for Hosts<N, C> {
         let Self {
             alloc: _,
             end,
-            many: _,
             handles: _,
         } = self;
         end.store(true, Ordering::SeqCst);
@@ -93,19 +89,11 @@ fn end_all<N: Plan, C: Core + Drop, R: Threads>(
 }
 
 impl<N: Plan + Send + Sync + 'static, C: Core + Drop + Send + 'static> Hosts<N, C> {
-    /// Starts the threads of nodes. There are this many nodes, with those that stay with their callers. Where memory or a thread is
-    /// wanting, those that were started end.
+    /// Starts the threads of nodes. Where memory or a thread is wanting, those that were started end.
     pub fn start<
         R: Threads + Wait + Clock + Copy + Send + Sync + 'static,
         G: Gate + Send + Sync + Drop + 'static,
-    >(
-        rt: &R,
-        alloc: Global,
-        gate: G,
-        many: usize,
-        nodes: Vec<Node<N, C>>,
-    ) -> Result<Hosts<N, C>, AllocError>
-        requires { many ≡ length (all_ids N.setting) }
+    >(rt: &R, alloc: Global, gate: G, nodes: Vec<Node<N, C>>) -> Result<Hosts<N, C>, AllocError>
         ensures { IfOk result (λ hosts. vec_len hosts.handles ≡ vec_len nodes) }
     {
         let gate = Arc::new(alloc, gate)?;
@@ -115,7 +103,6 @@ impl<N: Plan + Send + Sync + 'static, C: Core + Drop + Send + 'static> Hosts<N, 
             Ok(()) => Ok(Hosts {
                 alloc,
                 end,
-                many,
                 handles,
             }),
             Err(refused) => {
@@ -136,7 +123,6 @@ impl<N: Plan + Send + Sync + 'static, C: Core + Drop + Send + 'static> Hosts<N, 
         let Hosts {
             alloc,
             end,
-            many,
             handles,
         } = self;
         let mut nodes = callers;
@@ -148,9 +134,6 @@ impl<N: Plan + Send + Sync + 'static, C: Core + Drop + Send + 'static> Hosts<N, 
         for handle in handles {
             nodes.push_reserved(handle.join(rt));
         }
-        if nodes.len() != many {
-            return Err(Refusal::Stray);
-        }
-        Ok(gather(alloc, nodes)?)
+        gather(alloc, nodes)
     }
 }

@@ -9,7 +9,7 @@ mod settling;
 mod wiring;
 mod work;
 
-pub use gathering::{Gathered, Member};
+pub use gathering::{Gathered, Member, gather};
 pub use hosts::Hosts;
 pub use wiring::{Seed, wire};
 pub use work::{LOOKS, rest};

@@ -4,6 +4,7 @@ pub mod Armed
 pub mod Appending
 pub mod Composing
 pub mod Copies
+pub mod Crashes
 pub mod Ended
 pub mod Ends
 pub mod Entered

@@ -3,5 +3,6 @@ pub mod Journaled
 pub mod Masters
 pub mod Recovering
 pub mod Starting
+pub mod Crashing
 pub mod Ticking
 pub mod inner

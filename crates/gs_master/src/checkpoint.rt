@@ -1,7 +1,7 @@
 // A checkpoint behind the records of an event.
-ghost use Rattle.std.specs.Prelude.{◌<◌, ◌≡◌, ◌≤◌, ◌⊎◌, length, None, ℕ};
+ghost use Rattle.std.specs.Prelude.{[], ◌<◌, ◌≡◌, ◌≤◌, ◌⊎◌, false, length, None, ℕ};
 ghost use Rattle.gs_master.specs.inner.Events.{HasComeFrom};
-ghost use Rattle.gs_master.specs.inner.Renewing.{AreCutAnew, AreRenewed, IsCutAnew, IsRenewed};
+ghost use Rattle.gs_master.specs.inner.Renewing.{AreCutAnew, AreRenewed, IsCutAnew, IsRenewed, LeavesAnew};
 ghost use Rattle.gs_master.specs.inner.Turns.{state_at};
 ghost use Rattle.gs_master_plan.specs.Renewable.{IsBehind, IsRenewalOf};
 ghost use Rattle.gs_master_record.specs.Plain.{plain, Whole};
@@ -69,6 +69,7 @@ impl Event {
             (AreRenewed D.seen D.may_leave D.failures (log_of first) self.old journal.old self.new journal.new
             ⊎ ((place : ℕ) × AreCutAnew D.seen D.failures before (log_of first) place self.old journal.old self.new journal.new)) }
         ensures counted { self.old.log.records ≤ self.old.log.size → self.new.log.records ≤ self.new.log.size }
+        ensures crash { self.old.written.items ≡ [] → journal.old.is_failed ≡ false → LeavesAnew D.seen D.moment D.left_since (durable_of self.old.recorded) journal.old journal.new }
     {
         let many = append_all(journal, &self.written);
         if many < self.written.len() {

@@ -1,11 +1,15 @@
 // The master that an open journal tells, and as its disks tell it.
-ghost use Rattle.std.specs.Prelude.{◌≡◌, ◌≤◌, IfErr, IfOk, IfSome, map};
+ghost use Rattle.std.specs.Prelude.{◌≡◌, ◌≤◌, ◌⊎◌, IfErr, IfOk, IfSome, List, map, ℕ};
 ghost use Rattle.gs_master_guard.specs.Reading.{AreRecordsOf};
+ghost use Rattle.gs_journal_disk.specs.Disk.{LeavesPairs};
 ghost use Rattle.gs_journal.specs.Journal.{Stands};
-ghost use Rattle.gs_journal.specs.Records.{standing};
+ghost use Rattle.gs_journal.specs.Records.{generation_standing, standing};
+ghost use Rattle.gs_journal.specs.declared.version.Version.TheVariants.{One};
+ghost use Rattle.gs_master.specs.Crashing.{IsStillOrAnew, MightTell, SurvivesOpening, SurvivesRefusal};
 ghost use Rattle.gs_master.specs.Journaled.{IsLogOf};
 ghost use Rattle.gs_master.specs.Recovering.{IsRestarted, log_behind_last, Recovers, Rests, Updates, WritesAnew};
 ghost use Rattle.gs_master.specs.Starting.{IsOpened, WhyUnopened};
+ghost use Rattle.gs_master.specs.inner.Renewing.{LeavesAnew};
 ghost use Rattle.gs_master.specs.inner.StartingOver.{IsBegun};
 ghost use Rattle.gs_master.specs.inner.Turns.{IsUnderWay};
 ghost use Rattle.gs_master_record.specs.Plain.{plain};
@@ -16,6 +20,7 @@ ghost use Rattle.gs_master_state.specs.inner.Recorded.{durable_of};
 use crate::event::Event;
 use crate::master::Master;
 use gs_base::{Config, EpochEnd, Refusal};
+use gs_journal::promises::a_checkpoint_behind_a_reading_is_whole;
 use gs_journal::{Disk, Journal, Unopened, Version};
 use gs_master_guard::reading::read_entries;
 use gs_master_guard::telling::tell_all;
@@ -115,7 +120,8 @@ impl Event {
         requires begun { IsBegun self.old }
         requires ready { IsUnderWay self.old }
         requires log { IsLogOf (log_of self.old.log) journal.old }
-        ensures { WritesAnew D.seen D.may_leave D.failures self.old journal.old result self.new journal.new }
+        ensures written { WritesAnew D.seen D.may_leave D.failures self.old journal.old result self.new journal.new }
+        ensures crash { LeavesAnew D.seen D.moment D.left_since (durable_of self.old.recorded) journal.old journal.new }
     {
         let renewal = match self.standing().renewal(journal) {
             Ok(renewal) => renewal,
@@ -134,7 +140,8 @@ impl Event {
         requires begun { IsBegun self.old }
         requires ready { IsUnderWay self.old }
         requires log { IsLogOf (log_of self.old.log) journal.old }
-        ensures { Updates D.seen D.may_leave D.failures version self.old journal.old result self.new journal.new }
+        ensures updated { Updates D.seen D.may_leave D.failures version self.old journal.old result self.new journal.new }
+        ensures crash { (journal.new ≡ journal.old) ⊎ ((version ≡ One) × LeavesAnew D.seen D.moment D.left_since (durable_of self.old.recorded) journal.old journal.new) }
     {
         match version {
             Version::One => self.write_anew(journal),
@@ -149,7 +156,8 @@ impl Event {
         journal: &mut Journal<D>,
     ) -> Result<Event, Refusal>
         requires stands { Stands D.seen D.may_leave journal.old }
-        ensures { Recovers D.seen D.may_leave D.failures config.now journal.old journal.new result }
+        ensures recovered { Recovers D.seen D.may_leave D.failures config.now journal.old journal.new result }
+        ensures crash { LeavesPairs D.moment D.left_since journal.old.first journal.old.second journal.new.first journal.new.second (IsStillOrAnew journal.old.text journal.old.generation) }
     {
         let Ok(version) = journal.version() else {
             return Err(Refusal::Device);
@@ -169,6 +177,7 @@ impl Event {
         let Ok(sent) = told_again(alloc, config, &event.recorded) else {
             return Err(Refusal::Memory);
         };
+        a_checkpoint_behind_a_reading_is_whole::<D>();
         match event.update(journal, version) {
             Ok(()) => {
                 event.sent = sent;
@@ -196,6 +205,16 @@ impl<D: Disk> Master<D> {
     ) -> Result<Started<D>, Unopened<D>>
         ensures opened { IfOk result (λ started. IsOpened D.seen D.failures config first second (standing (D.seen first) (D.seen second)) limit started.master started.sent.items) }
         ensures refused { IfErr result (WhyUnopened D.seen D.failures config limit first second) }
+        // A crash at any moment of the call leaves what one just before it might have left, or what is told then, or the checkpoint
+        // of that.
+        ensures any_moment { IfOk result (λ started. SurvivesOpening D.may_leave D.moment D.left_since (standing (D.seen first) (D.seen second)) (generation_standing (D.seen first) (D.seen second))
+            first second started.master.journal.first started.master.journal.second) }
+        ensures any_moment_refused { IfErr result (λ u. SurvivesRefusal D.may_leave D.moment D.left_since (standing (D.seen first) (D.seen second)) (generation_standing (D.seen first) (D.seen second))
+            first second u.first u.second) }
+        // So does one behind it.
+        ensures stands { IfOk result (λ started. Stands D.seen D.may_leave started.master.journal) }
+        ensures lasts { IfErr result (λ u. (a b : List ℕ) → D.may_leave u.first a → D.may_leave u.second b
+            → MightTell (D.may_leave first) (D.may_leave second) (standing a b)) }
     {
         let mut journal = match Journal::open(alloc, first, second, limit) {
             Ok(journal) => journal,

@@ -8,6 +8,7 @@ mod Made
 mod Putting
 mod Keeping
 mod Spent
+mod Rooms
 mod NewEdits
 mod Telling
 mod Others

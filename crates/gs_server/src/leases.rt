@@ -5,7 +5,7 @@ ghost use Rattle.std.specs.Ordering.{nat_cmp};
 ghost use Rattle.gs_base_table.specs.Slots.{live, GivesUpRoom, HasRoom};
 ghost use Rattle.gs_base.specs.declared.refusal.Refusal.TheVariants.{Memory};
 ghost use Rattle.gs_server_lease.specs.Leases.{PrimaryLease, settled, with_told, renews};
-ghost use Rattle.gs_server.specs.inner.Spending.{over_of, without};
+ghost use Rattle.gs_server.specs.inner.Spending.{GivesUpEach, over_of, without};
 
 use gs_base::{Handle, Moment, Refusal};
 use gs_base_table::Table;
@@ -37,9 +37,10 @@ pub(crate) fn over(
     Ok(handles)
 }
 
-/// Spends the leases of these handles. It takes no memory.
+/// Spends the leases of these handles, and gives up their room. It takes no memory.
 pub(crate) fn spend_each(leases: &mut Table<Handle, PrimaryLease>, handles: &[Handle])
-    ensures { live nat_cmp leases.new ≡ without handles.now (live nat_cmp leases.old) }
+    ensures spent { live nat_cmp leases.new ≡ without handles.now (live nat_cmp leases.old) }
+    ensures room { GivesUpEach leases.old leases.new handles.now }
 {
     for handle in handles {
         spend(leases, *handle);

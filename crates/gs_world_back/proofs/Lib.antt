@@ -1,3 +1,3 @@
-mod Lists
-mod Unled
-mod Readings
+pub mod Lists
+pub mod Unled
+pub mod Readings

@@ -83,7 +83,7 @@ row_there (Some y) view is = refl
 
 -- ---- what is given
 
-given_so : (c : Setting) (text : List ℕ) (asked : Asked) (given : Given) → GivesOf c text asked given → given ≡ given_of c.block text asked
+pub given_so : (c : Setting) (text : List ℕ) (asked : Asked) (given : Given) → GivesOf c text asked given → given ≡ given_of c.block text asked
 given_so c text (asks.Bytes offset many) (givens.Bytes part) is = ap givens.Bytes is
 given_so c text asks.Length (givens.Length many) is = ap givens.Length is
 given_so c text (asks.Digest block) (givens.Digest found) is = ap givens.Digest is
@@ -197,7 +197,7 @@ reads_are_of_settled sizes law x h a p index asked given reached r unled = of_se
 
 -- ---- behind a prepare and behind its rollback
 
-chunk_is : {a b : ℕ} → ◌≡◌ {A = Result ℕ Refusal} (Ok a) (Ok b) → a ≡ b
+pub chunk_is : {a b : ℕ} → ◌≡◌ {A = Result ℕ Refusal} (Ok a) (Ok b) → a ≡ b
 chunk_is is = cc
 
 pub reads_go_back : HaveSizes → AreNumbered → {D : Type 0} (x : Setup D) → GivesNamesTold x → GivesSettledBack x → MembersHaveNamed x → ReadsGoBack x

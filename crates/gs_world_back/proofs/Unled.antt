@@ -48,7 +48,7 @@ tested : (n : ℕ) → 0 < n → nat_lt 0 n ≡ true
 tested n more = grind (arith, nat_tests)
 
 -- a chunk that stands in a file has a reference
-referred : (d : Durable) (p : Path) (index chunk : ℕ) → IsKept d → found_chunk (fin.get d.names.tree p) index ≡ Ok chunk → 0 < count_or_zero (fin.get d.names.refs chunk)
+pub referred : (d : Durable) (p : Path) (index chunk : ℕ) → IsKept d → found_chunk (fin.get d.names.tree p) index ≡ Ok chunk → 0 < count_or_zero (fin.get d.names.refs chunk)
 referred d p index chunk kept found =
     let has : ℕ → Bool = λ q. nat_lt 0 (count_or_zero (fin.get d.names.refs q)) in
     let all : list_all has (all_chunks (fin.entries d.names.tree)) ≡ true = each_chunk has (all_chunks (fin.entries d.names.tree)) (λ q some. tested (count_or_zero (fin.get d.names.refs q)) (let same = kept.names.counted q in omega arith)) in

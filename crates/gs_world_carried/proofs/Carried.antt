@@ -43,7 +43,7 @@ use Rattle.gs_world_laws.proofs.Sending.{Posting, sends, sends_none}
 use Rattle.gs_world_carried.specs.Carried.{CallsAreCarried, IsCarried}
 
 -- what the client has asked last
-abbrev LastIs : ClientId → ℕ → List Node → Type 0
+abbrev pub LastIs : ClientId → ℕ → List Node → Type 0
 LastIs client number clients = (n : Node) → client_in clients client ≡ Some n → n.last ≡ number
 
 module _ {D : Type 0} (seen : D → List ℕ) (failures : D → ℕ) where
@@ -58,19 +58,19 @@ module _ {D : Type 0} (seen : D → List ℕ) (failures : D → ℕ) where
   said_of (Ok (messages, said)) = met_by said
   said_of (Err refusal) = Err refusal
 
-  record OneEvent (happening : Happening) (outcome : Upshot) (nodes : Nodes D) (old new : Way D) (sent : Sent) : Type 0 where
-    after : Sent
-    said : Result (Unit {0}) Refusal
-    says : said ≡ said_of outcome
-    happens : Happens seen failures unarmed (record { moment = old.moment; happening = happening }) (history sent old) said (history after new)
-    covers : Covers after new
-    moment : new.moment ≡ old.moment
-    is : new.nodes ≡ nodes
+  pub record OneEvent (happening : Happening) (outcome : Upshot) (nodes : Nodes D) (old new : Way D) (sent : Sent) : Type 0 where
+    pub after : Sent
+    pub said : Result (Unit {0}) Refusal
+    pub says : said ≡ said_of outcome
+    pub happens : Happens seen failures unarmed (record { moment = old.moment; happening = happening }) (history sent old) said (history after new)
+    pub covers : Covers after new
+    pub moment : new.moment ≡ old.moment
+    pub is : new.nodes ≡ nodes
 
   at_nodes : (sent : Sent) (w : Way D) (nodes : Nodes D) → SameNodes w.nodes nodes → Covers sent w → Covers sent (with_nodes nodes w)
   at_nodes sent w nodes same c = record { queue = c.queue; held = c.held; servers = c.servers ∙ sym same.servers; clients = c.clients ∙ sym same.clients; short = c.short }
 
-  one_event : (happening : Happening) (by : NodeId) (outcome : Upshot) (nodes : Nodes D) (old new : Way D) (sent : Sent) → AtNode seen failures unarmed old.moment happening (history sent old) by outcome nodes → CanPost sent by outcome → Covers sent old
+  pub one_event : (happening : Happening) (by : NodeId) (outcome : Upshot) (nodes : Nodes D) (old new : Way D) (sent : Sent) → AtNode seen failures unarmed old.moment happening (history sent old) by outcome nodes → CanPost sent by outcome → Covers sent old
       → IsOver outcome (with_nodes nodes old) new → OneEvent happening outcome nodes old new sent
   one_event happening by outcome nodes old new sent at can covers over = by_outcome outcome at can over
     where
@@ -108,24 +108,24 @@ module _ {D : Type 0} (seen : D → List ℕ) (failures : D → ℕ) where
   -- ---- steps at which nothing is asked
 
   module _ (client : ClientId) where
-    record Calm (old new : Way D) (sent : Sent) : Type 0 where
-      steps : List Step
-      after : Sent
-      runs : RunsTo seen failures unarmed steps (history sent old) (history after new)
-      covers : Covers after new
-      within : AllByRecursion IsStepWithin steps
-      looking : AllByRecursion (IsLooking client) steps
-      last : (number : ℕ) → LastIs client number old.nodes.clients → LastIs client number new.nodes.clients
-      moment : new.moment ≡ old.moment
+    pub record Calm (old new : Way D) (sent : Sent) : Type 0 where
+      pub steps : List Step
+      pub after : Sent
+      pub runs : RunsTo seen failures unarmed steps (history sent old) (history after new)
+      pub covers : Covers after new
+      pub within : AllByRecursion IsStepWithin steps
+      pub looking : AllByRecursion (IsLooking client) steps
+      pub last : (number : ℕ) → LastIs client number old.nodes.clients → LastIs client number new.nodes.clients
+      pub moment : new.moment ≡ old.moment
 
-    abbrev Leads : Way D → Way D → Type 0
+    abbrev pub Leads : Way D → Way D → Type 0
     Leads old new = (sent : Sent) → Covers sent old → IsNumber old.moment.0 → Calm old new sent
 
-    joined : (xs ys : List Step) (old mid new : History D) → RunsTo seen failures unarmed xs old mid → RunsTo seen failures unarmed ys mid new → RunsTo seen failures unarmed (xs ++ ys) old new
+    pub joined : (xs ys : List Step) (old mid new : History D) → RunsTo seen failures unarmed xs old mid → RunsTo seen failures unarmed ys mid new → RunsTo seen failures unarmed (xs ++ ys) old new
     joined [] ys old mid new same second = subst (λ (h : History D). RunsTo seen failures unarmed ys h new) same second
     joined (x ∷ xs) ys old mid new (first, goes, rest) second = (first, goes, joined xs ys first mid new rest second)
 
-    both : (S : Step → Type 0) (xs ys : List Step) → AllByRecursion S xs → AllByRecursion S ys → AllByRecursion S (xs ++ ys)
+    pub both : (S : Step → Type 0) (xs ys : List Step) → AllByRecursion S xs → AllByRecursion S ys → AllByRecursion S (xs ++ ys)
     both S [] ys first second = second
     both S (x ∷ xs) ys first second = (first.0, both S xs ys first.1 second)
 
@@ -144,10 +144,10 @@ module _ {D : Type 0} (seen : D → List ℕ) (failures : D → ℕ) where
     small_on : (old mid : Way D) → mid.moment ≡ old.moment → IsNumber old.moment.0 → IsNumber mid.moment.0
     small_on old mid same small = subst (λ (m : Moment). IsNumber m.0) (sym same) small
 
-    chain : (old mid new : Way D) → Leads old mid → Leads mid new → Leads old new
+    pub chain : (old mid new : Way D) → Leads old mid → Leads mid new → Leads old new
     chain old mid new first second sent covers small = (let a = first sent covers small in chained old mid new sent a (second a.after a.covers (small_on old mid a.moment small)))
 
-    nothing : (old new : Way D) → new ≡ old → Leads old new
+    pub nothing : (old new : Way D) → new ≡ old → Leads old new
     nothing old new same sent covers small = record {
       steps = [];
       after = sent;
@@ -217,7 +217,7 @@ module _ {D : Type 0} (seen : D → List ℕ) (failures : D → ℕ) where
     delivers_all zero old new same = nothing old new same
     delivers_all (suc many) old new d = delivers_next many old new old.queue refl (λ mid rest. delivers_all many mid new rest) d
 
-    delivers_whole : (old new : Way D) → DeliversWhole seen failures old new → Leads old new
+    pub delivers_whole : (old new : Way D) → DeliversWhole seen failures old new → Leads old new
     delivers_whole old new d = delivers_all last_count old new d
 
     -- ---- ticks
@@ -239,7 +239,7 @@ module _ {D : Type 0} (seen : D → List ℕ) (failures : D → ℕ) where
     all_tick : (old new : Way D) → AllTick seen failures old new → Leads old new
     all_tick old new (mid, first, others) = chain old mid new (master_ticks old mid first) (servers_tick (min (length old.nodes.servers) 16) mid new others)
 
-    waited_if : (waits : Bool) (old new : Way D) → TicksIf seen failures waits old new → Leads old new
+    pub waited_if : (waits : Bool) (old new : Way D) → TicksIf seen failures waits old new → Leads old new
     waited_if false old new same = nothing old new same
     waited_if true old new (mid, ticks, delivers) = chain old mid new (all_tick old mid ticks) (delivers_whole mid new delivers)
 

@@ -53,7 +53,7 @@ mod Bytes
 mod BytesRuns
 mod Settled
 mod Begun
-mod Accounted
+pub mod Accounted
 mod Keeping
 mod KeepingRuns
 mod KeepingBack
@@ -64,7 +64,7 @@ mod Answering
 mod Accepted
 pub mod Through
 pub mod SeeingThrough
-mod MasterSays
+pub mod MasterSays
 mod Cutting
-mod ToldBack
+pub mod ToldBack
 mod Rising

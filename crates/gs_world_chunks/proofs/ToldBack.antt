@@ -70,7 +70,7 @@ goes_well x prepared back before last goes =
     let now = told_well x given goes.between prepared goes.now goes.rest first in
     record { prepared_well = first; now_well = now; back_well = step_well x given goes.commit goes.now back now goes.commits }
 
-rolled_told : {D : Type 0} (x : Setup D) (prepared back : History D) (before last : Durable) → TellsApart x.among → (goes : GoesBackBy x (IsToldAt x.seen) prepared back before last) → RolledBackSo x prepared back before last goes.now
+pub rolled_told : {D : Type 0} (x : Setup D) (prepared back : History D) (before last : Durable) → TellsApart x.among → (goes : GoesBackBy x (IsToldAt x.seen) prepared back before last) → RolledBackSo x prepared back before last goes.now
 rolled_told x prepared back before last apart goes =
     let given = goes.given in
     let accounts = have_accounts x goes.begun goes.old goes.first given goes.begins goes.runs in

@@ -1,7 +1,8 @@
 -- What a checkpoint behind the records of an event makes of the master and of its journal, and what is left of both where a disk
 -- fails.
 use Rattle.std.specs.Prelude.{◌≡◌, ◌⊎◌, ◌+◌, ◌<◌, ◌++◌, ℕ, true, false, List, [], ◌∷◌, length, map, Some, None}
-use Rattle.gs_journal.specs.Journal.{State as Journal, MakesCheckpoint, Stands, checkpointed, failures_of_both}
+use Rattle.gs_journal_disk.specs.Disk.{LeavesPairs}
+use Rattle.gs_journal.specs.Journal.{State as Journal, IsStillOrNext, LeavesCounting, MakesCheckpoint, Stands, checkpointed, failures_of_both}
 use Rattle.gs_journal.specs.Records.{Entry, Text}
 use Rattle.gs_journal.specs.declared.version.Version.TheVariants.{Two}
 use Rattle.gs_master_record.specs.Plain.{PlainEntry, Whole, plain}
@@ -63,6 +64,14 @@ pub record BreaksLast {D : Type 0} (seen : D → List ℕ) (failures : D → ℕ
 abbrev pub BreaksAnew : {D : Type 0} → (D → List ℕ) → (D → ℕ) → Journal D → List Entry → List ℕ → ℕ → Journal D → Type 0
 BreaksAnew seen failures old records body place new =
     ((place < length records) × Breaks seen failures old records place new) ⊎ ((place ≡ length records) × BreaksLast seen failures old records body new)
+
+-- No record stands before the checkpoint: nothing is written, or a crash leaves what stood or the checkpoint, each in its generation. The disk that
+-- counted is left as it was.
+abbrev pub LeavesAnew : {D : Type 0} → (D → List ℕ) → (D → ℕ) → (D → ℕ → List ℕ → Type 0) → Durable → Journal D → Journal D → Type 0
+LeavesAnew seen moment left_since durable old new =
+    (new ≡ old)
+    ⊎ (LeavesPairs moment left_since old.first old.second new.first new.second (IsStillOrNext old.text old.generation (checkpointed (checkpoint_body durable)))
+    × LeavesCounting seen old new)
 
 -- ---- at both, if the master knew the journal's room
 

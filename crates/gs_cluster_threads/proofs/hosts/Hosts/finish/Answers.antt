@@ -1,7 +1,7 @@
 use Rattle.std.proofs.Common.{arith}
 use Rattle.std.specs.Prelude.{vec_len}
 use Rattle.gs_cluster_history.specs.Setting.{all_ids}
-use Rattle.gs_cluster_threads.proofs.Hosting.{none_ended, one_ended, whole_for}
+use Rattle.gs_cluster_threads.proofs.Hosting.{ends_so, none_ended, one_ended}
 use Rattle.gs_cluster_threads.proofs.hosts.Hosts.finish.Goals as goal
 
 pub loop-handle-init : goal.loop-handle-init
@@ -18,4 +18,5 @@ loop-handle-preserved g c =
 
 pub returns : goal.returns
 returns g c =
-    whole_for g.C.Core.Does (g.C.Core.Starts g.N.Plan.setting) (all_ids g.N.Plan.setting) c.args.callers.items c.loop-handle.nodes.items _ _ c.loop-handle.invariant.among c.in_ok-gather.ensures
+    ends_so g.C.Core.Does (g.C.Core.Starts g.N.Plan.setting) (all_ids g.N.Plan.setting) c.args.callers.items c.loop-handle.nodes.items (vec_len c.args.self.handles) (vec_len c.loop-handle.nodes) _ _ c.loop-handle.invariant
+    c.in-None.ensures.steps.0 c.loop-handle.nodes.ok.0 c.gather.result c.gather.ensures

@@ -9,7 +9,8 @@ use Rattle.gs_master.specs.Journaled.{Breaks, Gains, IsReadyFor, stood_before}
 use Rattle.gs_master_state.specs.inner.Plans.{log_of}
 use Rattle.gs_master_state.specs.inner.Recorded.{durable_of}
 use Rattle.gs_master_spec.specs.Whole.{checkpoint_of}
-use Rattle.gs_master.proofs.Appending.{seen_behind}
+use Rattle.gs_master.proofs.Appending.{none_there, seen_behind}
+use Rattle.gs_master.proofs.Crashes.{leaves_anew}
 use Rattle.gs_master.proofs.Leading.{ready}
 use Rattle.gs_master.proofs.Renewals.{Stood, breaks_last, cut_before, log_renewed, renews}
 use Rattle.gs_master.proofs.event.Event.end_renewed.Goals as goal
@@ -97,3 +98,24 @@ returns-in-Err-clause-ended g c = λ before has.
         subst (IsEntry Two) c.requires.renewal.entry c.requires.renewal.is_entry,
       ),
     )
+
+pub returns-then-many-len-clause-crash : goal.returns-then-many-len-clause-crash
+returns-then-many-len-clause-crash g c = λ none is_open.
+    let many = c.append_all-many.result in
+    let few = c.if-many-len.true in
+    let len = c.len.ensures in
+    let same = ap length c.deref.ensures.value in
+    let below : many < length c.deref.result.now = omega arith in
+    absurd (none_there c.deref.result.now many (c.deref.ensures.value ∙ none) below)
+
+pub returns-in-Ok-clause-crash : goal.returns-in-Ok-clause-crash
+returns-in-Ok-clause-crash g c = λ none is_open.
+    let d = g.D.Disk in
+    leaves_anew d.moment d.left_since d.seen (durable_of c.args.self.now.recorded) c.args.renewal.draft.body c.args.journal.now c.append_all-many.new.journal c.write_draft.new.self c.requires.renewal.body
+    (c.append_all-many.ensures.none (c.deref.ensures.value ∙ none)) is_open c.write_draft.ensures.next c.write_draft.ensures.counting
+
+pub returns-in-Err-clause-crash : goal.returns-in-Err-clause-crash
+returns-in-Err-clause-crash g c = λ none is_open.
+    let d = g.D.Disk in
+    leaves_anew d.moment d.left_since d.seen (durable_of c.args.self.now.recorded) c.args.renewal.draft.body c.args.journal.now c.append_all-many.new.journal c.write_draft.new.self c.requires.renewal.body
+    (c.append_all-many.ensures.none (c.deref.ensures.value ∙ none)) is_open c.write_draft.ensures.next c.write_draft.ensures.counting

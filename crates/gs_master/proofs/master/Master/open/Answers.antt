@@ -1,9 +1,11 @@
-use Rattle.std.proofs.Common.{◌≡◌, ◌∙◌, ◌+◌, ap, refl, subst}
+use Rattle.std.proofs.Common.{◌≡◌, ◌∙◌, ◌+◌, ap, inl, inr, refl, subst}
 use Rattle.std.specs.Prelude.{Ok}
-use Rattle.gs_journal.specs.Records.{Text}
+use Rattle.gs_journal.specs.Records.{Text, generation_standing, standing}
 use Rattle.gs_master_spec.specs.Handling.{recover}
+use Rattle.gs_master.specs.Crashing.{IsStillOrAnew}
 use Rattle.gs_master.specs.Recovering.{TellsDurable, log_in}
 use Rattle.gs_master.specs.Starting.{left_in}
+use Rattle.gs_master.proofs.Crashes.{handed_back, might_tell, of_same, stands_left}
 use Rattle.gs_master.proofs.Reopened.{closed_why, generation_anew, generation_left, left_of, opened_held, seen_of, untold_why}
 use Rattle.gs_master.proofs.master.Master.open.Goals as goal
 
@@ -15,7 +17,7 @@ returns-in-Err-clause-refused g c =
 pub invariant_of-master : goal.invariant_of-master
 invariant_of-master g c =
     let d = g.D.Disk in
-    let recovered = c.in-Ok-recover.ensures in (
+    let recovered = c.in-Ok-recover.ensures.recovered in (
       record {
         begun = record {
           undos = recovered.begun.undos;
@@ -33,7 +35,7 @@ invariant_of-master g c =
 pub returns-in-Ok-recover-clause-opened : goal.returns-in-Ok-recover-clause-opened
 returns-in-Ok-recover-clause-opened g c =
     let text = c.in-Ok.ensures.text in
-    let recovered = c.in-Ok-recover.ensures in
+    let recovered = c.in-Ok-recover.ensures.recovered in
     let d = g.D.Disk in
     let k = c.recover.new.journal in
     let kept = left_of d.seen d.may_leave d.failures c.in-Ok.journal.text.0 recovered.durable c.in-Ok.journal k recovered.journal in
@@ -61,4 +63,52 @@ returns-in-Err-recover-clause-refused g c =
     let d = g.D.Disk in
     untold_why d.seen d.failures c.args.config c.args.limit c.args.first c.args.second
     (record { refusal = c.in-Err-recover.refusal; first = c.into_disks-first.result.0; second = c.into_disks-first.result.1 }) c.in-Ok.journal c.recover.new.journal
-    c.in-Ok.ensures.limit c.in-Ok.ensures.generation c.in-Ok.ensures.text c.in-Ok.ensures.quiet c.into_disks-first.ensures.disks.0 c.into_disks-first.ensures.disks.1 c.into_disks-first.ensures.text c.in-Err-recover.ensures
+    c.in-Ok.ensures.limit c.in-Ok.ensures.generation c.in-Ok.ensures.text c.in-Ok.ensures.quiet c.into_disks-first.ensures.disks.0 c.into_disks-first.ensures.disks.1 c.into_disks-first.ensures.text c.in-Err-recover.ensures.recovered
+
+-- ---- a crash
+
+pub returns-in-Err-clause-any_moment_refused : goal.returns-in-Err-clause-any_moment_refused
+returns-in-Err-clause-any_moment_refused g c = inl c.in-Err.ensures.any_moment_refused
+
+pub returns-in-Err-clause-lasts : goal.returns-in-Err-clause-lasts
+returns-in-Err-clause-lasts g c = λ a b l r. (standing a b, c.in-Err.ensures.lasts a b l r, inl refl)
+
+pub returns-in-Ok-recover-clause-any_moment : goal.returns-in-Ok-recover-clause-any_moment
+returns-in-Ok-recover-clause-any_moment g c =
+    let d = g.D.Disk in
+    let j = c.in-Ok.journal in
+    let k = c.recover.new.journal in
+    let text = standing (d.seen c.args.first) (d.seen c.args.second) in
+    let generation = generation_standing (d.seen c.args.first) (d.seen c.args.second) in
+    let survives = of_same d.moment d.left_since j.text text j.generation generation j.first j.second k.first k.second c.in-Ok.ensures.text c.in-Ok.ensures.generation c.recover.ensures.crash in
+    record { first = j.first; second = j.second; opening = c.in-Ok.ensures.any_moment; recovery = survives }
+
+pub returns-in-Ok-recover-clause-stands : goal.returns-in-Ok-recover-clause-stands
+returns-in-Ok-recover-clause-stands g c =
+    let d = g.D.Disk in
+    let recovered = c.in-Ok-recover.ensures.recovered in
+    stands_left d.seen d.may_leave d.failures c.in-Ok.journal.text.0 recovered.durable c.in-Ok.journal c.recover.new.journal recovered.journal
+
+pub returns-in-Err-recover-clause-any_moment_refused : goal.returns-in-Err-recover-clause-any_moment_refused
+returns-in-Err-recover-clause-any_moment_refused g c =
+    let d = g.D.Disk in
+    let j = c.in-Ok.journal in
+    let k = c.recover.new.journal in
+    let text = standing (d.seen c.args.first) (d.seen c.args.second) in
+    let generation = generation_standing (d.seen c.args.first) (d.seen c.args.second) in
+    let survives = of_same d.moment d.left_since j.text text j.generation generation j.first j.second k.first k.second c.in-Ok.ensures.text c.in-Ok.ensures.generation c.recover.ensures.crash in
+    let u = c.into_disks-first.result in
+    let back = handed_back d.moment d.left_since j.first j.second k.first k.second u.0 u.1 (IsStillOrAnew text generation) c.into_disks-first.ensures.disks.0 c.into_disks-first.ensures.disks.1 survives in
+    inr (record { first = j.first; second = j.second; opening = c.in-Ok.ensures.any_moment; recovery = back })
+
+pub returns-in-Err-recover-clause-lasts : goal.returns-in-Err-recover-clause-lasts
+returns-in-Err-recover-clause-lasts g c =
+    let d = g.D.Disk in
+    let j = c.in-Ok.journal in
+    let k = c.recover.new.journal in
+    let text = standing (d.seen c.args.first) (d.seen c.args.second) in
+    let generation = generation_standing (d.seen c.args.first) (d.seen c.args.second) in
+    let survives = of_same d.moment d.left_since j.text text j.generation generation j.first j.second k.first k.second c.in-Ok.ensures.text c.in-Ok.ensures.generation c.recover.ensures.crash in
+    let u = c.into_disks-first.result in
+    let back = handed_back d.moment d.left_since j.first j.second k.first k.second u.0 u.1 (IsStillOrAnew text generation) c.into_disks-first.ensures.disks.0 c.into_disks-first.ensures.disks.1 survives in
+    might_tell d.moment d.left_since d.seen d.may_leave g.met.D.Disk.shows g.met.D.Disk.counts_now c.args.first c.args.second j.first j.second u.0 u.1 generation back

@@ -1,0 +1,84 @@
+-- What lines read of a file behind a prepare, and behind its rollback.
+use Rattle.std.specs.Prelude.{[], ◌+◌, ◌≡◌, Bool, List, Ok, codes, refl, true, ℕ}
+use Rattle.gs_base.specs.Told.{IsNumber}
+use Rattle.gs_base.specs.declared.config.Config.{Config}
+use Rattle.gs_base.specs.declared.numbers.ClientId.{ClientId}
+use Rattle.gs_block.specs.Written.{TellsApart}
+use Rattle.gs_journal.specs.Records.{fresh, standing}
+use Rattle.gs_nodes.specs.Nodes.{Nodes}
+use Rattle.gs_path.specs.Path.{Path}
+use Rattle.gs_shell_calls.specs.declared.answer.Answer.{Answer}
+use Rattle.gs_shell_calls.specs.declared.answer.Answer.TheVariants as answers
+use Rattle.gs_shell_desk.specs.Answering.{AnswersText}
+use Rattle.gs_shell_desk.specs.Lines.{Comes}
+use Rattle.gs_shell_desk.specs.Ways.{way_of}
+use Rattle.gs_shell_desk.specs.declared.desk.Desk.{Desk}
+use Rattle.gs_shell_grammar.specs.Grammar.{Request}
+use Rattle.gs_shell_grammar.specs.Grammar as lines
+use Rattle.gs_shell_grammar.specs.declared.command.Upgrade.TheVariants as upgrades
+use Rattle.gs_shell_script.specs.Run.{Runs}
+use Rattle.gs_world_laws.specs.Meeting.{IsClientOf}
+use Rattle.gs_world_laws.specs.Within.{IsReachedWithin}
+use Rattle.gs_world_read.specs.Read.{AreAmongAnyhow, Reading, ReadsTwice, all_steps}
+use Rattle.gs_world_read.specs.Read as readings
+
+-- what a line reads of a file: so many bytes from an offset on, or the digest of a block of one of its chunks
+pub data Asks : Type 0 where
+  Bytes : (offset many : ℕ) → Asks
+  Digest : (chunk block : ℕ) → Asks
+
+abbrev pub line_of : List ℕ → Asks → Request
+line_of path (Bytes offset many) = lines.Read path offset many
+line_of path (Digest chunk block) = lines.Digest path chunk block
+
+abbrev pub answer_of : Asks → List ℕ → Answer
+answer_of (Bytes offset many) bytes = answers.Bytes bytes
+answer_of (Digest chunk block) bytes = answers.Digest bytes
+
+-- what a client reads for it, in chunks of a size
+abbrev pub reading_of : ℕ → Asks → Reading
+reading_of size (Bytes offset many) = readings.Bytes size offset many
+reading_of size (Digest chunk block) = readings.Digest chunk block
+
+module _ {D : Type 0} (seen : D → List ℕ) (failures : D → ℕ) (config : Config) (disks : D × D) where
+  -- Behind some lines the desk of a store's one client is asked to prepare, and answers an epoch; right behind that what is read of a file is answered. Then come any lines; then it is asked to roll back, and answers the next epoch, as numbers of 64 bits; and right behind
+  -- that the same line is answered again.
+  pub record ReadTwice (path : List ℕ) (asks : Asks) (epoch next : ℕ) (had has : List ℕ) : Type 0 where
+    pub new : standing (seen disks.0) (seen disks.1) ≡ fresh
+    pub follows : IsNumber epoch → IsNumber next → next ≡ epoch + 1
+    pub begun : Desk D
+    pub reached : IsReachedWithin seen failures config disks begun
+    pub client : IsClientOf config begun.caller.client
+    pub prepared : Desk D
+    pub prepares : Comes seen failures (lines.RollingUpgrade upgrades.Prepare) begun (Ok (answers.Number epoch)) prepared
+    pub read : Desk D
+    pub reads : Comes seen failures (line_of path asks) prepared (Ok (answer_of asks had)) read
+    pub between : List (List ℕ)
+    pub texts : List (List ℕ)
+    pub later : Desk D
+    pub passes : Runs (AnswersText seen failures) read between texts later
+    pub back : Desk D
+    pub rolls : Comes seen failures (lines.RollingUpgrade upgrades.Rollback) later (Ok (answers.Number next)) back
+    pub last : Desk D
+    pub again : Comes seen failures (line_of path asks) back (Ok (answer_of asks has)) last
+
+  -- So it goes in a run of a store that has begun over these disks, and ends as this desk has left it. Where different blocks that its servers may have on its steps have different digests, both answers are the same.
+  pub record AreTheSame (asks : Asks) (had has : List ℕ) (last : Desk D) : Type 0 where
+    pub client : ClientId
+    pub path : Path
+    pub epoch : ℕ
+    pub run : ReadsTwice seen failures config 1 disks client path (reading_of config.chunk asks) epoch had has
+    pub ends : run.last.nodes ≡ (way_of last.wire).nodes
+    pub same : (among : List ℕ → Bool) → among [] ≡ true → TellsApart among → AreAmongAnyhow seen failures among (all_steps seen failures config 1 disks client path (reading_of config.chunk asks) epoch had has run) run.begun → has ≡ had
+
+  -- ---- what is to hold
+
+  abbrev pub ReadTheSame : Type 0
+  ReadTheSame = (path : List ℕ) (asks : Asks) (epoch next : ℕ) (had has : List ℕ) (r : ReadTwice path asks epoch next had has) → AreTheSame asks had has r.last
+
+-- ---- Worked
+a_line_reads : line_of (codes "/f") (Bytes 3 10) ≡ lines.Read (codes "/f") 3 10
+a_line_reads = refl
+
+a_client_reads_for_it : reading_of 64 (Bytes 3 10) ≡ readings.Bytes 64 3 10
+a_client_reads_for_it = refl

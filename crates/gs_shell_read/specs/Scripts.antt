@@ -1,0 +1,66 @@
+-- What a script reads of a file right behind a prepare, and right behind its rollback.
+use Rattle.std.specs.Prelude.{[], ◌+◌, ◌++◌, ◌∷◌, ◌≡◌, Bool, List, Option, Some, codes, decimal, length, refl, true, ℕ}
+use Rattle.std.specs.Char.{encode_utf8}
+use Rattle.std.specs.Fmt.{digits}
+use Rattle.std.specs.Str.{chars, is_utf8}
+use Rattle.gs_base.specs.Told.{IsNumber}
+use Rattle.gs_base.specs.declared.config.Config.{Config}
+use Rattle.gs_base.specs.declared.numbers.ClientId.{ClientId}
+use Rattle.gs_block.specs.Written.{TellsApart}
+use Rattle.gs_journal.specs.Records.{fresh, standing}
+use Rattle.gs_path.specs.Path.{Path}
+use Rattle.gs_shell.specs.Serving.{Serves}
+use Rattle.gs_shell_calls.specs.Texts.{answer_text}
+use Rattle.gs_shell_grammar.specs.Grammar as lines
+use Rattle.gs_shell_grammar.specs.declared.command.Upgrade.TheVariants as upgrades
+use Rattle.gs_shell_listed.specs.Scripts.{AsksFor, IsAccepted}
+use Rattle.gs_shell_read.specs.Lines.{Asks, Bytes, line_of, reading_of}
+use Rattle.gs_shell_script.specs.Run.{lines_of}
+use Rattle.gs_world_read.specs.Read.{AreAmongAnyhow, ReadsTwice, all_steps}
+
+-- Of the lines of a script, and of their answers: `rollingUpgrade prepare` is answered by an epoch, and right behind it something is read of a file, and accepted. Behind any lines `rollingUpgrade rollback` is answered by the next epoch, and right behind it the same is read, and accepted.
+pub record AreReadTwice (all texts : List (List ℕ)) (path : List ℕ) (asks : Asks) (epoch : ℕ) (had has : List ℕ) : Type 0 where
+  pub before : List (List ℕ)
+  pub prepare : List ℕ
+  pub read : List ℕ
+  pub between : List (List ℕ)
+  pub rollback : List ℕ
+  pub again : List ℕ
+  pub behind : List (List ℕ)
+  pub lines_are : all ≡ before ++ prepare ∷ read ∷ (between ++ rollback ∷ again ∷ behind)
+  pub texts_before : List (List ℕ)
+  pub texts_between : List (List ℕ)
+  pub texts_behind : List (List ℕ)
+  pub texts_are : texts ≡ texts_before ++ (codes "ok " ++ decimal epoch) ∷ had ∷ (texts_between ++ (codes "ok " ++ decimal (epoch + 1)) ∷ has ∷ texts_behind)
+  pub small : IsNumber (epoch + 1)
+  pub long_before : length texts_before ≡ length before
+  pub long_between : length texts_between ≡ length between
+  pub prepares : AsksFor (lines.RollingUpgrade upgrades.Prepare) prepare
+  pub reads : AsksFor (line_of path asks) read
+  pub rolls : AsksFor (lines.RollingUpgrade upgrades.Rollback) rollback
+  pub repeats : AsksFor (line_of path asks) again
+  pub was : IsAccepted had
+  pub is : IsAccepted has
+
+module _ {D : Type 0} (seen : D → List ℕ) (failures : D → ℕ) (config : Config) (disks : D × D) where
+  -- So it goes in a run of a store that has begun over these disks: it reads twice what these texts tell. Where different blocks that its servers may have on its steps have different digests, both texts are the same.
+  pub record TextsAreTheSame (asks : Asks) (had has : List ℕ) : Type 0 where
+    pub client : ClientId
+    pub path : Path
+    pub epoch : ℕ
+    pub first : List ℕ
+    pub second : List ℕ
+    pub run : ReadsTwice seen failures config 1 disks client path (reading_of config.chunk asks) epoch first second
+    pub same : (among : List ℕ → Bool) → among [] ≡ true → TellsApart among → AreAmongAnyhow seen failures among (all_steps seen failures config 1 disks client path (reading_of config.chunk asks) epoch first second run) run.begun → has ≡ had
+
+-- ---- what is to hold
+
+-- So it is of every script over disks that said nothing: whatever lines come before, between and behind, lines that damage blocks among them, and whatever disks fail.
+abbrev pub ScriptsReadTheSame : Type 0 → Type 0
+ScriptsReadTheSame D = (seen : D → List ℕ) (failures : D → ℕ) (config : Config) (disks : D × D) (input : List ℕ) (old new : Option (List ℕ)) (s : Serves seen failures config disks input old new) → standing (seen disks.0) (seen disks.1) ≡ fresh →
+    (path : List ℕ) (asks : Asks) (epoch : ℕ) (had has : List ℕ) → AreReadTwice (lines_of input) s.writes.texts path asks epoch had has → TextsAreTheSame seen failures config disks asks had has
+
+-- ---- examples: a script of four lines that is answered so
+
+abbrev some_lines : List (List ℕ)
+some_lines = (codes "rollingUpgrade prepare" ++ 10 ∷ []) ∷ (codes "read /f 0 4" ++ 10 ∷ []) ∷ (codes "rollingUpgrade rollback" ++ 10 ∷ []) ∷ (codes "read /f 0 4" ++ 10 ∷ []) ∷ []

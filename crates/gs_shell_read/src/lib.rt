@@ -1,0 +1,29 @@
+//! What `read` and `digest` are answered right behind an accepted rollback is what they were answered right behind its prepare.
+#![tactic(auto)]
+
+ghost use Rattle.gs_base.specs.declared.config.Config.{Config};
+ghost use Rattle.gs_shell_read.specs.Lines.{ReadTheSame};
+ghost use Rattle.gs_shell_read.specs.Scripts.{ScriptsReadTheSame};
+ghost use Rattle.std.specs.Prelude.{List, ℕ};
+
+use gs_world_listed::epochs_that_are_answered_are_numbers;
+use gs_world_read::what_is_read_behind_a_rollback_is_what_was_read_behind_its_prepare;
+
+/// A desk answers an epoch to `rollingUpgrade prepare`, and bytes or a digest to `read` or `digest` of a file right behind that; behind any lines it answers the next epoch to `rollingUpgrade rollback`, and the same line right behind that. Both answers are
+/// the same, whatever lines come between, and whatever disks fail: where different blocks that servers may have on the steps of it have different digests.
+pub fn what_is_read_twice_by_lines_is_the_same<D>()
+    ensures { (seen : D → List ℕ) (failures : D → ℕ) (config : Config) (disks : D × D) → ReadTheSame seen failures config disks }
+{
+    epochs_that_are_answered_are_numbers::<D>();
+    what_is_read_behind_a_rollback_is_what_was_read_behind_its_prepare::<D>();
+}
+
+/// For every script over disks that said nothing, what `read` or `digest` of a file is answered right behind an accepted rollback is what it was answered right behind its prepare, wherever both answer: byte for byte, whatever else the script does, whatever lines
+/// come between, and whatever disks of the master fail. The rollback is of that prepare since it is answered the next epoch. There is a run of a store that goes so, and different blocks that its servers may have on the steps of that run are to have
+/// different digests.
+pub fn what_a_script_reads_behind_a_rollback_is_what_it_read_behind_its_prepare<D>()
+    ensures { ScriptsReadTheSame D }
+{
+    epochs_that_are_answered_are_numbers::<D>();
+    what_is_read_behind_a_rollback_is_what_was_read_behind_its_prepare::<D>();
+}

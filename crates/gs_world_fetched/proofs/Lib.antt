@@ -1,0 +1,4 @@
+pub mod Sending
+pub mod Asking
+pub mod Coming
+pub mod Fetched

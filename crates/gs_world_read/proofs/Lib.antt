@@ -1,0 +1,4 @@
+mod Stepping
+mod Halting
+mod Reading
+mod Twice

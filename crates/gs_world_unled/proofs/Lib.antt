@@ -1,0 +1,3 @@
+pub mod Unheld
+pub mod Going
+pub mod Reading
