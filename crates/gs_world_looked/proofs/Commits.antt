@@ -1,5 +1,5 @@
 -- Behind the commit of a prepare, or of a rollback, no chunk of a file has a primary.
-use Rattle.std.proofs.Common.{◌≡◌, ◌∙◌, inl, ◌≤◌, ◌++◌, ℕ, Bool, true, false, List, [], ◌∷◌, Option, Some, Result, Ok, Err, refl, sym, ap, subst, arith}
+use Rattle.std.proofs.Common.{◌≡◌, ◌∙◌, inl, ◌≤◌, ◌++◌, ℕ, Bool, true, false, List, [], ◌∷◌, Option, Some, Result, Ok, refl, sym, ap, subst, arith}
 use Rattle.std.specs.Prelude.{MatchBool}
 use Rattle.std.specs.List.{AllByRecursion}
 use Rattle.std.proofs.lemmas.Bool.{false≢true}
@@ -29,8 +29,7 @@ use Rattle.gs_master_spec.specs.Volatile.{is_pending}
 use Rattle.gs_master_spec.specs.declared.pending.Pending.{Pending}
 use Rattle.gs_master_laws.proofs.StandingRuns.{events_fit}
 use Rattle.gs_master_laws.specs.Standing.{Comes as Comes_to, IsFirm, IsNamedCall}
-use Rattle.gs_master_asked.specs.AtOnce.{AnswersAlone, OneSays}
-use Rattle.gs_master_asked.proofs.AtOnce.{at_once}
+use Rattle.gs_master_asked.specs.AtOnce.{OneSays}
 use Rattle.gs_master_asked.specs.Resting.{Commits, HasHad, WasBegun}
 use Rattle.gs_master_asked.proofs.Resting.{commits_had}
 use Rattle.gs_master_looked.specs.Unled.{AreUnled, IsUnled, NoneWaits}
@@ -43,7 +42,7 @@ use Rattle.gs_world.specs.Runs.{Comes, RunsTo, StaySent, Step}
 use Rattle.gs_world.proofs.Sending.{run_stays}
 use Rattle.gs_world_asked.specs.Answered.{AnswersNow, WasAnswered}
 use Rattle.gs_world_asked.specs.Asked.{AreAsked, HasAsked, SaysOf}
-use Rattle.gs_world_asked.specs.Behind.{HasAnswer, IsOnly, StandsOn, asks_call, is_halt}
+use Rattle.gs_world_asked.specs.Behind.{HasAnswer, IsOnly, asks_call, is_halt}
 use Rattle.gs_world_asked.specs.Resting.{IsLooking, IsOldOrLooks, IsStill, StandsStillAt}
 use Rattle.gs_world_asked.proofs.Answered.{answers_are_made}
 use Rattle.gs_world_asked.proofs.Asked.{stays_unarmed}
@@ -54,7 +53,7 @@ use Rattle.gs_world_laws.proofs.Through.{sound_tells, tells_once}
 use Rattle.gs_world_laws.specs.Saying.{IsStepWithin, KeepsTypes}
 use Rattle.gs_world_laws.specs.Steady.{StandsSteady, TellsSteady}
 use Rattle.gs_world_laws.specs.Through.{LastsThrough, TellsAt}
-use Rattle.gs_world_looked.specs.Unled.{CommitsHalt, CommitsLeaveUnled, HaltsBy, IsHalted, IsUnarmed, IsUnledAt, StaysQuiet}
+use Rattle.gs_world_looked.specs.Unled.{CommitsHalt, CommitsLeaveUnled, HaltsBy, IsUnarmed, IsUnledAt, StaysQuiet}
 use Rattle.gs_world_looked.proofs.Unled.{lasts_on, run_quiet}
 
 -- ---- a master that is firm

@@ -1,5 +1,5 @@
 -- What a client that only looks is told of files.
-use Rattle.std.proofs.Common.{◌≡◌, ◌∙◌, ◌&&◌, ℕ, Bool, true, false, List, ◌∷◌, map, Option, Some, None, Result, Ok, refl, sym, ap, subst}
+use Rattle.std.proofs.Common.{◌≡◌, ◌∙◌, ℕ, true, List, ◌∷◌, Option, Some, None, Result, Ok, refl, sym, ap, subst}
 use Rattle.std.specs.FinMap as fin
 use Rattle.std.specs.List.{AllByRecursion}
 use Rattle.std.proofs.lemmas.Bool.{and_parts, false≢true}
@@ -16,24 +16,19 @@ use Rattle.gs_master_looked.specs.Unled.{IsUnled}
 use Rattle.gs_master_spec.specs.Applied.{view_in}
 use Rattle.gs_master_spec.specs.Calls.{found_chunk, location, status}
 use Rattle.gs_master_spec.specs.Durable.{Durable, Settled, is_listed, is_rolling}
-use Rattle.gs_master_spec.specs.State.{State}
 use Rattle.gs_master_asked.specs.AtOnce.{is_answered_at_once}
 use Rattle.gs_master_asked.specs.Resting.{is_look}
 use Rattle.gs_msg.specs.declared.answer.Answer.{Answer}
 use Rattle.gs_msg.specs.declared.answer.Answer.TheVariants as answers
-use Rattle.gs_msg.specs.declared.answer.ChunkStatus.{ChunkStatus}
-use Rattle.gs_msg.specs.declared.answer.Status.TheVariants as statuses
 use Rattle.gs_msg.specs.declared.call.Call.{Call}
 use Rattle.gs_msg.specs.declared.call.Call.TheVariants as calls
 use Rattle.gs_msg.specs.declared.event.DiskId.{DiskId}
 use Rattle.gs_msg.specs.declared.event.Event.{Event}
 use Rattle.gs_nodes.specs.Happenings.{client_in}
 use Rattle.gs_nodes.specs.declared.place.MasterPlace.{MasterPlace}
-use Rattle.gs_nodes.specs.declared.place.MasterPlace.TheVariants.{Standing}
 use Rattle.gs_path.specs.Path.{Path}
-use Rattle.gs_tree.specs.Entry.{File}
 use Rattle.gs_world.specs.Histories.{Happens, History}
-use Rattle.gs_world.specs.Runs.{Comes, RunsTo, Step}
+use Rattle.gs_world.specs.Runs.{Comes, Step}
 use Rattle.gs_world_asked.specs.Answered.{AnswersNow, WasAnswered}
 use Rattle.gs_world_asked.specs.Behind.{HasAnswer, asks_call}
 use Rattle.gs_world_asked.specs.Resting.{IsLooking, IsStill, StandsStill, StandsStillAt}
@@ -41,7 +36,7 @@ use Rattle.gs_world_asked.proofs.Answered.{answers_are_made}
 use Rattle.gs_world_asked.proofs.Behind.{MadeThere, all_front, all_spare, made_there}
 use Rattle.gs_world_laws.specs.Saying.{IsStepWithin}
 use Rattle.gs_world_laws.specs.Through.{LastsThrough}
-use Rattle.gs_world_looked.specs.Looked.{AnswersAreByNames, IsPlaceOf, IsStatusOf, LooksAreByNames, LooksBy, LooksHalted, StandsBy, is_file_look}
+use Rattle.gs_world_looked.specs.Looked.{AnswersAreByNames, IsPlaceOf, IsStatusOf, LooksAreByNames, LooksBy, LooksHalted, is_file_look}
 use Rattle.gs_world_looked.specs.Unled.{IsHalted, IsUnarmed, IsUnledAt, StaysQuiet}
 use Rattle.gs_world_looked.proofs.Commits.{firm_at}
 use Rattle.gs_world_looked.proofs.Unled.{run_halted}

@@ -1,9 +1,8 @@
 -- No chunk of a file has a primary while a client only looks.
-use Rattle.std.proofs.Common.{◌≡◌, ◌∙◌, ◌⊎◌, inl, inr, ◌<◌, ◌≤◌, ℕ, Bool, true, false, List, [], ◌∷◌, Option, Some, None, MatchOption, Result, Ok, Err, refl, sym, ap, subst, arith}
+use Rattle.std.proofs.Common.{◌≡◌, ◌∙◌, inl, inr, ◌≤◌, ℕ, Bool, true, false, List, [], ◌∷◌, Option, Some, None, MatchOption, Ok, refl, sym, ap, subst, arith}
 use Rattle.std.specs.Prelude.{take}
 use Rattle.std.specs.List.{AllByRecursion}
 use Rattle.std.proofs.lemmas.Bool.{false≢true}
-use Rattle.gs_base.specs.declared.config.Config.{Config}
 use Rattle.gs_base.specs.declared.numbers.ClientId.{ClientId}
 use Rattle.gs_base.specs.declared.numbers.Moment.{Moment}
 use Rattle.gs_base.specs.declared.numbers.ReqId.{ReqId}
@@ -22,7 +21,7 @@ use Rattle.gs_master_spec.specs.Applied.{replayed}
 use Rattle.gs_master_spec.specs.Durable.{Durable}
 use Rattle.gs_master_spec.specs.Handling.{handle, tick}
 use Rattle.gs_master_spec.specs.Outcomes.{caller_of}
-use Rattle.gs_master_spec.specs.State.{State, Turn, last_reply}
+use Rattle.gs_master_spec.specs.State.{State, Turn}
 use Rattle.gs_master_asked.specs.Resting.{HasHad}
 use Rattle.gs_master_looked.specs.Unled.{AreUnled, CallsNothing, IsUnled, LeavesUnled}
 use Rattle.gs_master_looked.proofs.Leaving.{messages_leave, steps_leave, ticks_leave}
@@ -32,11 +31,10 @@ use Rattle.gs_nodes.specs.declared.place.MasterPlace.{MasterPlace}
 use Rattle.gs_nodes.specs.declared.place.MasterPlace.TheVariants.{Standing, Closed, Away}
 use Rattle.gs_world.specs.Histories.{History, Upshot}
 use Rattle.gs_world.specs.Runs.{Comes, Goes, RunsTo, Step, Takes}
-use Rattle.gs_world.specs.Sent.{message_of}
 use Rattle.gs_world_asked.specs.Answered.{spares_master}
 use Rattle.gs_world_asked.specs.Resting.{IsLooking, IsOldOrLooks, IsStill, StandsStill, StandsStillAt}
 use Rattle.gs_world_asked.proofs.Asked.{stays_unarmed}
-use Rattle.gs_world_asked.proofs.Parts.{Armed, Asked, Heard, Opened, Part, Rested, Served, Ticked, Told, asking, hearing, part_of, with_client}
+use Rattle.gs_world_asked.proofs.Parts.{Armed, Asked, Heard, Opened, Part, Rested, Served, Ticked, Told, part_of, with_client}
 use Rattle.gs_world_asked.proofs.Resting.{stays_still}
 use Rattle.gs_world_laws.proofs.Keeping.{run_keeps, step_keeps, step_within}
 use Rattle.gs_world_laws.proofs.Through.{run_through, sound_tells, step_on, tells_once, tells_some}
