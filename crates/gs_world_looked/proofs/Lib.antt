@@ -1,0 +1,3 @@
+pub mod Unled
+pub mod Commits
+pub mod Looked

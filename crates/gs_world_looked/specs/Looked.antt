@@ -1,10 +1,9 @@
 -- What a client that only looks is told of files.
-use Rattle.std.specs.Prelude.{◌≡◌, Bool, List, None, Ok, Result, Some, false, map, true, ℕ}
+use Rattle.std.specs.Prelude.{◌≡◌, Bool, List, None, Ok, Result, Some, false, map, refl, true, ℕ}
 use Rattle.std.specs.FinMap as fin
 use Rattle.gs_base.specs.declared.numbers.ClientId.{ClientId}
 use Rattle.gs_base.specs.declared.numbers.ReqId.{ReqId}
 use Rattle.gs_base.specs.declared.refusal.Refusal.{Refusal}
-use Rattle.gs_lease.specs.declared.view.View.{View}
 use Rattle.gs_tree.specs.Entry.{File}
 use Rattle.gs_msg.specs.declared.answer.Answer.{Answer}
 use Rattle.gs_msg.specs.declared.answer.Answer.TheVariants as answers
@@ -79,3 +78,11 @@ module _ {D : Type 0} (seen : D → List ℕ) (failures : D → ℕ) (armed : Di
   abbrev pub AnswersAreByNames : Type 0
   AnswersAreByNames = IsUnarmed armed → (d : Durable) (client : ClientId) (number : ℕ) (start new : History D) (call : Call) (answer : Answer) → is_file_look call ≡ true → IsHalted seen d client number start → (l : HasAnswer seen failures armed client start call answer new) →
       LooksHalted d client number start call answer new l
+
+-- ---- examples
+
+a_status_looks_at_a_file : (path : Path) → is_file_look (calls.Status path) ≡ true
+a_status_looks_at_a_file path = refl
+
+a_list_does_not : (path : Path) → is_file_look (calls.List path) ≡ false
+a_list_does_not path = refl

@@ -1,5 +1,5 @@
 -- That no chunk of a file has a primary while a client only looks.
-use Rattle.std.specs.Prelude.{◌≡◌, List, Result, true, ℕ}
+use Rattle.std.specs.Prelude.{◌≡◌, List, Result, refl, true, ℕ}
 use Rattle.std.specs.List.{AllByRecursion}
 use Rattle.gs_base.specs.declared.numbers.ClientId.{ClientId}
 use Rattle.gs_base.specs.declared.numbers.ReqId.{ReqId}
@@ -11,7 +11,7 @@ use Rattle.gs_msg.specs.declared.event.Event.{Event}
 use Rattle.gs_master_spec.specs.Durable.{Durable}
 use Rattle.gs_master_looked.specs.Unled.{AreUnled, IsUnled}
 use Rattle.gs_nodes.specs.declared.place.MasterPlace.{MasterPlace}
-use Rattle.gs_nodes.specs.declared.place.MasterPlace.TheVariants.{Standing}
+use Rattle.gs_nodes.specs.declared.place.MasterPlace.TheVariants.{Standing, Away}
 use Rattle.gs_world.specs.Histories.{Happens, History}
 use Rattle.gs_world.specs.Runs.{Comes, RunsTo, Step}
 use Rattle.gs_world_asked.specs.Answered.{AnswersNow, WasAnswered}
@@ -73,3 +73,11 @@ module _ {D : Type 0} (seen : D → List ℕ) (failures : D → ℕ) (armed : Di
   abbrev pub CommitsHalt : Type 0
   CommitsHalt = IsUnarmed armed → (client : ClientId) (old mid : History D) (call : Call) (answer : Answer) → AreAsked seen old → KeepsTypes old → LastsThrough seen old.nodes.master → is_halt call ≡ true → (c : HasAnswer seen failures armed client old call answer mid) →
       IsOnly client mid → HaltsBy client old call answer mid c
+
+-- ---- examples
+
+no_failure_is_arranged : {D : Type 0} → IsUnarmed (λ (disk : DiskId) (call : ℕ) (place : MasterPlace D). place)
+no_failure_is_arranged disk call place = refl
+
+a_master_that_is_away_has_begun_nothing : (D : Type 0) → IsUnledAt {D = D} Away
+a_master_that_is_away_has_begun_nothing D = tt
