@@ -3,7 +3,6 @@ use denote.Param.{param}
 use denote.Param.Send.{arg_send, param_send}
 use Rattle.std.proofs.Common.{◌∙◌, ◌+◌, List, ap, arith, length, sym}
 use Rattle.gs_base.specs.declared.config.Config.{Config}
-use Rattle.gs_msg.specs.declared.node.NodeId.{NodeId}
 use Rattle.gs_cluster_core.specs.declared.role.Role.{Role}
 use Rattle.gs_cluster_history.specs.Histories.{Kept}
 use Rattle.gs_cluster_send.proofs.Roles.{role_row}
@@ -31,10 +30,6 @@ parted-requires g c =
     (ap (λ (k : Config). k.servers) c.requires.config) c.in_ok-nodes.nodes.ok.0
     (ap (λ (l : List (Kept (Role g.row.D.Denot))). length l) c.in_ok-nodes.ensures ∙ length_map fresh seeds)
     (seeds_long g.D.Disk.seen g.D.Disk.failures setting seeds c.requires.new.all c.requires.new.starts)
-
-pub start-requires-after_bounds : goal.start-requires-after_bounds
-start-requires-after_bounds g c κs within =
-    c.len-many.ensures ∙ c.args.opened.seeds.ok.0 ∙ sym (length_map (λ (s : Seed (Role g.row.D.Denot)). s.line.me) c.args.opened.seeds.items) ∙ ap (λ (ns : List NodeId). length ns) c.requires.new.all
 
 pub invariant_of-cluster : goal.invariant_of-cluster
 invariant_of-cluster g c = record {
