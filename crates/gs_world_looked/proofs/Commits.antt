@@ -53,8 +53,9 @@ use Rattle.gs_world_laws.proofs.Through.{sound_tells, tells_once}
 use Rattle.gs_world_laws.specs.Saying.{IsStepWithin, KeepsTypes}
 use Rattle.gs_world_laws.specs.Steady.{StandsSteady, TellsSteady}
 use Rattle.gs_world_laws.specs.Through.{LastsThrough, TellsAt}
-use Rattle.gs_world_looked.specs.Unled.{CommitsHalt, CommitsLeaveUnled, HaltsBy, IsUnarmed, IsUnledAt, StaysQuiet}
-use Rattle.gs_world_looked.proofs.Unled.{lasts_on, run_quiet}
+use Rattle.gs_world_looked.specs.Unled.{CommitsHalt, CommitsLeaveUnled, HaltsBy, HasNames, IsUnarmed, IsUnledAt, StaysQuiet}
+use Rattle.gs_world_looked.proofs.Named.{firm_at}
+use Rattle.gs_world_looked.proofs.Unled.{lasts_on, run_named, run_quiet}
 
 -- ---- a master that is firm
 
@@ -67,13 +68,6 @@ halt_named : (call : Call) → is_halt call ≡ true → IsNamedCall call
 halt_named calls.PrepareCommit is = tt
 halt_named calls.RollbackCommit is = tt
 halt_named call is = absurd (false≢true is)
-
-pub firm_at : {D : Type 0} (seen : D → List ℕ) (m : MasterOf D) → LastsThrough seen (Standing m) → is_failed m.state.fault ≡ false → IsFirm m.state
-firm_at seen m lasts sound = by_fault (is_failed m.state.fault) sound lasts
-  where
-    by_fault : (b : Bool) → b ≡ false → MatchBool b (TellsSteady (text_seen seen m.journal)) (StandsSteady seen m) → IsFirm m.state
-    by_fault true is lasts = absurd (false≢true (sym is))
-    by_fault false is lasts = lasts.firm.firm
 
 -- ---- no call waits where a prepare or a rollback was begun
 
@@ -122,7 +116,7 @@ module _ {D : Type 0} (seen : D → List ℕ) (failures : D → ℕ) (armed : Di
     unfolding handle
     handles config u moment = refl
 
-    fits : replayed s.durable t.records ≡ Some t.after.durable
+    pub fits : replayed s.durable t.records ≡ Some t.after.durable
     fits = subst (λ (u : Turn). replayed s.durable u.records ≡ Some u.after.durable)
         (handles a.master.config s event.moment ∙ turn_is a.master.config s req event.moment call (opened s.fault commits.sound) a.apart a.new)
         (events_fit a.master.config s (Comes_to its_message event.moment) (halt_named call halt, within.0) firm).fits
@@ -246,14 +240,21 @@ module _ {D : Type 0} (seen : D → List ℕ) (failures : D → ℕ) (armed : Di
     lasts_at_next : LastsThrough seen made.next.nodes.master
     lasts_at_next = lasts_by ((ask ∷ made.before) ++ Comes made.event ∷ []) old made.next to_next within_next keeps lasts
 
+    named_next : (e : Durable) → TellsAt seen made.next.nodes.master e → HasNames d e
+    named_next e tells =
+        let sound = sound_behind made.now made.next made.event made.said made.happens c.req call answer halt here_within.0 types_now lasts_now made.answers in
+        subst (HasNames d) (tells_once seen failures (Standing its_there.after) d e (sound_tells seen failures its_there.after sound (subst (LastsThrough seen) its_there.stands lasts_at_next)) (subst (λ p. TellsAt seen p e) its_there.stands tells)) (record { names = refl; epoch = refl })
+
     pub halts : HaltsBy seen failures armed client old call answer mid c
     halts = record {
       made = made;
       durable = d;
       stands = record { master = its_there.after; stands = its_there.stands; sound = sound_behind made.now made.next made.event made.said made.happens c.req call answer halt here_within.0 types_now lasts_now made.answers; keeps = refl };
+      begun = record { still = still_next; quiet = quiet_next; named = named_next; asked = are_next; types = types_next; lasts = lasts_at_next };
       halted = record {
         still = stays_still seen failures armed d client c.req.number made.after made.next mid made.rest here_look.1 still_next;
         quiet = run_quiet seen failures d client c.req.number armed leaves made.after made.next mid made.rest here_within.1 here_look.1 types_next lasts_at_next still_next quiet_next;
+        named = run_named seen failures d client c.req.number armed leaves made.after made.next mid made.rest here_within.1 here_look.1 types_next lasts_at_next still_next named_next;
         asked = are_mid;
         types = run_keeps seen failures armed (ask ∷ c.steps) old mid to_mid c.within keeps;
         lasts = lasts_by (ask ∷ c.steps) old mid to_mid c.within keeps lasts;

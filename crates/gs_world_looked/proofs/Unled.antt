@@ -40,7 +40,8 @@ use Rattle.gs_world_laws.proofs.Keeping.{run_keeps, step_keeps, step_within}
 use Rattle.gs_world_laws.proofs.Through.{run_through, sound_tells, step_on, tells_once, tells_some}
 use Rattle.gs_world_laws.specs.Saying.{IsStepWithin, KeepsTypes}
 use Rattle.gs_world_laws.specs.Through.{LastsThrough, TellsAt, TellsOn, Turns, TurnsAt}
-use Rattle.gs_world_looked.specs.Unled.{IsHalted, IsUnarmed, IsUnledAt, StaysHalted, StaysQuiet, StaysUnled}
+use Rattle.gs_world_looked.proofs.Named.{names_on}
+use Rattle.gs_world_looked.specs.Unled.{HasNames, IsHalted, IsUnarmed, IsUnledAt, StaysHalted, StaysQuiet, StaysUnled}
 
 -- ---- what is heard calls nothing
 
@@ -144,15 +145,18 @@ module _ {D : Type 0} (seen : D → List ℕ) (failures : D → ℕ) where
           let left = at_leaves step old still m part.turn (subst (StandsStillAt d client number) part.place still.master) (subst IsUnledAt part.place quiet.master) part.made in
           left.told part.many f (subst (λ (x : Durable). replayed x (take part.many part.turn.records) ≡ Some f) same part.stand)
 
+      abbrev TellNames : History D → Type 0
+      TellNames h = (e : Durable) → TellsAt seen h.nodes.master e → HasNames d e
+
+      lasting : (disk : DiskId) (call : ℕ) (place : MasterPlace D) → LastsThrough seen place → LastsThrough seen (armed disk call place)
+      lasting disk call place lasts = subst (LastsThrough seen) (sym (leaves disk call place)) lasts
+
+      telling : (e : Durable) (disk : DiskId) (call : ℕ) (place : MasterPlace D) → TellsAt seen place e → TellsAt seen (armed disk call place) e
+      telling e disk call place tells = subst (λ p. TellsAt seen p e) (sym (leaves disk call place)) tells
+
       step_quiet : (step : Step) (old new : History D) → Goes seen failures armed step old new → IsStepWithin step → IsLooking client step → KeepsTypes old → LastsThrough seen old.nodes.master → IsStill d client number old → StaysQuiet seen old → StaysQuiet seen new
       step_quiet step old new goes within looking keeps lasts f quiet = record { master = step_unled step old new goes looking f quiet.master; told = told }
         where
-          lasting : (disk : DiskId) (call : ℕ) (place : MasterPlace D) → LastsThrough seen place → LastsThrough seen (armed disk call place)
-          lasting disk call place lasts = subst (LastsThrough seen) (sym (leaves disk call place)) lasts
-
-          telling : (e : Durable) (disk : DiskId) (call : ℕ) (place : MasterPlace D) → TellsAt seen place e → TellsAt seen (armed disk call place) e
-          telling e disk call place tells = subst (λ p. TellsAt seen p e) (sym (leaves disk call place)) tells
-
           told : (e : Durable) → TellsAt seen new.nodes.master e → AreUnled e
           told e tells =
               let was = tells_some seen failures old.nodes.master lasts in
@@ -170,10 +174,27 @@ module _ {D : Type 0} (seen : D → List ℕ) (failures : D → ℕ) where
           run_quiet steps mid new rest within.1 looking.1 (step_keeps seen failures armed step old mid goes within.0 keeps) (lasts_on (step ∷ []) old mid (mid, goes, refl) (within.0, tt) keeps lasts)
           (stays_still seen failures armed d client number (step ∷ []) old mid (mid, goes, refl) (looking.0, tt) f) (step_quiet step old mid goes within.0 looking.0 keeps lasts f quiet)
 
+      -- ---- which names are told
+
+      step_named : (step : Step) (old new : History D) → Goes seen failures armed step old new → IsStepWithin step → KeepsTypes old → LastsThrough seen old.nodes.master → IsStill d client number old → TellNames old → TellNames new
+      step_named step old new goes within keeps lasts f named e tells =
+          let was = tells_some seen failures old.nodes.master lasts in
+          let may = step_within seen failures armed step old within keeps in
+          let on = step_on seen failures armed lasting telling step old new was.0 goes may lasts was.1 in
+          subst (HasNames d) (tells_once seen failures new.nodes.master on.durable e on.tells tells) (names_on seen failures d client number step old was.0 on.durable f may lasts was.1 (named was.0 was.1) on.on)
+
+      pub run_named : (steps : List Step) (old new : History D) → RunsTo seen failures armed steps old new → AllByRecursion IsStepWithin steps → AllByRecursion (IsLooking client) steps → KeepsTypes old → LastsThrough seen old.nodes.master → IsStill d client number old → TellNames old
+          → TellNames new
+      run_named [] old new same within looking keeps lasts f named = subst TellNames (sym same) named
+      run_named (step ∷ steps) old new (mid, goes, rest) within looking keeps lasts f named =
+          run_named steps mid new rest within.1 looking.1 (step_keeps seen failures armed step old mid goes within.0 keeps) (lasts_on (step ∷ []) old mid (mid, goes, refl) (within.0, tt) keeps lasts)
+          (stays_still seen failures armed d client number (step ∷ []) old mid (mid, goes, refl) (looking.0, tt) f) (step_named step old mid goes within.0 keeps lasts f named)
+
       pub run_halted : (steps : List Step) (old new : History D) → RunsTo seen failures armed steps old new → AllByRecursion IsStepWithin steps → AllByRecursion (IsLooking client) steps → IsHalted seen d client number old → IsHalted seen d client number new
       run_halted steps old new runs within looking h = record {
         still = stays_still seen failures armed d client number steps old new runs looking h.still;
         quiet = run_quiet steps old new runs within looking h.types h.lasts h.still h.quiet;
+        named = run_named steps old new runs within looking h.types h.lasts h.still h.named;
         asked = stays_unarmed seen failures armed steps old new leaves runs within h.types h.lasts h.asked;
         types = run_keeps seen failures armed steps old new runs within h.types;
         lasts = lasts_on steps old new runs within h.types h.lasts;

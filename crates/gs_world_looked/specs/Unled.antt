@@ -29,14 +29,19 @@ IsUnledAt place = Unit {0}
 abbrev pub IsUnarmed : {D : Type 0} → (DiskId → ℕ → MasterPlace D → MasterPlace D) → Type 0
 IsUnarmed {D} armed = (disk : DiskId) (call : ℕ) (place : MasterPlace D) → armed disk call place ≡ place
 
+-- what is told has these names, and this epoch
+pub record HasNames (d e : Durable) : Type 0 where
+  pub names : e.names ≡ d.names
+  pub epoch : e.epoch ≡ d.epoch
+
 module _ {D : Type 0} (seen : D → List ℕ) where
   -- no chunk of a file has a primary at the master, and none gets one by what it has begun; nor by what its disks tell
   pub record StaysQuiet (h : History D) : Type 0 where
     pub master : IsUnledAt h.nodes.master
     pub told : (d : Durable) → TellsAt seen h.nodes.master d → AreUnled d
 
-  -- A store in which a client has halted: the names, the phase and the epoch are these and stand, no call waits, all that was called before has a number that the client has had, and no chunk of a file has a primary. Beside that it keeps to its
-  -- types, lasts through failures, and of each reply in it its client has asked.
+  -- A store in which a client has halted: the names, the phase and the epoch are these and stand, no call waits, all that was called before has a number that the client has had, and no chunk of a file has a primary; the master's disks tell these names, and
+  -- this epoch. Beside that it keeps to its types, lasts through failures, and of each reply in it its client has asked.
   pub record IsHalted (d : Durable) (client : ClientId) (number : ℕ) (h : History D) : Type 0 where
     pub still : IsStill d client number h
     pub quiet : StaysQuiet h
@@ -62,11 +67,12 @@ module _ {D : Type 0} (seen : D → List ℕ) (failures : D → ℕ) (armed : Di
   CommitsLeaveUnled = IsUnarmed armed → (now next : History D) (event : Event) (said : Result (Unit {0}) Refusal) (h : Happens seen failures armed event now said next) (req : ReqId) (call : Call) (answer : Answer) → is_halt call ≡ true → IsStepWithin (Comes event) →
       KeepsTypes now → LastsThrough seen now.nodes.master → AnswersNow now event h.outcome req call answer → StaysQuiet seen next
 
-  -- Its commit was answered at an event, behind which a master stood on this; and where it has the answer the store is halted on this.
+  -- Its commit was answered at an event, behind which a master stood on this; from then on, and where it has the answer, the store is halted on this.
   pub record HaltsBy (client : ClientId) (old : History D) (call : Call) (answer : Answer) (mid : History D) (c : HasAnswer seen failures armed client old call answer mid) : Type 0 where
     pub made : WasAnswered seen failures armed c.steps c.asked mid c.req call answer
     pub durable : Durable
     pub stands : StandsOn made.next.nodes.master durable
+    pub begun : IsHalted seen durable client c.req.number made.next
     pub halted : IsHalted seen durable client c.req.number mid
 
   -- So it is where it is the only client, and asks nothing else but look-ups meanwhile.
