@@ -1,6 +1,5 @@
 -- Behind the commit of a prepare, or of a rollback, no chunk of a file has a primary.
-use Rattle.std.proofs.Common.{◌≡◌, ◌∙◌, inl, ◌≤◌, ◌++◌, ℕ, Bool, true, false, List, [], ◌∷◌, Option, Some, Result, Ok, refl, sym, ap, subst, arith}
-use Rattle.std.specs.Prelude.{MatchBool}
+use Rattle.std.proofs.Common.{◌≡◌, ◌∙◌, inl, ◌≤◌, ◌++◌, ℕ, true, false, List, [], ◌∷◌, Option, Some, Result, Ok, refl, sym, ap, subst, arith}
 use Rattle.std.specs.List.{AllByRecursion}
 use Rattle.std.proofs.lemmas.Bool.{false≢true}
 use Rattle.gs_base.specs.declared.config.Config.{Config}
@@ -9,8 +8,6 @@ use Rattle.gs_base.specs.declared.numbers.Moment.{Moment}
 use Rattle.gs_base.specs.declared.numbers.ReqId.{ReqId}
 use Rattle.gs_base.specs.declared.refusal.Refusal.{Refusal}
 use Rattle.gs_client.specs.Nodes.{Node}
-use Rattle.gs_master.specs.Journaled.{text_seen}
-use Rattle.gs_master.specs.Masters.{MasterOf}
 use Rattle.gs_msg.specs.declared.answer.Answer.{Answer}
 use Rattle.gs_msg.specs.declared.body.Body.{Body}
 use Rattle.gs_msg.specs.declared.body.Body.TheVariants as bodies
@@ -51,7 +48,6 @@ use Rattle.gs_world_asked.proofs.Resting.{stays_still}
 use Rattle.gs_world_laws.proofs.Keeping.{run_keeps}
 use Rattle.gs_world_laws.proofs.Through.{sound_tells, tells_once}
 use Rattle.gs_world_laws.specs.Saying.{IsStepWithin, KeepsTypes}
-use Rattle.gs_world_laws.specs.Steady.{StandsSteady, TellsSteady}
 use Rattle.gs_world_laws.specs.Through.{LastsThrough, TellsAt}
 use Rattle.gs_world_looked.specs.Unled.{CommitsHalt, CommitsLeaveUnled, HaltsBy, HasNames, IsUnarmed, IsUnledAt, StaysQuiet}
 use Rattle.gs_world_looked.proofs.Named.{firm_at}

@@ -38,7 +38,7 @@ use Rattle.gs_world_laws.specs.Saying.{IsStepWithin}
 use Rattle.gs_world_laws.specs.Through.{LastsThrough}
 use Rattle.gs_world_looked.specs.Looked.{AnswersAreByNames, IsPlaceOf, IsStatusOf, LooksAreByNames, LooksBy, LooksHalted, is_file_look}
 use Rattle.gs_world_looked.specs.Unled.{IsHalted, IsUnarmed, IsUnledAt, StaysQuiet}
-use Rattle.gs_world_looked.proofs.Commits.{firm_at}
+use Rattle.gs_world_looked.proofs.Named.{firm_at}
 use Rattle.gs_world_looked.proofs.Unled.{run_halted}
 
 file_look : (call : Call) → is_file_look call ≡ true → is_look call ≡ true

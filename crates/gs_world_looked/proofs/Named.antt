@@ -1,5 +1,5 @@
 -- What the master's disks tell of the names while a client only looks.
-use Rattle.std.proofs.Common.{◌≡◌, ◌∙◌, ◌⊎◌, inl, inr, ◌<◌, ◌≤◌, ℕ, zero, suc, Bool, true, false, List, [], ◌∷◌, length, Option, Some, None, Ok, Err, refl, sym, ap, subst, arith}
+use Rattle.std.proofs.Common.{◌≡◌, ◌∙◌, ◌⊎◌, inl, inr, ◌<◌, ℕ, zero, suc, Bool, true, false, List, [], ◌∷◌, length, Option, Some, None, refl, sym, ap, subst, arith}
 use Rattle.std.specs.Prelude.{MatchBool, fold, is_some, option_and_then, take, unwrap_or}
 use Rattle.std.proofs.lemmas.Bool.{false≢true}
 use Rattle.gs_base.specs.declared.numbers.ClientId.{ClientId}
@@ -9,7 +9,6 @@ use Rattle.gs_master.specs.Masters.{MasterOf}
 use Rattle.gs_master.specs.Ticking.{lacking, pressed_all}
 use Rattle.gs_msg.specs.declared.event.Happening.{Happening}
 use Rattle.gs_msg.specs.declared.event.Happening.TheVariants as happenings
-use Rattle.gs_msg.specs.declared.message.Message.{Message}
 use Rattle.gs_msg.specs.declared.node.StoreNode.TheVariants as keepers
 use Rattle.gs_master_record.specs.Plain.{PlainEntry}
 use Rattle.gs_master_spec.specs.Applied.{applied, replayed}
@@ -92,18 +91,18 @@ module _ (d : Durable) (client : ClientId) (number : ℕ) where
     turn_names moment (happenings.Tick keepers.Master) old m t f named so firm (inr is) many e =
         subst (λ (u : Turn). replayed m.state.durable (take many u.records) ≡ Some e → HasNames d e) (sym is)
         (names_by m.state (lacking (pressed_all m.state moment)) (nobody_still d client number m.state (lacking (pressed_all m.state moment)) (lacking_only seen failures (λ r. ⊥) m.state moment) so) (steps_fit m.state moment firm) many e)
-    turn_names moment (happenings.Tick (keepers.Server id)) old m t f named so firm turns = absurd turns
-    turn_names moment (happenings.Ask req request) old m t f named so firm turns = absurd turns
-    turn_names moment (happenings.Beat id) old m t f named so firm turns = absurd turns
-    turn_names moment (happenings.Restart node) old m t f named so firm turns = absurd turns
-    turn_names moment (happenings.Lose id handle) old m t f named so firm turns = absurd turns
-    turn_names moment (happenings.Damage id handle block) old m t f named so firm turns = absurd turns
-    turn_names moment (happenings.FailDisk disk call) old m t f named so firm turns = absurd turns
+    turn_names moment (happenings.Tick (keepers.Server id)) old m t f named so firm turns many e = absurd turns
+    turn_names moment (happenings.Ask req request) old m t f named so firm turns many e = absurd turns
+    turn_names moment (happenings.Beat id) old m t f named so firm turns many e = absurd turns
+    turn_names moment (happenings.Restart node) old m t f named so firm turns many e = absurd turns
+    turn_names moment (happenings.Lose id handle) old m t f named so firm turns many e = absurd turns
+    turn_names moment (happenings.Damage id handle block) old m t f named so firm turns many e = absurd turns
+    turn_names moment (happenings.FailDisk disk call) old m t f named so firm turns many e = absurd turns
 
     at_names : (step : Step) (old : History D) (m : MasterOf D) (t : Turn) → IsStill d client number old → StepWithin step old → StandsStill d client number m.state → IsFirm m.state → TurnsAt step old m t → (many : ℕ) (e : Durable)
         → replayed m.state.durable (take many t.records) ≡ Some e → HasNames d e
-    at_names (Comes event) old m t f may so firm turns = turn_names event.moment event.happening old m t f may.0 so firm turns
-    at_names (Takes other) old m t f may so firm turns = absurd turns
+    at_names (Comes event) old m t f may so firm turns many e = turn_names event.moment event.happening old m t f may.0 so firm turns many e
+    at_names (Takes other) old m t f may so firm turns many e = absurd turns
 
     -- what is told behind a step
     pub names_on : (step : Step) (old : History D) (was now : Durable) → IsStill d client number old → StepWithin step old → LastsThrough seen old.nodes.master → TellsAt seen old.nodes.master was → HasNames d was → TellsOn (TurnsAt step old) old.nodes.master was now → HasNames d now

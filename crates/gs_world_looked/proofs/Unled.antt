@@ -181,7 +181,7 @@ module _ {D : Type 0} (seen : D → List ℕ) (failures : D → ℕ) where
           let was = tells_some seen failures old.nodes.master lasts in
           let may = step_within seen failures armed step old within keeps in
           let on = step_on seen failures armed lasting telling step old new was.0 goes may lasts was.1 in
-          subst (HasNames d) (tells_once seen failures new.nodes.master on.durable e on.tells tells) (names_on seen failures d client number step old was.0 on.durable f may lasts was.1 (named was.0 was.1) on.on)
+          subst (HasNames d) (tells_once seen failures new.nodes.master on.durable e on.tells tells) (names_on d client number seen failures step old was.0 on.durable f may lasts was.1 (named was.0 was.1) on.on)
 
       pub run_named : (steps : List Step) (old new : History D) → RunsTo seen failures armed steps old new → AllByRecursion IsStepWithin steps → AllByRecursion (IsLooking client) steps → KeepsTypes old → LastsThrough seen old.nodes.master → IsStill d client number old → TellNames old
           → TellNames new

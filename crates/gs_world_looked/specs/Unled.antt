@@ -45,6 +45,7 @@ module _ {D : Type 0} (seen : D → List ℕ) where
   pub record IsHalted (d : Durable) (client : ClientId) (number : ℕ) (h : History D) : Type 0 where
     pub still : IsStill d client number h
     pub quiet : StaysQuiet h
+    pub named : (e : Durable) → TellsAt seen h.nodes.master e → HasNames d e
     pub asked : AreAsked seen h
     pub types : KeepsTypes h
     pub lasts : LastsThrough seen h.nodes.master
