@@ -1,34 +1,25 @@
 -- What a client that has halted a store reads of a file is of what stood there.
-use Rattle.std.proofs.Common.{◌≡◌, ◌∙◌, ◌⊎◌, inl, inr, ◌++◌, Bool, true, false, List, [], ◌∷◌, None, Option, Some, Result, Ok, Err, ℕ, map, refl, sym, ap, subst, append_assoc, slice_get}
-use Rattle.std.specs.Prelude.{Contains, drop, is_some, length, take}
+use Rattle.std.proofs.Common.{◌≡◌, ◌∙◌, inl, inr, ◌++◌, Bool, true, false, List, [], ◌∷◌, Some, Ok, ℕ, map, refl, sym, ap, subst, append_assoc, slice_get}
+use Rattle.std.specs.Prelude.{is_some}
 use Rattle.std.specs.FinMap as fin
 use Rattle.std.specs.List.{AllByRecursion}
 use Rattle.std.proofs.lemmas.List.Elements.{Contains-push_cases}
-use Rattle.gs_base.specs.Members.{is_member}
 use Rattle.gs_base.specs.declared.config.Config.{Config}
 use Rattle.gs_base.specs.declared.numbers.ClientId.{ClientId}
-use Rattle.gs_base.specs.declared.numbers.Moment.{Moment}
-use Rattle.gs_base.specs.declared.numbers.ReqId.{ReqId}
 use Rattle.gs_base.specs.declared.numbers.Stamp.{Stamp}
 use Rattle.gs_base.specs.declared.refusal.Refusal.{Refusal}
-use Rattle.gs_block.specs.Stored.{digest_at}
 use Rattle.gs_client.specs.declared.link.Reply.{Reply}
 use Rattle.gs_client.specs.declared.link.Reply.TheVariants as replies
 use Rattle.gs_client_part.specs.declared.located.Located.{Located}
 use Rattle.gs_client_plain.specs.Files.{AreOf, IsOf, Stands, TellsChunks, TellsPlace, part_of}
 use Rattle.gs_client_plain.specs.Located.{AskSo, IsUnder, MayAsk, WasTold}
 use Rattle.gs_edit.specs.View.{NamesView}
-use Rattle.gs_lease.specs.declared.view.View.{View}
-use Rattle.gs_master.specs.Masters.{MasterOf}
-use Rattle.gs_master_looked.specs.Looked.{Locates}
 use Rattle.gs_master_spec.specs.Applied.{view_in}
 use Rattle.gs_master_spec.specs.Calls.{chunks_at}
 use Rattle.gs_master_spec.specs.Durable.{Durable, is_listed, is_rolling}
-use Rattle.gs_master_spec.specs.State.{is_failed}
 use Rattle.gs_msg.specs.declared.answer.Answer.{Answer}
 use Rattle.gs_msg.specs.declared.answer.Answer.TheVariants as answers
 use Rattle.gs_msg.specs.declared.answer.ChunkStatus.{ChunkStatus}
-use Rattle.gs_msg.specs.declared.answer.Status.{Status}
 use Rattle.gs_msg.specs.declared.answer.Status.TheVariants as statuses
 use Rattle.gs_msg.specs.declared.body.Body.TheVariants as bodies
 use Rattle.gs_msg.specs.declared.body.Given.{Given}
@@ -39,34 +30,31 @@ use Rattle.gs_msg.specs.declared.chunk.Asked.TheVariants as asks
 use Rattle.gs_msg.specs.declared.chunk.Chunk.TheVariants as chunks
 use Rattle.gs_msg.specs.declared.event.Request.{Request}
 use Rattle.gs_msg.specs.declared.event.Request.TheVariants as requests
-use Rattle.gs_msg.specs.declared.message.Message.{Message}
 use Rattle.gs_nodes.specs.Happenings.{client_in}
 use Rattle.gs_nodes.specs.declared.place.MasterPlace.{MasterPlace}
-use Rattle.gs_nodes.specs.declared.place.MasterPlace.TheVariants.{Standing}
 use Rattle.gs_path.specs.Path.{Path}
 use Rattle.gs_tree.specs.Edits.{chunks_in}
-use Rattle.gs_tree.specs.Entry.{Entry, File}
+use Rattle.gs_tree.specs.Entry.{File}
 use Rattle.gs_world.specs.Histories.{History}
-use Rattle.gs_world.specs.Lasting.{IsToldIn}
 use Rattle.gs_world.specs.Runs.{Comes, RunsTo, Step}
-use Rattle.gs_world_asked.specs.Behind.{HasAnswer, StandsOn}
-use Rattle.gs_world_asked.specs.Resting.{IsLooking, StandsStill, StandsStillAt}
+use Rattle.gs_world_asked.specs.Behind.{HasAnswer}
+use Rattle.gs_world_asked.specs.Resting.{IsLooking, StandsStillAt}
 use Rattle.gs_world_carried.specs.Exchanged.{HasReply, Looks, Went, asks_at}
 use Rattle.gs_world_chunks.proofs.Accounted.{runs_told}
 use Rattle.gs_world_chunks.proofs.Once.{told_at_once}
 use Rattle.gs_world_chunks.proofs.Well.{IsWell}
-use Rattle.gs_world_chunks.specs.Accounts.{Account, settled_edits, text_of, view_at}
+use Rattle.gs_world_chunks.specs.Accounts.{Account, settled_edits, text_of}
 use Rattle.gs_world_chunks.specs.Reading.{IsFetch, IsLookedUp, given_of}
-use Rattle.gs_world_chunks.specs.Running.{IsGiven, IsReached, IsToldAt, Moves, Runs}
+use Rattle.gs_world_chunks.specs.Running.{IsGiven, IsReached, IsToldAt, Moves, Runs, Setup}
 use Rattle.gs_world_fetched.proofs.Sending.{joined, none_there, reach}
 use Rattle.gs_world_fetched.specs.Fetched.{PartsAreGiven, WasGiven}
 use Rattle.gs_world_laws.specs.Reached.{unarmed}
 use Rattle.gs_world_laws.specs.Saying.{IsStepWithin}
 use Rattle.gs_world_looked.specs.Looked.{AnswersAreByNames, IsPlaceOf, IsStatusOf, LooksHalted}
 use Rattle.gs_world_looked.specs.Unled.{IsHalted, StaysHalted}
-use Rattle.gs_world_unled.specs.Unled.{IsUnledAt, ReadsAreOfUnled, ReadsUnled, RunsUnled}
-use Rattle.gs_world_read.proofs.Halting.{unled_on, unled_there, y}
-use Rattle.gs_world_read.proofs.Stepping.{accounts_on, all_back, all_front, among_front, among_on, bare_so, runs_of, told_stands}
+use Rattle.gs_world_unled.specs.Unled.{ReadsAreOfUnled, ReadsUnled, RunsUnled}
+use Rattle.gs_world_read.proofs.Halting.{unled_on, unled_there}
+use Rattle.gs_world_read.proofs.Stepping.{accounts_on, all_back, all_front, among_front, among_on, bare_so, runs_of, store_of, told_stands}
 use Rattle.gs_world_read.specs.Read.{AreAmongAnyhow, Exchanged, steps_in, steps_of}
 
 abbrev Pairs : Type 0
@@ -83,8 +71,9 @@ parts_all : {A : Type 0} (S : A → Type 0) (xs ys : List A) → xs ≡ ys → A
 parts_all S xs ys is all = subst (AllByRecursion S) is all
 
 module _ {D : Type 0} (seen : D → List ℕ) (failures : D → ℕ) (stays : StaysHalted seen failures unarmed) (looked : AnswersAreByNames seen failures unarmed) (config : Config) (clients : ℕ) (disks : D × D) (among : List ℕ → Bool)
-    (given_parts : PartsAreGiven (y seen failures stays config clients disks among)) (of_unled : ReadsAreOfUnled (y seen failures stays config clients disks among)) (given : IsGiven (y seen failures stays config clients disks among)) where
-  abbrev x = y seen failures stays config clients disks among
+    (given_parts : PartsAreGiven (store_of seen failures config clients disks among)) (of_unled : ReadsAreOfUnled (store_of seen failures config clients disks among)) (given : IsGiven (store_of seen failures config clients disks among)) where
+  abbrev x : Setup D
+  x = store_of seen failures config clients disks among
 
   module _ (d : Durable) (client : ClientId) (number : ℕ) (path : Path) (h0 : History D) (a0 : Account) (reached : IsReached x h0 a0) (halted0 : IsHalted seen d client number h0) (has : a0.durable ≡ d) (calm : is_rolling d.phase ≡ false) where
     -- the file as it stands there
@@ -190,7 +179,7 @@ module _ {D : Type 0} (seen : D → List ℕ) (failures : D → ℕ) (stays : St
 
     module _ (before : Pairs) (h : History D) (b : Account) (now : Now before h b) where
       -- nothing is told by it
-      told_none : (request : Request) (reply : Reply) → ((l : Located) (e : Account) (k : History D) → (request, reply) ≡ (requests.Call (calls.FindForReading path l.index), replies.Answer (answers.Location l.handle l.view l.epoch)) → PlaceSo k e l) → IsOf file request reply
+      told_none : (request : Request) (reply : Reply) → ((l : Located) (e : Account) (k : History D) → ◌≡◌ {A = Request × Reply} (request, reply) (requests.Call (calls.FindForReading path l.index), replies.Answer (answers.Location l.handle l.view l.epoch)) → PlaceSo k e l) → IsOf file request reply
           → (mid next : History D) (went looks : List Step) (rest : List Step) → RunsTo seen failures unarmed went h mid → AllByRecursion IsStepWithin went → AllByRecursion (IsLooking client) went
           → RunsTo seen failures unarmed looks mid next → AllByRecursion IsStepWithin looks → AllByRecursion (IsLooking client) looks → AreAmongAnyhow seen failures among (went ++ (looks ++ rest)) h → Behind before (request, reply) next
       told_none request reply none is mid next went looks rest runs within looking runs_then within_then looking_then all =
@@ -209,7 +198,7 @@ module _ {D : Type 0} (seen : D → List ℕ) (failures : D → ℕ) (stays : St
         runs_all = (r.asked, (Ok tt, r.happens), r.behind.runs)
 
         -- whatever it is, the client looks on
-        replied : ((l : Located) (e : Account) (k : History D) → (request, reply) ≡ (requests.Call (calls.FindForReading path l.index), replies.Answer (answers.Location l.handle l.view l.epoch)) → PlaceSo k e l) → IsOf file request reply → Behind before (request, reply) next
+        replied : ((l : Located) (e : Account) (k : History D) → ◌≡◌ {A = Request × Reply} (request, reply) (requests.Call (calls.FindForReading path l.index), replies.Answer (answers.Location l.handle l.view l.epoch)) → PlaceSo k e l) → IsOf file request reply → Behind before (request, reply) next
         replied none is = told_none request reply none is mid next (ask ∷ r.behind.steps) looks.steps rest runs_all (r.asks, r.behind.within) (may, r.behind.looking) looks.runs looks.within looks.looking all
 
       -- as a call with its answer
@@ -264,16 +253,16 @@ module _ {D : Type 0} (seen : D → List ℕ) (failures : D → ℕ) (stays : St
         listed_there = ap (λ (n : NamesView). is_some (fin.get n.refs p.locates.chunk)) (sym p.by.names) ∙ p.listed
 
         -- it is told of no other
-        location_is : (l : Located) → (requests.Call (calls.FindForReading path index), replies.Answer answer) ≡ (requests.Call (calls.FindForReading path l.index), replies.Answer (answers.Location l.handle l.view l.epoch)) → found_location ≡ l
+        location_is : (l : Located) → ◌≡◌ {A = Request × Reply} (requests.Call (calls.FindForReading path index), replies.Answer answer) (requests.Call (calls.FindForReading path l.index), replies.Answer (answers.Location l.handle l.view l.epoch)) → found_location ≡ l
         location_is l same = (λ i. record { index = indexes same i; handle = handles (sym p.says ∙ answer_is same) i; view = views (sym p.says ∙ answer_is same) i; epoch = epochs (sym p.says ∙ answer_is same) i })
           where
-            indexes : (requests.Call (calls.FindForReading path index), replies.Answer answer) ≡ (requests.Call (calls.FindForReading path l.index), replies.Answer (answers.Location l.handle l.view l.epoch)) → index ≡ l.index
+            indexes : ◌≡◌ {A = Request × Reply} (requests.Call (calls.FindForReading path index), replies.Answer answer) (requests.Call (calls.FindForReading path l.index), replies.Answer (answers.Location l.handle l.view l.epoch)) → index ≡ l.index
             indexes e = index_of (ap (λ (z : Request × Reply). z.0) e)
               where
                 index_of : requests.Call (calls.FindForReading path index) ≡ requests.Call (calls.FindForReading path l.index) → index ≡ l.index
                 index_of e = cc
 
-            answer_is : (requests.Call (calls.FindForReading path index), replies.Answer answer) ≡ (requests.Call (calls.FindForReading path l.index), replies.Answer (answers.Location l.handle l.view l.epoch)) → answer ≡ answers.Location l.handle l.view l.epoch
+            answer_is : ◌≡◌ {A = Request × Reply} (requests.Call (calls.FindForReading path index), replies.Answer answer) (requests.Call (calls.FindForReading path l.index), replies.Answer (answers.Location l.handle l.view l.epoch)) → answer ≡ answers.Location l.handle l.view l.epoch
             answer_is e = answer_of (ap (λ (z : Request × Reply). z.1) e)
               where
                 answer_of : replies.Answer answer ≡ replies.Answer (answers.Location l.handle l.view l.epoch) → answer ≡ answers.Location l.handle l.view l.epoch
@@ -306,6 +295,7 @@ module _ {D : Type 0} (seen : D → List ℕ) (failures : D → ℕ) (stays : St
         from_now = Comes l.made.event ∷ l.made.after
 
         steps_are : its_ask ∷ r.behind.steps ≡ to_now ++ from_now
+        unfolding as_answer
         steps_are = ap (λ (ys : List Step). its_ask ∷ ys) l.made.parts
 
         within_all : AllByRecursion IsStepWithin (to_now ++ from_now)
@@ -318,6 +308,7 @@ module _ {D : Type 0} (seen : D → List ℕ) (failures : D → ℕ) (stays : St
         all_there = subst (λ (ys : List Step). AreAmongAnyhow seen failures among ys h) (ap (λ (ys : List Step). ys ++ (looks.steps ++ rest)) steps_are ∙ append_assoc to_now from_now (looks.steps ++ rest)) all
 
         runs_now : RunsTo seen failures unarmed to_now h l.made.now
+        unfolding as_answer
         runs_now = (r.asked, (Ok tt, r.happens), l.made.first)
 
         one : On before h b now to_now l.made.now
@@ -354,6 +345,7 @@ module _ {D : Type 0} (seen : D → List ℕ) (failures : D → ℕ) (stays : St
         }
 
         place_so : PlaceSo next three.c (found_location answer l.made.now.nodes.master index p)
+        unfolding go_on one
         place_so = (let listed = listed_there answer l.made.now.nodes.master index p in record {
           listed = listed;
           place = chunk_there answer l.made.now.nodes.master index p;
@@ -464,19 +456,19 @@ module _ {D : Type 0} (seen : D → List ℕ) (failures : D → ℕ) (stays : St
 
       -- ---- any
 
-      never_fetch : {Z : Type 0} (to handle : ℕ) (stamp : Stamp) (epoch : ℕ) (want : Asked) (reply : Reply) (l : Located) → (requests.Fetch to handle stamp epoch want, reply) ≡ (requests.Call (calls.FindForReading path l.index), replies.Answer (answers.Location l.handle l.view l.epoch)) → Z
+      never_fetch : {Z : Type 0} (to handle : ℕ) (stamp : Stamp) (epoch : ℕ) (want : Asked) (reply : Reply) (l : Located) → ◌≡◌ {A = Request × Reply} (requests.Fetch to handle stamp epoch want, reply) (requests.Call (calls.FindForReading path l.index), replies.Answer (answers.Location l.handle l.view l.epoch)) → Z
       never_fetch to handle stamp epoch want reply l same = absurd (never (ap (λ (z : Request × Reply). z.0) same))
         where
           never : requests.Fetch to handle stamp epoch want ≡ requests.Call (calls.FindForReading path l.index) → ⊥
           never e = cc
 
-      never_status : {Z : Type 0} (p : Path) (reply : Reply) (l : Located) → (requests.Call (calls.Status p), reply) ≡ (requests.Call (calls.FindForReading path l.index), replies.Answer (answers.Location l.handle l.view l.epoch)) → Z
+      never_status : {Z : Type 0} (p : Path) (reply : Reply) (l : Located) → ◌≡◌ {A = Request × Reply} (requests.Call (calls.Status p), reply) (requests.Call (calls.FindForReading path l.index), replies.Answer (answers.Location l.handle l.view l.epoch)) → Z
       never_status p reply l same = absurd (never (ap (λ (z : Request × Reply). z.0) same))
         where
           never : requests.Call (calls.Status p) ≡ requests.Call (calls.FindForReading path l.index) → ⊥
           never e = cc
 
-      never_reply : {Z : Type 0} (request : Request) (reply : Reply) → ((answer : Answer) → reply ≡ replies.Answer answer → ⊥) → (l : Located) → (request, reply) ≡ (requests.Call (calls.FindForReading path l.index), replies.Answer (answers.Location l.handle l.view l.epoch)) → Z
+      never_reply : {Z : Type 0} (request : Request) (reply : Reply) → ((answer : Answer) → reply ≡ replies.Answer answer → ⊥) → (l : Located) → ◌≡◌ {A = Request × Reply} (request, reply) (requests.Call (calls.FindForReading path l.index), replies.Answer (answers.Location l.handle l.view l.epoch)) → Z
       never_reply request reply none l same = absurd (none (answers.Location l.handle l.view l.epoch) (ap (λ (z : Request × Reply). z.1) same))
 
       -- of such steps alone

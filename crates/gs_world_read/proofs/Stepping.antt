@@ -22,7 +22,7 @@ use Rattle.gs_world_chunks.proofs.Through.{told_there}
 use Rattle.gs_world_chunks.proofs.Well.{IsWell, step_well}
 use Rattle.gs_world_chunks.specs.Accounts.{Account}
 use Rattle.gs_world_chunks.specs.Moving.{account_behind}
-use Rattle.gs_world_chunks.specs.Running.{AreAmong, IsArmed, IsGiven, IsReached, IsToldAt, Moves, Runs, RunsBare, Setup, StepsWithin}
+use Rattle.gs_world_chunks.specs.Running.{AreAmong, IsArmed, IsGiven, IsToldAt, Runs, RunsBare, Setup, StepsWithin}
 use Rattle.gs_world_laws.proofs.Through.{sound_tells}
 use Rattle.gs_world_laws.specs.Reached.{unarmed}
 use Rattle.gs_world_laws.specs.Saying.{IsStepWithin}
@@ -84,7 +84,7 @@ module _ {D : Type 0} (seen : D → List ℕ) (failures : D → ℕ) where
   pub among_front : (among : List ℕ → Bool) (first second : List Step) (old : History D) → AreAmongAnyhow seen failures among (first ++ second) old → AreAmongAnyhow seen failures among first old
   among_front among first second old all front behind now is there = all front (behind ++ second) now (ap (λ (ys : List Step). ys ++ second) is ∙ append_assoc front behind second) there
 
-  still : (place : MasterPlace D) → IsArmed seen place place
+  pub still : (place : MasterPlace D) → IsArmed seen place place
   still (Standing m) = (m.journal, refl, record { first = refl; second = refl; others = refl })
   still (Closed first second) = (first, second, refl, refl, refl)
   still Away = refl
@@ -106,7 +106,7 @@ module _ {D : Type 0} (seen : D → List ℕ) (failures : D → ℕ) where
     abbrev pub x : Setup D
     x = store_of seen failures config clients disks among
 
-    step_so : (step : Step) (old new : History D) → Goes seen failures unarmed step old new → IsStepWithin step → AreAmong among new.nodes → StepsWithin x step old new
+    pub step_so : (step : Step) (old new : History D) → Goes seen failures unarmed step old new → IsStepWithin step → AreAmong among new.nodes → StepsWithin x step old new
     step_so step old new goes within blocks = record { goes = goes; within = within; among = blocks; sound = λ never. absurd (false≢true (sym never)) }
 
     pub bare_so : (steps : List Step) (old new : History D) → RunsTo seen failures unarmed steps old new → AllByRecursion IsStepWithin steps → AreAmongAnyhow seen failures among steps old → RunsBare x steps old new

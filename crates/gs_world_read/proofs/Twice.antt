@@ -1,24 +1,18 @@
 -- What a client reads behind a rollback is what it read behind its prepare.
-use Rattle.std.proofs.Common.{◌≡◌, ◌∙◌, ◌<◌, ◌+◌, ◌++◌, Bool, true, false, List, [], ◌∷◌, None, Option, Some, Result, Ok, Err, ℕ, refl, sym, ap, subst, append-nil, append_assoc, arith, slice_get}
-use Rattle.std.specs.Prelude.{MatchBool, is_some, length}
+use Rattle.std.proofs.Common.{◌≡◌, ◌∙◌, ◌+◌, ◌++◌, Bool, true, false, List, [], ◌∷◌, None, Option, Some, Ok, ℕ, refl, sym, ap, subst, append-nil, append_assoc, slice_get}
+use Rattle.std.specs.Prelude.{length}
 use Rattle.std.specs.FinMap as fin
 use Rattle.std.specs.List.{AllByRecursion}
 use Rattle.std.proofs.lemmas.Bool.{and_parts, false≢true}
 use Rattle.gs_base.specs.declared.config.Config.{Config}
 use Rattle.gs_base.specs.declared.numbers.ClientId.{ClientId}
-use Rattle.gs_base.specs.declared.refusal.Refusal.{Refusal}
 use Rattle.gs_block.specs.Stored.{digest_at}
 use Rattle.gs_block.specs.Written.{TellsApart}
-use Rattle.gs_client.specs.declared.link.Reply.{Reply}
-use Rattle.gs_client_dialogue.specs.Heard.{Says}
-use Rattle.gs_client_part.specs.declared.located.Located.{Located}
 use Rattle.gs_client_plain.proofs.Following.{digests_what_stands, reads_what_stands}
 use Rattle.gs_client_plain.proofs.Located.{digesters_ask_so, readers_ask_so}
 use Rattle.gs_client_plain.specs.Files.{AreOf, Stands, read_of, text_at, text_in}
 use Rattle.gs_client_plain.specs.Located.{AskSo}
 use Rattle.gs_edit.specs.View.{NamesView}
-use Rattle.gs_journal.specs.Records.{standing}
-use Rattle.gs_master.specs.Journaled.{text_seen}
 use Rattle.gs_master.specs.Masters.{MasterOf}
 use Rattle.gs_master_record.specs.declared.checkpoint.Phase.{Phase}
 use Rattle.gs_master_record.specs.declared.checkpoint.Phase.TheVariants.{Ordinary, Upgrade, Rolling}
@@ -31,7 +25,6 @@ use Rattle.gs_master_asked.specs.Resting.{Commits}
 use Rattle.gs_msg.specs.declared.answer.Answer.TheVariants as answers
 use Rattle.gs_msg.specs.declared.call.Call.{Call}
 use Rattle.gs_msg.specs.declared.call.Call.TheVariants as calls
-use Rattle.gs_msg.specs.declared.event.Request.{Request}
 use Rattle.gs_nodes.specs.declared.place.MasterPlace.{MasterPlace}
 use Rattle.gs_nodes.specs.declared.place.MasterPlace.TheVariants.{Standing}
 use Rattle.gs_path.specs.Path.{Path}
@@ -39,24 +32,22 @@ use Rattle.gs_tree.specs.Edits.{chunks_in}
 use Rattle.gs_tree.specs.Entry.{Dir, Entry, File}
 use Rattle.gs_world.proofs.Reaching.{HaveSizes}
 use Rattle.gs_world.specs.Histories.{History}
-use Rattle.gs_world.specs.Lasting.{IsToldIn}
 use Rattle.gs_world.specs.Runs.{Comes, RunsTo, Step}
 use Rattle.gs_world_asked.proofs.Asked.{begins_asked, stays_unarmed}
 use Rattle.gs_world_asked.proofs.Behind.{MadeThere}
 use Rattle.gs_world_asked.specs.Asked.{AreAsked}
-use Rattle.gs_world_asked.specs.Behind.{HasAnswer, IsOnly, StandsOn, asks_call, is_halt}
+use Rattle.gs_world_asked.specs.Behind.{HasAnswer, asks_call, is_halt}
 use Rattle.gs_world_asked.specs.Resting.{IsLooking}
 use Rattle.gs_world_back.proofs.Lists.{both_reached}
-use Rattle.gs_world_carried.specs.Exchanged.{Looks}
 use Rattle.gs_world_chunks.proofs.Accounted.{RolledBackSo}
 use Rattle.gs_world_chunks.proofs.Edits.{AreNumbered}
 use Rattle.gs_world_chunks.proofs.ToldBack.{rolled_told}
 use Rattle.gs_world_chunks.proofs.Well.{IsWell, bare_well, begins_well}
 use Rattle.gs_world_chunks.specs.Accounts.{Account, settled_edits, text_of}
-use Rattle.gs_world_chunks.specs.Back.{GivesSettledBack, GoesBackBy, HasRolledBack, ToldNamesBack}
+use Rattle.gs_world_chunks.specs.Back.{GivesSettledBack, GoesBackBy, ToldNamesBack}
 use Rattle.gs_world_chunks.specs.Reading.{BytesAreFetched}
 use Rattle.gs_world_chunks.specs.Rising.{EpochsNeverFall}
-use Rattle.gs_world_chunks.specs.Running.{AreAmong, IsGiven, IsReached, IsToldAt, RunsBare, Runs, Setup, StepsWithin}
+use Rattle.gs_world_chunks.specs.Running.{IsGiven, IsReached, IsToldAt, Runs, Setup, StepsWithin}
 use Rattle.gs_world_fetched.proofs.Fetched.{parts_are_given}
 use Rattle.gs_world_laws.specs.Reached.{unarmed}
 use Rattle.gs_world_laws.specs.Saying.{IsStepWithin}
@@ -65,12 +56,11 @@ use Rattle.gs_world_listed.proofs.Rising.{all_between, same_rising}
 use Rattle.gs_world_looked.proofs.Commits.{commits, commits_halt, fits, there}
 use Rattle.gs_world_looked.proofs.Looked.{answers_are_by_names}
 use Rattle.gs_world_looked.proofs.Unled.{stays_halted}
-use Rattle.gs_world_looked.specs.Unled.{HaltsBy, IsHalted}
+use Rattle.gs_world_looked.specs.Unled.{HaltsBy}
 use Rattle.gs_world_unled.proofs.Reading.{listed_there, reads_are_of_unled}
-use Rattle.gs_world_read.proofs.Halting.{y}
 use Rattle.gs_world_read.proofs.Reading.{are_of, file}
-use Rattle.gs_world_read.proofs.Stepping.{accounts_on, all_back, all_front, all_join, among_front, among_on, bare_so, run_join, runs_in, still, store_of, told_stands, within_in}
-use Rattle.gs_world_read.specs.Read.{AreAmongAnyhow, Bytes, Digest, Exchanged, Reading, Reads, ReadsComeBack, ReadsTwice, all_steps, steps_in, steps_of_answer}
+use Rattle.gs_world_read.proofs.Stepping.{accounts_on, all_back, all_front, all_join, among_front, among_on, bare_so, run_join, runs_in, step_so, still, store_of, told_stands, within_in}
+use Rattle.gs_world_read.specs.Read.{AreAmongAnyhow, Bytes, Digest, Reading, Reads, ReadsComeBack, ReadsTwice, all_steps, steps_in, steps_of_answer}
 
 calm_prepared : (phase : Phase) → is_upgrade phase ≡ true → is_rolling phase ≡ false
 calm_prepared Ordinary is = refl
@@ -101,10 +91,7 @@ comes_to f (Digest index block) seen failures client bytes old new r are = diges
 found_there : (o : Option (Entry ℕ)) (index chunk : ℕ) → slice_get (chunks_in o) index ≡ Some chunk → found_chunk o index ≡ Ok chunk
 found_there None index chunk is = absurd cc
 found_there (Some Dir) index chunk is = absurd cc
-found_there (Some (File chunks)) index chunk is = by_place (slice_get chunks index) is
-  where
-    by_place : (o : Option ℕ) → o ≡ Some chunk → found_chunk (Some (File chunks)) index ≡ Ok chunk
-    by_place o is = (rw is refl)
+found_there (Some (File chunks)) index chunk is = (rw (is, found_chunk) refl)
 
 module _ (sizes : HaveSizes) (law : AreNumbered) {D : Type 0} (rises : (x : Setup D) → EpochsNeverFall x) (names_back : (x : Setup D) → ToldNamesBack x) (settled_back : (x : Setup D) → GivesSettledBack x) (fetched : (x : Setup D) → BytesAreFetched x)
     (seen : D → List ℕ) (failures : D → ℕ) (config : Config) (clients : ℕ) (disks : D × D) (client : ClientId) (path : Path) (reading : Reading) (epoch : ℕ) (had has : List ℕ) (r : ReadsTwice seen failures config clients disks client path reading epoch had has)
@@ -223,7 +210,7 @@ module _ (sizes : HaveSizes) (law : AreNumbered) {D : Type 0} (rises : (x : Setu
     runs_event = (b.made.next, (b.made.said, b.made.happens), refl)
 
     one_step : StepsWithin x (Comes b.made.event) b.made.now b.made.next
-    one_step = (bare_so seen failures config clients disks among (Comes b.made.event ∷ []) b.made.now b.made.next runs_event (within_back.0, tt) (among_front seen failures among (Comes b.made.event ∷ []) (b.made.after ++ rest) b.made.now blocks_now)).1
+    one_step = step_so seen failures config clients disks among (Comes b.made.event) b.made.now b.made.next (b.made.said, b.made.happens) within_back.0 (blocks_now (Comes b.made.event ∷ []) (b.made.after ++ rest) b.made.next refl runs_event)
 
     good_next : Good b.made.next
     good_next = good_on (Comes b.made.event ∷ []) (b.made.after ++ rest) b.made.now b.made.next runs_event (within_back.0, tt) blocks_now good_now
@@ -263,7 +250,7 @@ module _ (sizes : HaveSizes) (law : AreNumbered) {D : Type 0} (rises : (x : Setu
 
   -- ---- the two of them
 
-  S_after_two : List Step
+  abbrev S_after_two : List Step
   S_after_two = S3 ++ (S4 ++ (S5 ++ (S6 ++ (S7 ++ S8))))
 
   one : HaltsBy seen failures unarmed client r.old calls.PrepareCommit (answers.Epoch epoch) r.prepared r.prepares
@@ -357,7 +344,7 @@ module _ (sizes : HaveSizes) (law : AreNumbered) {D : Type 0} (rises : (x : Setu
   abbrev head : List Step
   head = asks_call r.prepares.moment r.prepares.req calls.PrepareCommit ∷ one.made.before
 
-  all_first : All ((S1 ++ head) ++ (Comes one.made.event ∷ one.made.after) ++ S_after_two) r.begun
+  all_first : All ((S1 ++ head) ++ ((Comes one.made.event ∷ one.made.after) ++ S_after_two)) r.begun
   all_first = subst (λ (ys : List Step). All ys r.begun) shape all
     where
       two_are : S2 ++ S_after_two ≡ head ++ ((Comes one.made.event ∷ one.made.after) ++ S_after_two)
@@ -400,11 +387,11 @@ module _ (sizes : HaveSizes) (law : AreNumbered) {D : Type 0} (rises : (x : Setu
         done = is_rolled.rolls;
       }
 
-  so : RolledBackSo x one.made.next two.made.next d1 d2 two.made.now
+  so : RolledBackSo x one.made.next two.made.next d1 d2 goes.now
   so = rolled_told x one.made.next two.made.next d1 d2 apart goes
 
   reaches : IsReached x one.made.next so.first × IsReached x two.made.next so.behind
-  reaches = both_reached x one.made.next two.made.now two.made.next so.first so.after so.behind so.rolled
+  reaches = both_reached x one.made.next goes.now two.made.next so.first so.after so.behind so.rolled
 
   names : d2.names ≡ d1.names
   names = names_back x one.made.next two.made.next d1 d2 goes
@@ -490,7 +477,7 @@ module _ (sizes : HaveSizes) (law : AreNumbered) {D : Type 0} (rises : (x : Setu
   chunk_same index (Some chunk) is =
       let found : found_chunk (fin.get so.first.durable.names.tree path) index ≡ Ok chunk = ap (λ (e : Durable). found_chunk (fin.get e.names.tree path) index) so.is_first ∙ found_there (fin.get d1.names.tree path) index chunk is in
       let listed : is_listed so.first.durable chunk ≡ true = listed_there sizes law x one.made.next so.first reaches.0 path index chunk found in
-      ap (text_of config.chunk) (settled_back x one.made.next two.made.now two.made.next so.first so.after so.behind chunk so.rolled listed).1
+      ap (text_of config.chunk) (settled_back x one.made.next goes.now two.made.next so.first so.after so.behind chunk so.rolled listed).1
 
   texts_same : text_at file_two ≡ text_at file_one
   texts_same = λ i. λ index. (ap (λ (n : NamesView). text_in (slice_get (chunks_at n path) index) text_of_two) names ∙ chunk_same index (slice_get (chunks_at d1.names path) index) refl) i

@@ -8,8 +8,8 @@ ghost use Rattle.std.specs.Prelude.{List, ℕ};
 use gs_block::promises::configurations_have_sizes;
 use gs_server_laws::a_message_edits_a_replica_by_what_it_says;
 use gs_world_chunks::{
-    a_rollback_gives_back_names_and_bytes, a_rollback_gives_back_what_was_settled, epochs_never_fall,
-    reads_are_legal,
+    a_rollback_gives_back_names_and_bytes, a_rollback_gives_back_what_was_settled,
+    epochs_never_fall, reads_are_legal,
 };
 
 /// A client has the answer to its commit of a prepare, and reads bytes of a file, or the digest of a block of it; later it has the answer to its commit of a rollback, in the next epoch, and reads the same of the file again. It gets the same bytes, whatever has happened
