@@ -23,7 +23,8 @@ use Rattle.gs_shell_listed.proofs.Lines.{Carries_at}
 use Rattle.gs_world_read.specs.Read.{Reading, reading_call}
 use Rattle.gs_shell_read.specs.Lines.{Asks, Bytes, Digest, answer_of, line_of, reading_of}
 
-abbrev Pairs : Type 0
+-- requests with their replies
+abbrev pub Pairs : Type 0
 Pairs = List (Request × Reply)
 
 never : {Z : Type 0} (refusal : Refusal) (answer : Answer) → ◌≡◌ {A = Result Answer Refusal} (Ok answer) (Err refusal) → Z

@@ -31,9 +31,7 @@ use Rattle.gs_world_laws.specs.Meeting.{IsClientOf}
 use Rattle.gs_world_laws.specs.Reached.{Covers, history}
 use Rattle.gs_world_read.specs.Read.{Bytes, Digest, Exchanged, Reading, reading_call}
 use Rattle.gs_shell_read.proofs.Clients.{still_mine}
-
-abbrev Pairs : Type 0
-Pairs = List (Request × Reply)
+use Rattle.gs_shell_read.proofs.Dialogues.{Pairs}
 
 -- ---- what a reader asks
 

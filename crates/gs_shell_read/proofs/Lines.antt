@@ -134,7 +134,7 @@ module _ {D : Type 0} (seen : D → List ℕ) (failures : D → ℕ) where
     abbrev start : History D
     start = reached.reached.begun
 
-    abbrev to_old : Ran seen failures start (history first.after (way_of one.mid.1))
+    to_old : Ran seen failures start (history first.after (way_of one.mid.1))
     to_old = then_ran seen failures start (history reached.sent (way_of r.begun.wire)) (history first.after (way_of one.mid.1))
         (record { steps = reached.reached.steps; runs = reached.reached.runs; within = reached.within }) (record { steps = first.steps; runs = first.runs; within = first.within })
 
