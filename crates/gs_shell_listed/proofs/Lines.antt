@@ -51,18 +51,18 @@ use Rattle.gs_shell_listed.proofs.Dialogues.{BeginsAndCommits, Lists, list_asks,
 use Rattle.gs_shell_listed.specs.Lines.{ListTheSame, ListTwice}
 
 -- a number below the last is one of 64 bits, and so is the next
-next_small : (number : ℕ) → number < last_number → IsNumber (number + 1)
+pub next_small : (number : ℕ) → number < last_number → IsNumber (number + 1)
 next_small number below = omega arith
 
-all_join : {A : Type 0} (S : A → Type 0) (xs ys : List A) → AllByRecursion S xs → AllByRecursion S ys → AllByRecursion S (xs ++ ys)
+pub all_join : {A : Type 0} (S : A → Type 0) (xs ys : List A) → AllByRecursion S xs → AllByRecursion S ys → AllByRecursion S (xs ++ ys)
 all_join S [] ys first second = second
 all_join S (x ∷ xs) ys first second = (first.0, all_join S xs ys first.1 second)
 
-abbrev the_client : ClientId
+abbrev pub the_client : ClientId
 the_client = record { 0 = 1 }
 
 -- there is one client, of this number
-only_one : (clients : List Node) → length clients ≡ 1 → (other : ClientId) (n : Node) → client_in clients other ≡ Some n → other ≡ the_client
+pub only_one : (clients : List Node) → length clients ≡ 1 → (other : ClientId) (n : Node) → client_in clients other ≡ Some n → other ≡ the_client
 only_one clients one other n there = (let is = by_test (other.0 == 0) refl there in (λ i. record { 0 = is i }))
   where
     in_one : (xs : List Node) (k : ℕ) → length xs ≡ 1 → slice_get xs k ≡ Some n → k ≡ 0
@@ -79,16 +79,16 @@ only_one clients one other n there = (let is = by_test (other.0 == 0) refl there
     by_test false is there = number other.0 is (in_one clients (other.0 - 1) one there)
 
 module _ {D : Type 0} (seen : D → List ℕ) (failures : D → ℕ) where
-  abbrev Carries_at : Client × Wire D → Request → Reply → Client × Wire D → Type 0
+  abbrev pub Carries_at : Client × Wire D → Request → Reply → Client × Wire D → Type 0
   Carries_at old request reply new = Asks (carried seen failures) old request reply new
 
   -- a request that is carried leads on, whatever is replied
-  leads_on : (old new : Client × Wire D) (request : Request) (reply : Reply) → MayBeAsked request → Carries_at old request reply new → Leads seen failures true (way_of old.1) (way_of new.1)
+  pub leads_on : (old new : Client × Wire D) (request : Request) (reply : Reply) → MayBeAsked request → Carries_at old request reply new → Leads seen failures true (way_of old.1) (way_of new.1)
   leads_on old new request reply may (inl (below, is, c)) = carries seen failures true (next_request old.0) request (way_of old.1) reply (way_of new.1) (next_small old.0.last.number below, may) c
   leads_on old new request reply may (inr (last, is, same)) = nothing seen failures true (way_of old.1) (way_of new.1) (ap (λ (s : Client × Wire D). way_of s.1) same)
 
   -- a call that is answered is carried
-  answered_on : (sent : Sent) (old new : Client × Wire D) (call : Call) (answer : Answer) → Covers sent (way_of old.1) → IsNumber old.1.moment.0 → MayBeAsked (requests.Call call) → Carries_at old (requests.Call call) (replies.Answer answer) new
+  pub answered_on : (sent : Sent) (old new : Client × Wire D) (call : Call) (answer : Answer) → Covers sent (way_of old.1) → IsNumber old.1.moment.0 → MayBeAsked (requests.Call call) → Carries_at old (requests.Call call) (replies.Answer answer) new
       → IsCarried seen failures (next_request old.0).client (way_of old.1) sent call answer (way_of new.1)
   answered_on sent old new call answer covers small may (inl (below, is, c)) = calls_are_carried seen failures sent (way_of old.1) (way_of new.1) (next_request old.0) call answer covers small (next_small old.0.last.number below, may) c
   answered_on sent old new call answer covers small may (inr (last, is, same)) = absurd cc
@@ -103,7 +103,7 @@ module _ {D : Type 0} (seen : D → List ℕ) (failures : D → ℕ) where
   one_leads old new line text (inl (is, same)) = nothing seen failures true (way_of old.wire) (way_of new.wire) (ap (λ (d : Desk D). way_of d.wire) same)
   one_leads old new line text (inr a) = whole_leads (nat_le (length (content line)) longest_line) old new (content line) text a
 
-  lines_lead : (input texts : List (List ℕ)) (old new : Desk D) → script.Runs (AnswersText seen failures) old input texts new → Leads seen failures true (way_of old.wire) (way_of new.wire)
+  pub lines_lead : (input texts : List (List ℕ)) (old new : Desk D) → script.Runs (AnswersText seen failures) old input texts new → Leads seen failures true (way_of old.wire) (way_of new.wire)
   lines_lead [] [] old new same = nothing seen failures true (way_of old.wire) (way_of new.wire) (ap (λ (d : Desk D). way_of d.wire) same)
   lines_lead (line ∷ input) (text ∷ texts) old new (mid, first, rest) = chain seen failures true (way_of old.wire) (way_of mid.wire) (way_of new.wire) (one_leads old mid line text first) (lines_lead input texts mid new rest)
   lines_lead [] (text ∷ texts) old new never = absurd never
@@ -114,11 +114,11 @@ module _ {D : Type 0} (seen : D → List ℕ) (failures : D → ℕ) where
   abbrev at : Desk D → Client × Wire D
   at d = (d.caller.client, d.wire)
 
-  prepares_asks : (old new : Desk D) (epoch : ℕ) → Comes seen failures (lines.RollingUpgrade upgrades.Prepare) old (Ok (answers.Number epoch)) new → BeginsAndCommits Carries_at (requests.Call calls.PrepareBegin) (requests.Call calls.PrepareCommit) (at old) epoch (at new)
+  pub prepares_asks : (old new : Desk D) (epoch : ℕ) → Comes seen failures (lines.RollingUpgrade upgrades.Prepare) old (Ok (answers.Number epoch)) new → BeginsAndCommits Carries_at (requests.Call calls.PrepareBegin) (requests.Call calls.PrepareCommit) (at old) epoch (at new)
   unfolding Comes
   prepares_asks old new epoch c = prepare_asks Carries_at (at old) (at new) epoch c
 
-  rolls_asks : (old new : Desk D) (epoch : ℕ) → Comes seen failures (lines.RollingUpgrade upgrades.Rollback) old (Ok (answers.Number epoch)) new → BeginsAndCommits Carries_at (requests.Call calls.RollbackBegin) (requests.Call calls.RollbackCommit) (at old) epoch (at new)
+  pub rolls_asks : (old new : Desk D) (epoch : ℕ) → Comes seen failures (lines.RollingUpgrade upgrades.Rollback) old (Ok (answers.Number epoch)) new → BeginsAndCommits Carries_at (requests.Call calls.RollbackBegin) (requests.Call calls.RollbackCommit) (at old) epoch (at new)
   unfolding Comes
   rolls_asks old new epoch c = rollback_asks Carries_at (at old) (at new) epoch c
 

@@ -27,14 +27,14 @@ use Rattle.gs_shell_listed.specs.Lines.{ListTheSame}
 use Rattle.gs_shell_listed.specs.Scripts.{AreListedTwice, AsksFor, IsAccepted, ScriptsListTheSame}
 
 module _ {D : Type 0} (seen : D → List ℕ) (failures : D → ℕ) where
-  abbrev Lines_run : Desk D → List (List ℕ) → List (List ℕ) → Desk D → Type 0
+  abbrev pub Lines_run : Desk D → List (List ℕ) → List (List ℕ) → Desk D → Type 0
   Lines_run old all texts new = script.Runs (AnswersText seen failures) old all texts new
 
-  abbrev Line_answered : Desk D → List ℕ → List ℕ → Desk D → Type 0
+  abbrev pub Line_answered : Desk D → List ℕ → List ℕ → Desk D → Type 0
   Line_answered old line text new = script.AnswersLine (AnswersText seen failures) old line text new
 
   -- lines before some others
-  split : (first : List (List ℕ)) (texts : List (List ℕ)) (rest more : List (List ℕ)) (old new : Desk D) → length texts ≡ length first → Lines_run old (first ++ rest) (texts ++ more) new → (mid : Desk D) × Lines_run old first texts mid × Lines_run mid rest more new
+  pub split : (first : List (List ℕ)) (texts : List (List ℕ)) (rest more : List (List ℕ)) (old new : Desk D) → length texts ≡ length first → Lines_run old (first ++ rest) (texts ++ more) new → (mid : Desk D) × Lines_run old first texts mid × Lines_run mid rest more new
   split [] [] rest more old new long runs = (old, refl, runs)
   split (line ∷ first) (text ∷ texts) rest more old new long (mid, one, runs) = (let found = split first texts rest more mid new (shorter (length texts) (length first) long) runs in (found.0, (mid, one, found.1), found.2))
     where
@@ -45,10 +45,10 @@ module _ {D : Type 0} (seen : D → List ℕ) (failures : D → ℕ) where
 
   -- ---- a line that is accepted
 
-  record Came (request : Request) (text : List ℕ) (old new : Desk D) : Type 0 where
-    answer : Result Answer Refusal
-    comes : Comes seen failures request old answer new
-    told : IsText answer text
+  pub record Came (request : Request) (text : List ℕ) (old new : Desk D) : Type 0 where
+    pub answer : Result Answer Refusal
+    pub comes : Comes seen failures request old answer new
+    pub told : IsText answer text
 
   asked_came : (request : Request) (o : Option Request) → o ≡ Some request → (text : List ℕ) (old new : Desk D) → IsAccepted text
       → MatchOption o (IsText (Err refusals.BadLine) text × (new ≡ old)) (λ request. (answer : Result Answer Refusal) × Comes seen failures request old answer new × IsText answer text) → Came request text old new
@@ -67,25 +67,25 @@ module _ {D : Type 0} (seen : D → List ℕ) (failures : D → ℕ) where
   short_came true request line text old new asks accepted a = text_came request line text old new asks accepted a
   short_came false request line text old new asks accepted (bad, same) = refused_never refusals.BadLine text bad accepted
 
-  came : (request : Request) (line text : List ℕ) (old new : Desk D) → AsksFor request line → IsAccepted text → Line_answered old line text new → Came request text old new
+  pub came : (request : Request) (line text : List ℕ) (old new : Desk D) → AsksFor request line → IsAccepted text → Line_answered old line text new → Came request text old new
   came request line text old new asks accepted (inl (memory, same)) = refused_never refusals.Memory text memory accepted
   came request line text old new asks accepted (inr a) = short_came (nat_le (length (content line)) longest_line) request (content line) text old new asks accepted a
 
   -- ---- which answer it is
 
-  record Epoch_at (request : Request) (epoch : ℕ) (old new : Desk D) : Type 0 where
-    number : ℕ
-    comes : Comes seen failures request old (Ok (answers.Number number)) new
-    digits : decimal number ≡ decimal epoch
+  pub record Epoch_at (request : Request) (epoch : ℕ) (old new : Desk D) : Type 0 where
+    pub number : ℕ
+    pub comes : Comes seen failures request old (Ok (answers.Number number)) new
+    pub digits : decimal number ≡ decimal epoch
 
-  prepared : (line : List ℕ) (epoch : ℕ) (old new : Desk D) → AsksFor (lines.RollingUpgrade upgrades.Prepare) line → Line_answered old line (codes "ok " ++ decimal epoch) new → Epoch_at (lines.RollingUpgrade upgrades.Prepare) epoch old new
+  pub prepared : (line : List ℕ) (epoch : ℕ) (old new : Desk D) → AsksFor (lines.RollingUpgrade upgrades.Prepare) line → Line_answered old line (codes "ok " ++ decimal epoch) new → Epoch_at (lines.RollingUpgrade upgrades.Prepare) epoch old new
   unfolding Comes
   prepared line epoch old new asks a =
       let c = came (lines.RollingUpgrade upgrades.Prepare) line (codes "ok " ++ decimal epoch) old new asks refl a in
       let found = number_told c.answer (codes "ok " ++ decimal epoch) epoch (prepare_comes (Asks (carried seen failures)) (old.caller.client, old.wire) (new.caller.client, new.wire) c.answer c.comes) c.told refl in
       record { number = found.0; comes = subst (λ r. Comes seen failures (lines.RollingUpgrade upgrades.Prepare) old r new) found.1 c.comes; digits = found.2 }
 
-  rolled : (line : List ℕ) (epoch : ℕ) (old new : Desk D) → AsksFor (lines.RollingUpgrade upgrades.Rollback) line → Line_answered old line (codes "ok " ++ decimal epoch) new → Epoch_at (lines.RollingUpgrade upgrades.Rollback) epoch old new
+  pub rolled : (line : List ℕ) (epoch : ℕ) (old new : Desk D) → AsksFor (lines.RollingUpgrade upgrades.Rollback) line → Line_answered old line (codes "ok " ++ decimal epoch) new → Epoch_at (lines.RollingUpgrade upgrades.Rollback) epoch old new
   unfolding Comes
   rolled line epoch old new asks a =
       let c = came (lines.RollingUpgrade upgrades.Rollback) line (codes "ok " ++ decimal epoch) old new asks refl a in
@@ -115,7 +115,7 @@ module _ {D : Type 0} (seen : D → List ℕ) (failures : D → ℕ) where
     line_reached old new line text (inl (memory, same)) r = subst (λ d. IsReachedWithin seen failures config disks d) (sym same) r
     line_reached old new line text (inr a) r = one_reached (nat_le (length (content line)) longest_line) old new (content line) text a r
 
-    reached : (all texts : List (List ℕ)) (old new : Desk D) → Lines_run old all texts new → IsReachedWithin seen failures config disks old → IsReachedWithin seen failures config disks new
+    pub reached : (all texts : List (List ℕ)) (old new : Desk D) → Lines_run old all texts new → IsReachedWithin seen failures config disks old → IsReachedWithin seen failures config disks new
     reached [] [] old new same r = subst (λ d. IsReachedWithin seen failures config disks d) (sym same) r
     reached (line ∷ all) (text ∷ texts) old new (mid, one, rest) r = reached all texts mid new rest (line_reached old mid line text one r)
     reached [] (text ∷ texts) old new never r = absurd never

@@ -5,7 +5,6 @@ use Rattle.gs_base.specs.declared.config.Config.{Config}
 use Rattle.gs_base.specs.declared.numbers.ClientId.{ClientId}
 use Rattle.gs_block.specs.Written.{TellsApart}
 use Rattle.gs_journal.specs.Records.{fresh, standing}
-use Rattle.gs_nodes.specs.Nodes.{Nodes}
 use Rattle.gs_path.specs.Path.{Path}
 use Rattle.gs_shell_calls.specs.declared.answer.Answer.{Answer}
 use Rattle.gs_shell_calls.specs.declared.answer.Answer.TheVariants as answers

@@ -1,5 +1,6 @@
 -- What a script reads of a file right behind a prepare, and right behind its rollback.
-use Rattle.std.specs.Prelude.{[], ◌+◌, ◌++◌, ◌∷◌, ◌≡◌, Bool, List, Option, Some, codes, decimal, length, refl, true, ℕ}
+use Rattle.std.proofs.Common.{arith}
+use Rattle.std.specs.Prelude.{[], ◌+◌, ◌++◌, ◌∷◌, ◌≡◌, Bool, List, Option, codes, decimal, length, refl, true, ℕ}
 use Rattle.std.specs.Char.{encode_utf8}
 use Rattle.std.specs.Fmt.{digits}
 use Rattle.std.specs.Str.{chars, is_utf8}
@@ -10,7 +11,7 @@ use Rattle.gs_block.specs.Written.{TellsApart}
 use Rattle.gs_journal.specs.Records.{fresh, standing}
 use Rattle.gs_path.specs.Path.{Path}
 use Rattle.gs_shell.specs.Serving.{Serves}
-use Rattle.gs_shell_calls.specs.Texts.{answer_text}
+use Rattle.gs_shell_grammar.specs.Grammar.{four_words, read_line, two_words, upgrade_line}
 use Rattle.gs_shell_grammar.specs.Grammar as lines
 use Rattle.gs_shell_grammar.specs.declared.command.Upgrade.TheVariants as upgrades
 use Rattle.gs_shell_listed.specs.Scripts.{AsksFor, IsAccepted}
@@ -64,3 +65,36 @@ ScriptsReadTheSame D = (seen : D → List ℕ) (failures : D → ℕ) (config : 
 
 abbrev some_lines : List (List ℕ)
 some_lines = (codes "rollingUpgrade prepare" ++ 10 ∷ []) ∷ (codes "read /f 0 4" ++ 10 ∷ []) ∷ (codes "rollingUpgrade rollback" ++ 10 ∷ []) ∷ (codes "read /f 0 4" ++ 10 ∷ []) ∷ []
+
+abbrev some_texts : List ℕ → List ℕ → List (List ℕ)
+some_texts had has = codes "ok 1" ∷ had ∷ codes "ok 2" ∷ has ∷ []
+
+they_are_lines : lines_of (codes "rollingUpgrade prepare" ++ 10 ∷ codes "read /f 0 4" ++ 10 ∷ codes "rollingUpgrade rollback" ++ 10 ∷ codes "read /f 0 4" ++ 10 ∷ []) ≡ some_lines
+they_are_lines = refl
+
+-- so it is asked that both texts are the same
+it_is_such_a_script : (had has : List ℕ) → IsAccepted had → IsAccepted has → AreReadTwice some_lines (some_texts had has) (codes "/f") (Bytes 0 4) 1 had has
+unfolding two_words four_words read_line upgrade_line is_utf8 chars encode_utf8 digits
+it_is_such_a_script had has was is = record {
+  before = [];
+  prepare = codes "rollingUpgrade prepare" ++ 10 ∷ [];
+  read = codes "read /f 0 4" ++ 10 ∷ [];
+  between = [];
+  rollback = codes "rollingUpgrade rollback" ++ 10 ∷ [];
+  again = codes "read /f 0 4" ++ 10 ∷ [];
+  behind = [];
+  lines_are = refl;
+  texts_before = [];
+  texts_between = [];
+  texts_behind = [];
+  texts_are = refl;
+  small = omega arith;
+  long_before = refl;
+  long_between = refl;
+  prepares = refl;
+  reads = refl;
+  rolls = refl;
+  repeats = refl;
+  was = was;
+  is = is;
+}

@@ -6,6 +6,7 @@ ghost use Rattle.gs_shell_read.specs.Lines.{ReadTheSame};
 ghost use Rattle.gs_shell_read.specs.Scripts.{ScriptsReadTheSame};
 ghost use Rattle.std.specs.Prelude.{List, ℕ};
 
+use gs_client_plain::readers_ask_under_locations_that_they_were_told;
 use gs_world_listed::epochs_that_are_answered_are_numbers;
 use gs_world_read::what_is_read_behind_a_rollback_is_what_was_read_behind_its_prepare;
 
@@ -14,6 +15,7 @@ use gs_world_read::what_is_read_behind_a_rollback_is_what_was_read_behind_its_pr
 pub fn what_is_read_twice_by_lines_is_the_same<D>()
     ensures { (seen : D → List ℕ) (failures : D → ℕ) (config : Config) (disks : D × D) → ReadTheSame seen failures config disks }
 {
+    readers_ask_under_locations_that_they_were_told();
     epochs_that_are_answered_are_numbers::<D>();
     what_is_read_behind_a_rollback_is_what_was_read_behind_its_prepare::<D>();
 }
@@ -24,6 +26,7 @@ pub fn what_is_read_twice_by_lines_is_the_same<D>()
 pub fn what_a_script_reads_behind_a_rollback_is_what_it_read_behind_its_prepare<D>()
     ensures { ScriptsReadTheSame D }
 {
+    readers_ask_under_locations_that_they_were_told();
     epochs_that_are_answered_are_numbers::<D>();
     what_is_read_behind_a_rollback_is_what_was_read_behind_its_prepare::<D>();
 }

@@ -1,0 +1,9 @@
+use Rattle.gs_shell_read.proofs.Lines.{read_the_same}
+use Rattle.gs_shell_read.proofs.Scripts.{scripts_read_the_same}
+use Rattle.gs_shell_read.proofs.what_a_script_reads_behind_a_rollback_is_what_it_read_behind_its_prepare.Goals as goal
+
+pub returns : goal.returns
+returns g c =
+    scripts_read_the_same
+    (read_the_same c.readers_ask_under_locations_that_they_were_told.ensures.read c.readers_ask_under_locations_that_they_were_told.ensures.digest c.epochs_that_are_answered_are_numbers.ensures
+    c.what_is_read_behind_a_rollback_is_what_was_read_behind_its_prepare.ensures)
