@@ -203,11 +203,11 @@ module _ {D : Type 0} (seen : D → List ℕ) (failures : D → ℕ) where
       };
     }
 
-    pub are_the_same : EpochsAreNumbers seen failures config 1 disks → ReadsComeBack seen failures config 1 disks → AreTheSame seen failures config disks asks had has r.last
+    pub are_the_same : EpochsAreNumbers seen failures config 1 disks → ReadsComeBack seen failures config 1 disks → AreTheSame seen failures config disks text asks epoch had has r.last
     are_the_same numbers law = record {
       client = the_client;
       path = read_one.path;
-      epoch = epoch;
+      parsed = read_one.parsed;
       run = twice numbers;
       ends = refl;
       same = λ among none apart all. law the_client read_one.path reading epoch had has (twice numbers) among none apart all;

@@ -92,25 +92,31 @@ module _ {D : Type 0} (seen : D → List ℕ) (failures : D → ℕ) where
     lower k small = omega arith
 
     -- both texts tell what was read
-    texts_so : (one two : List ℕ) (last : Desk D) → had ≡ answer_text (Ok (answer_of asks one)) → has ≡ answer_text (Ok (answer_of asks two)) → AreTheSame seen failures config disks asks one two last → TextsAreTheSame seen failures config disks asks had has
-    texts_so one two last was is a = record {
+    texts_so : (number : ℕ) (one two : List ℕ) (last : Desk D) → Lines_run seen failures last q.behind q.texts_behind ended → had ≡ answer_text (Ok (answer_of asks one)) → has ≡ answer_text (Ok (answer_of asks two)) → AreTheSame seen failures config disks path asks number one two last → TextsAreTheSame seen failures config disks path asks had has q.behind q.texts_behind ended
+    texts_so number one two last rest was is a = record {
       client = a.client;
       path = a.path;
-      epoch = a.epoch;
+      parsed = a.parsed;
+      epoch = number;
       first = one;
+      was = was;
       second = two;
+      is = is;
+      last = last;
+      rest = rest;
       run = a.run;
+      ends = a.ends;
       same = λ among none apart blocks. is ∙ ap (λ (bytes : List ℕ). answer_text (Ok (answer_of asks bytes))) (a.same among none apart blocks) ∙ sym was;
     }
 
     by_second : (start mid read_at later : Desk D) → IsReachedWithin seen failures config disks start → IsClientOf config start.caller.client → Line_answered seen failures start q.prepare (codes "ok " ++ decimal epoch) mid → Line_answered seen failures mid q.read had read_at
-        → Lines_run seen failures read_at q.between q.texts_between later → Lines_run seen failures later (q.rollback ∷ q.again ∷ q.behind) ((codes "ok " ++ decimal (epoch + 1)) ∷ has ∷ q.texts_behind) ended → TextsAreTheSame seen failures config disks asks had has
+        → Lines_run seen failures read_at q.between q.texts_between later → Lines_run seen failures later (q.rollback ∷ q.again ∷ q.behind) ((codes "ok " ++ decimal (epoch + 1)) ∷ has ∷ q.texts_behind) ended → TextsAreTheSame seen failures config disks path asks had has q.behind q.texts_behind ended
     by_second start mid read_at later reached_there mine a b lines_between (back, c, (last, e, rest)) =
         let one = was_read path asks q.read had mid read_at q.reads q.was b in
         let two = was_read path asks q.again has back last q.repeats q.is e in
         let first = prepared seen failures q.prepare epoch start mid q.prepares a in
         let next = rolled seen failures q.rollback (epoch + 1) later back q.rolls c in
-        texts_so one.bytes two.bytes last one.is two.is
+        texts_so first.number one.bytes two.bytes last rest one.is two.is
         (law path asks first.number next.number one.bytes two.bytes (record {
           new = new;
           follows = λ small high. same_numbers next.number (epoch + 1) high q.small next.digits ∙ ap (λ k. k + 1) (sym (same_numbers first.number epoch small (lower epoch q.small) first.digits));
@@ -132,12 +138,12 @@ module _ {D : Type 0} (seen : D → List ℕ) (failures : D → ℕ) where
         }))
 
     by_first : (start : Desk D) → IsReachedWithin seen failures config disks start → IsClientOf config start.caller.client
-        → Lines_run seen failures start (q.prepare ∷ q.read ∷ (q.between ++ q.rollback ∷ q.again ∷ q.behind)) ((codes "ok " ++ decimal epoch) ∷ had ∷ (q.texts_between ++ (codes "ok " ++ decimal (epoch + 1)) ∷ has ∷ q.texts_behind)) ended → TextsAreTheSame seen failures config disks asks had has
+        → Lines_run seen failures start (q.prepare ∷ q.read ∷ (q.between ++ q.rollback ∷ q.again ∷ q.behind)) ((codes "ok " ++ decimal epoch) ∷ had ∷ (q.texts_between ++ (codes "ok " ++ decimal (epoch + 1)) ∷ has ∷ q.texts_behind)) ended → TextsAreTheSame seen failures config disks path asks had has q.behind q.texts_behind ended
     by_first start reached_there mine (mid, a, (read_at, b, rest)) =
         let second = split seen failures q.between q.texts_between (q.rollback ∷ q.again ∷ q.behind) ((codes "ok " ++ decimal (epoch + 1)) ∷ has ∷ q.texts_behind) read_at ended q.long_between rest in
         by_second start mid read_at second.0 reached_there mine a b second.1 second.2
 
-    same_texts : (begun : Desk D) → IsReachedWithin seen failures config disks begun → IsClientOf config begun.caller.client → Lines_run seen failures begun all texts ended → TextsAreTheSame seen failures config disks asks had has
+    same_texts : (begun : Desk D) → IsReachedWithin seen failures config disks begun → IsClientOf config begun.caller.client → Lines_run seen failures begun all texts ended → TextsAreTheSame seen failures config disks path asks had has q.behind q.texts_behind ended
     same_texts begun reached_there mine runs =
         let lined = subst (λ ls. Lines_run seen failures begun ls texts ended) q.lines_are runs in
         let told = subst (λ ts. Lines_run seen failures begun (q.before ++ q.prepare ∷ q.read ∷ (q.between ++ q.rollback ∷ q.again ∷ q.behind)) ts ended) q.texts_are lined in

@@ -6,6 +6,7 @@ use Rattle.gs_base.specs.declared.numbers.ClientId.{ClientId}
 use Rattle.gs_block.specs.Written.{TellsApart}
 use Rattle.gs_journal.specs.Records.{fresh, standing}
 use Rattle.gs_path.specs.Path.{Path}
+use Rattle.gs_path.specs.Rules.{parse_hidden}
 use Rattle.gs_shell_calls.specs.declared.answer.Answer.{Answer}
 use Rattle.gs_shell_calls.specs.declared.answer.Answer.TheVariants as answers
 use Rattle.gs_shell_desk.specs.Answering.{AnswersText}
@@ -61,11 +62,12 @@ module _ {D : Type 0} (seen : D → List ℕ) (failures : D → ℕ) (config : C
     pub last : Desk D
     pub again : Comes seen failures (line_of path asks) back (Ok (answer_of asks has)) last
 
-  -- So it goes in a run of a store that has begun over these disks, and ends as this desk has left it. Where different blocks that its servers may have on its steps have different digests, both answers are the same.
-  pub record AreTheSame (asks : Asks) (had has : List ℕ) (last : Desk D) : Type 0 where
+  -- So it goes in a run of a store that has begun over these disks, and ends as this desk has left it: at the path that the line names, in that epoch, it reads what was answered. Where different blocks that its servers may have on its steps have different digests, both
+  -- answers are the same.
+  pub record AreTheSame (text : List ℕ) (asks : Asks) (epoch : ℕ) (had has : List ℕ) (last : Desk D) : Type 0 where
     pub client : ClientId
     pub path : Path
-    pub epoch : ℕ
+    pub parsed : parse_hidden text ≡ Ok path
     pub run : ReadsTwice seen failures config 1 disks client path (reading_of config.chunk asks) epoch had has
     pub ends : run.last.nodes ≡ (way_of last.wire).nodes
     pub same : (among : List ℕ → Bool) → among [] ≡ true → TellsApart among → AreAmongAnyhow seen failures among (all_steps seen failures config 1 disks client path (reading_of config.chunk asks) epoch had has run) run.begun → has ≡ had
@@ -73,7 +75,7 @@ module _ {D : Type 0} (seen : D → List ℕ) (failures : D → ℕ) (config : C
   -- ---- what is to hold
 
   abbrev pub ReadTheSame : Type 0
-  ReadTheSame = (path : List ℕ) (asks : Asks) (epoch next : ℕ) (had has : List ℕ) (r : ReadTwice path asks epoch next had has) → AreTheSame asks had has r.last
+  ReadTheSame = (path : List ℕ) (asks : Asks) (epoch next : ℕ) (had has : List ℕ) (r : ReadTwice path asks epoch next had has) → AreTheSame path asks epoch had has r.last
 
 -- ---- Worked
 a_line_reads : line_of (codes "/f") (Bytes 3 10) ≡ lines.Read (codes "/f") 3 10

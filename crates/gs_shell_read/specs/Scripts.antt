@@ -1,6 +1,6 @@
 -- What a script reads of a file right behind a prepare, and right behind its rollback.
 use Rattle.std.proofs.Common.{arith}
-use Rattle.std.specs.Prelude.{[], ◌+◌, ◌++◌, ◌∷◌, ◌≡◌, Bool, List, Option, codes, decimal, length, refl, true, ℕ}
+use Rattle.std.specs.Prelude.{[], ◌+◌, ◌++◌, ◌∷◌, ◌≡◌, Bool, List, Ok, Option, codes, decimal, length, refl, true, ℕ}
 use Rattle.std.specs.Char.{encode_utf8}
 use Rattle.std.specs.Fmt.{digits}
 use Rattle.std.specs.Str.{chars, is_utf8}
@@ -10,13 +10,18 @@ use Rattle.gs_base.specs.declared.numbers.ClientId.{ClientId}
 use Rattle.gs_block.specs.Written.{TellsApart}
 use Rattle.gs_journal.specs.Records.{fresh, standing}
 use Rattle.gs_path.specs.Path.{Path}
+use Rattle.gs_path.specs.Rules.{parse_hidden}
 use Rattle.gs_shell.specs.Serving.{Serves}
+use Rattle.gs_shell_calls.specs.Texts.{answer_text}
+use Rattle.gs_shell_desk.specs.Answering.{AnswersText}
+use Rattle.gs_shell_desk.specs.Ways.{way_of}
+use Rattle.gs_shell_desk.specs.declared.desk.Desk.{Desk}
 use Rattle.gs_shell_grammar.specs.Grammar.{four_words, read_line, two_words, upgrade_line}
 use Rattle.gs_shell_grammar.specs.Grammar as lines
 use Rattle.gs_shell_grammar.specs.declared.command.Upgrade.TheVariants as upgrades
 use Rattle.gs_shell_listed.specs.Scripts.{AsksFor, IsAccepted}
-use Rattle.gs_shell_read.specs.Lines.{Asks, Bytes, line_of, reading_of}
-use Rattle.gs_shell_script.specs.Run.{lines_of}
+use Rattle.gs_shell_read.specs.Lines.{Asks, answer_of, Bytes, line_of, reading_of}
+use Rattle.gs_shell_script.specs.Run.{Runs, lines_of}
 use Rattle.gs_world_read.specs.Read.{AreAmongAnyhow, ReadsTwice, all_steps}
 
 -- Of the lines of a script, and of their answers: `rollingUpgrade prepare` is answered by an epoch, and right behind it something is read of a file, and accepted. Behind any lines `rollingUpgrade rollback` is answered by the next epoch, and right behind it the same is read, and accepted.
@@ -44,14 +49,21 @@ pub record AreReadTwice (all texts : List (List ℕ)) (path : List ℕ) (asks : 
   pub is : IsAccepted has
 
 module _ {D : Type 0} (seen : D → List ℕ) (failures : D → ℕ) (config : Config) (disks : D × D) where
-  -- So it goes in a run of a store that has begun over these disks: it reads twice what these texts tell. Where different blocks that its servers may have on its steps have different digests, both texts are the same.
-  pub record TextsAreTheSame (asks : Asks) (had has : List ℕ) : Type 0 where
+  -- So it goes in a run of a store that has begun over these disks, and that ends as the desk has left it which these lines have led to the end of the script: at the path that the lines name it reads twice what these texts tell. Where different blocks that its servers
+  -- may have on its steps have different digests, both texts are the same.
+  pub record TextsAreTheSame (text : List ℕ) (asks : Asks) (had has : List ℕ) (behind texts_behind : List (List ℕ)) (ended : Desk D) : Type 0 where
     pub client : ClientId
     pub path : Path
+    pub parsed : parse_hidden text ≡ Ok path
     pub epoch : ℕ
     pub first : List ℕ
+    pub was : had ≡ answer_text (Ok (answer_of asks first))
     pub second : List ℕ
+    pub is : has ≡ answer_text (Ok (answer_of asks second))
+    pub last : Desk D
+    pub rest : Runs (AnswersText seen failures) last behind texts_behind ended
     pub run : ReadsTwice seen failures config 1 disks client path (reading_of config.chunk asks) epoch first second
+    pub ends : run.last.nodes ≡ (way_of last.wire).nodes
     pub same : (among : List ℕ → Bool) → among [] ≡ true → TellsApart among → AreAmongAnyhow seen failures among (all_steps seen failures config 1 disks client path (reading_of config.chunk asks) epoch first second run) run.begun → has ≡ had
 
 -- ---- what is to hold
@@ -59,7 +71,7 @@ module _ {D : Type 0} (seen : D → List ℕ) (failures : D → ℕ) (config : C
 -- So it is of every script over disks that said nothing: whatever lines come before, between and behind, lines that damage blocks among them, and whatever disks fail.
 abbrev pub ScriptsReadTheSame : Type 0 → Type 0
 ScriptsReadTheSame D = (seen : D → List ℕ) (failures : D → ℕ) (config : Config) (disks : D × D) (input : List ℕ) (old new : Option (List ℕ)) (s : Serves seen failures config disks input old new) → standing (seen disks.0) (seen disks.1) ≡ fresh →
-    (path : List ℕ) (asks : Asks) (epoch : ℕ) (had has : List ℕ) → AreReadTwice (lines_of input) s.writes.texts path asks epoch had has → TextsAreTheSame seen failures config disks asks had has
+    (path : List ℕ) (asks : Asks) (epoch : ℕ) (had has : List ℕ) (q : AreReadTwice (lines_of input) s.writes.texts path asks epoch had has) → TextsAreTheSame seen failures config disks path asks had has q.behind q.texts_behind s.ended
 
 -- ---- examples: a script of four lines that is answered so
 
