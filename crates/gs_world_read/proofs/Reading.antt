@@ -66,10 +66,6 @@ part_is size bytes (asks.Bytes offset many) = refl
 part_is size bytes asks.Length = refl
 part_is size bytes (asks.Digest block) = refl
 
--- what a look says of itself goes into steps that are told apart otherwise
-parts_all : {A : Type 0} (S : A → Type 0) (xs ys : List A) → xs ≡ ys → AllByRecursion S xs → AllByRecursion S ys
-parts_all S xs ys is all = subst (AllByRecursion S) is all
-
 module _ {D : Type 0} (seen : D → List ℕ) (failures : D → ℕ) (stays : StaysHalted seen failures unarmed) (looked : AnswersAreByNames seen failures unarmed) (config : Config) (clients : ℕ) (disks : D × D) (among : List ℕ → Bool)
     (given_parts : PartsAreGiven (store_of seen failures config clients disks among)) (of_unled : ReadsAreOfUnled (store_of seen failures config clients disks among)) (given : IsGiven (store_of seen failures config clients disks among)) where
   abbrev x : Setup D

@@ -1,6 +1,6 @@
 -- What a client reads of a file behind a prepare, and behind its rollback.
 use Rattle.std.specs.Prelude.{[], ◌+◌, ◌++◌, ◌<◌, ◌∷◌, ◌≡◌, Bool, List, Ok, Option, true, ℕ}
-use Rattle.std.proofs.Common.{◌^◌}
+use Rattle.std.proofs.Common.{◌^◌, subst, sym}
 use Rattle.std.specs.List.{AllByRecursion}
 use Rattle.gs_base.specs.declared.config.Config.{Config}
 use Rattle.gs_base.specs.declared.numbers.ClientId.{ClientId}
@@ -70,7 +70,7 @@ module _ {D : Type 0} (seen : D → List ℕ) (failures : D → ℕ) where
   steps_in client [] old new is = []
   steps_in client (pair ∷ pairs) old new (mid, next, went, looks, rest) = steps_of client old pair.0 pair.1 mid went ++ (looks.steps ++ steps_in client pairs next new rest)
 
-  -- Whatever these steps may come to, as far as they have come the blocks that servers have are among some: also where memory is wanting, or a disk fails, and it is not in the run that is spoken of.
+  -- Whatever these steps may come to, as far as they have come the blocks that servers have are among some: also in worlds that the run spoken of doesn't pass, since memory is wanting there, or a disk fails, where it wasn't in that run, or the other way round.
   abbrev pub AreAmongAnyhow : (List ℕ → Bool) → List Step → History D → Type 0
   AreAmongAnyhow among steps old = (front behind : List Step) (now : History D) → steps ≡ front ++ behind → RunsTo seen failures unarmed front old now → AreAmong among now.nodes
 
@@ -117,3 +117,9 @@ module _ {D : Type 0} (seen : D → List ℕ) (failures : D → ℕ) where
     -- Then it reads the same, where different blocks that its servers may have on the way have different digests: the rollback is of that prepare, whatever has come between, and whatever disks fail.
     abbrev pub ReadsComeBack : Type 0
     ReadsComeBack = (client : ClientId) (path : Path) (reading : Reading) (epoch : ℕ) (had has : List ℕ) (r : ReadsTwice client path reading epoch had has) (among : List ℕ → Bool) → among [] ≡ true → TellsApart among → AreAmongAnyhow among (all_steps client path reading epoch had has r) r.begun → has ≡ had
+
+-- ---- an example: where no step is made, the blocks are those that are there
+
+no_step_is_made : {D : Type 0} (seen : D → List ℕ) (failures : D → ℕ) (among : List ℕ → Bool) (old : History D) → AreAmong among old.nodes → AreAmongAnyhow seen failures among [] old
+no_step_is_made seen failures among old here [] behind now is runs = subst (λ (h : History D). AreAmong among h.nodes) (sym runs) here
+no_step_is_made seen failures among old here (step ∷ front) behind now is runs = absurd cc
