@@ -13,6 +13,7 @@ use Rattle.gs_shell_calls.specs.declared.answer.Answer.{Answer}
 use Rattle.gs_shell_calls.specs.declared.answer.Answer.TheVariants as answers
 use Rattle.gs_shell_desk.specs.Answering.{AnswersText, IsText}
 use Rattle.gs_shell_desk.specs.Lines.{Comes, carried}
+use Rattle.gs_shell_desk.specs.Starting.{Starts}
 use Rattle.gs_shell_desk.specs.declared.desk.Desk.{Desk}
 use Rattle.gs_shell_grammar.specs.Grammar.{Request, line_request}
 use Rattle.gs_shell_grammar.specs.Grammar as lines
@@ -24,7 +25,8 @@ use Rattle.gs_world_laws.proofs.Lines.{line_reaches, start_reaches}
 use Rattle.gs_world_laws.specs.Within.{IsReachedWithin}
 use Rattle.gs_shell_listed.proofs.Texts.{list_comes, names_told, number_told, prepare_comes, refused_never, rollback_comes, same_numbers}
 use Rattle.gs_shell_listed.specs.Lines.{ListTheSame}
-use Rattle.gs_shell_listed.specs.Scripts.{AreListedTwice, AsksFor, IsAccepted, ScriptsListTheSame}
+use Rattle.gs_shell_listed.specs.Scripts.{AreListedTwice, AsksFor, IsAccepted, ListTheSameUntilAReadFails, ListTheSameUntilAWriteFails, ScriptsListTheSame}
+use Rattle.gs_shell_listed.specs.Scripts as scripts
 
 module _ {D : Type 0} (seen : D → List ℕ) (failures : D → ℕ) where
   abbrev pub Lines_run : Desk D → List (List ℕ) → List (List ℕ) → Desk D → Type 0
@@ -42,6 +44,13 @@ module _ {D : Type 0} (seen : D → List ℕ) (failures : D → ℕ) where
       shorter m n is = cc
   split [] (text ∷ texts) rest more old new long runs = absurd cc
   split (line ∷ first) [] rest more old new long runs = absurd cc
+
+  -- one more line behind some others
+  pub one_more : (all texts : List (List ℕ)) (line text : List ℕ) (old mid new : Desk D) → Lines_run old all texts mid → Line_answered mid line text new → Lines_run old (all ++ line ∷ []) (texts ++ text ∷ []) new
+  one_more [] [] line text old mid new same a = (new, subst (λ d. Line_answered d line text new) same a, refl)
+  one_more (first ∷ all) (said ∷ texts) line text old mid new (next, one, rest) a = (next, one, one_more all texts line text next mid new rest a)
+  one_more [] (said ∷ texts) line text old mid new never a = absurd never
+  one_more (first ∷ all) [] line text old mid new never a = absurd never
 
   -- ---- a line that is accepted
 
@@ -166,6 +175,24 @@ module _ {D : Type 0} (seen : D → List ℕ) (failures : D → ℕ) where
         by_first start reached_there (mid, a, (listed_at, b, rest)) =
             let second = split q.between q.texts_between (q.rollback ∷ q.again ∷ q.behind) ((codes "ok " ++ decimal (epoch + 1)) ∷ has ∷ q.texts_behind) listed_at ended q.long_between rest in by_second start mid listed_at second.0 reached_there a b second.1 second.2
 
-pub scripts_list_the_same : {D : Type 0} → ((seen : D → List ℕ) (failures : D → ℕ) (config : Config) (disks : D × D) → ListTheSame seen failures config disks) → ScriptsListTheSame D
-scripts_list_the_same law seen failures config disks input old new s standing_new path epoch had has q =
-    same_texts seen failures config disks (law seen failures config disks) standing_new s.begun s.ended (start_reaches seen failures config disks s.begun s.starts) (lines_of input) s.writes.texts path epoch had has q s.writes.runs
+module _ {D : Type 0} (law : (seen : D → List ℕ) (failures : D → ℕ) (config : Config) (disks : D × D) → ListTheSame seen failures config disks) where
+  -- lines that are answered one after the other from a store's beginning on
+  from_start : (seen : D → List ℕ) (failures : D → ℕ) (config : Config) (disks : D × D) → standing (seen disks.0) (seen disks.1) ≡ fresh → (begun ended : Desk D) → Starts seen failures config disks begun → (all texts : List (List ℕ)) → Lines_run seen failures begun all texts ended
+      → scripts.ListTheSame all texts
+  from_start seen failures config disks standing_new begun ended starts all texts runs path epoch had has q =
+      same_texts seen failures config disks (law seen failures config disks) standing_new begun ended (start_reaches seen failures config disks begun starts) all texts path epoch had has q runs
+
+  pub scripts_list_the_same : ScriptsListTheSame D
+  scripts_list_the_same seen failures config disks input old new s standing_new =
+      from_start seen failures config disks standing_new s.begun s.ended s.starts (lines_of input) s.writes.texts s.writes.runs
+
+  pub list_the_same_until_a_read_fails : ListTheSameUntilAReadFails D
+  list_the_same_until_a_read_fails seen failures config disks input left old new s standing_new =
+      from_start seen failures config disks standing_new s.begun s.ended s.starts s.fails.lines s.fails.written.texts s.fails.written.runs
+
+  pub list_the_same_until_a_write_fails : ListTheSameUntilAWriteFails D
+  list_the_same_until_a_write_fails seen failures config disks input left old new s standing_new = (
+    from_start seen failures config disks standing_new s.begun s.fails.before s.starts s.fails.lines s.fails.written.texts s.fails.written.runs,
+    from_start seen failures config disks standing_new s.begun s.ended s.starts (s.fails.lines ++ s.fails.line ∷ []) (s.fails.written.texts ++ s.fails.text ∷ [])
+        (one_more seen failures s.fails.lines s.fails.written.texts s.fails.line s.fails.text s.begun s.fails.before s.ended s.fails.written.runs s.fails.answers),
+  )

@@ -3,7 +3,7 @@
 
 ghost use Rattle.gs_base.specs.declared.config.Config.{Config};
 ghost use Rattle.gs_shell_listed.specs.Lines.{ListTheSame};
-ghost use Rattle.gs_shell_listed.specs.Scripts.{ScriptsListTheSame};
+ghost use Rattle.gs_shell_listed.specs.Scripts.{ListTheSameUntilAReadFails, ListTheSameUntilAWriteFails, ScriptsListTheSame};
 ghost use Rattle.std.specs.Prelude.{List, ℕ};
 
 use gs_world_listed::{
@@ -21,9 +21,11 @@ pub fn what_is_listed_twice_by_lines_is_the_same<D>()
 }
 
 /// For every script over disks that said nothing, what `ls` of a path is answered right behind an accepted rollback is what it was answered right behind its prepare, wherever both answer: byte for byte, whatever else the script does, whatever lines come between, and whatever disks of the master fail. The rollback is of that prepare since
-/// it is answered the next epoch.
+/// it is answered the next epoch. So it is too where a read of the script or a write of an answer fails and ends the run: in the lines whose answers were written before, and, where a write has failed, in these with the line of that answer, which was made though no more than a beginning of it is written.
 pub fn what_a_script_lists_behind_a_rollback_is_what_it_listed_behind_its_prepare<D>()
-    ensures { ScriptsListTheSame D }
+    ensures ended { ScriptsListTheSame D }
+    ensures read_fails { ListTheSameUntilAReadFails D }
+    ensures write_fails { ListTheSameUntilAWriteFails D }
 {
     epochs_that_are_answered_are_numbers::<D>();
     what_is_listed_behind_a_rollback_is_what_was_listed_behind_its_prepare::<D>();

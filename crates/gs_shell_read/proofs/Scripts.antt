@@ -1,5 +1,5 @@
 -- What a script reads of a file right behind a prepare, and right behind its rollback.
-use Rattle.std.proofs.Common.{◌≡◌, ◌∙◌, ◌⊎◌, inl, inr, ◌++◌, ◌+◌, ℕ, List, ◌∷◌, Result, Ok, Err, sym, ap, subst, arith}
+use Rattle.std.proofs.Common.{◌≡◌, ◌∙◌, ◌⊎◌, inl, inr, ◌++◌, ◌+◌, ℕ, List, [], ◌∷◌, Result, Ok, Err, sym, ap, subst, arith}
 use Rattle.std.specs.Prelude.{codes, decimal}
 use Rattle.gs_base.specs.Told.{IsNumber}
 use Rattle.gs_base.specs.declared.config.Config.{Config}
@@ -17,9 +17,10 @@ use Rattle.gs_shell_calls.specs.Texts.{answer_text}
 use Rattle.gs_shell_calls.specs.declared.answer.Answer.{Answer}
 use Rattle.gs_shell_desk.specs.Answering.{IsText}
 use Rattle.gs_shell_desk.specs.Lines.{Comes}
+use Rattle.gs_shell_desk.specs.Starting.{Starts}
 use Rattle.gs_shell_desk.specs.declared.desk.Desk.{Desk}
 use Rattle.gs_shell_listed.proofs.Lines.{Carries_at}
-use Rattle.gs_shell_listed.proofs.Scripts.{Line_answered, Lines_run, came, prepared, reached, rolled, split}
+use Rattle.gs_shell_listed.proofs.Scripts.{Line_answered, Lines_run, came, one_more, prepared, reached, rolled, split}
 use Rattle.gs_shell_listed.proofs.Texts.{refused_never, same_numbers}
 use Rattle.gs_shell_listed.specs.Scripts.{AsksFor, IsAccepted}
 use Rattle.gs_shell_script.specs.Run.{lines_of}
@@ -28,7 +29,8 @@ use Rattle.gs_world_laws.specs.Meeting.{IsClientOf}
 use Rattle.gs_world_laws.specs.Within.{IsReachedWithin}
 use Rattle.gs_shell_read.proofs.Clients.{lines_mine}
 use Rattle.gs_shell_read.specs.Lines.{AreTheSame, Asks, Bytes, Digest, ReadTheSame, answer_of, line_of}
-use Rattle.gs_shell_read.specs.Scripts.{AreReadTwice, ScriptsReadTheSame, TextsAreTheSame}
+use Rattle.gs_shell_read.specs.Scripts.{AreReadTwice, ReadTheSameUntilAReadFails, ReadTheSameUntilAWriteFails, ScriptsReadTheSame, TextsAreTheSame}
+use Rattle.gs_shell_read.specs.Scripts as scripts
 
 -- ---- what lines come to
 
@@ -150,7 +152,24 @@ module _ {D : Type 0} (seen : D → List ℕ) (failures : D → ℕ) where
         let first = split seen failures q.before q.texts_before (q.prepare ∷ q.read ∷ (q.between ++ q.rollback ∷ q.again ∷ q.behind)) ((codes "ok " ++ decimal epoch) ∷ had ∷ (q.texts_between ++ (codes "ok " ++ decimal (epoch + 1)) ∷ has ∷ q.texts_behind)) begun ended q.long_before told in
         by_first first.0 (reached seen failures config disks q.before q.texts_before begun first.0 first.1 reached_there) (lines_mine seen failures config q.before q.texts_before begun first.0 first.1 mine) first.2
 
-pub scripts_read_the_same : {D : Type 0} → ((seen : D → List ℕ) (failures : D → ℕ) (config : Config) (disks : D × D) → ReadTheSame seen failures config disks) → ScriptsReadTheSame D
-scripts_read_the_same law seen failures config disks input old new s standing_new path asks epoch had has q =
-    same_texts seen failures config disks (law seen failures config disks) standing_new s.ended (lines_of input) s.writes.texts path asks epoch had has q s.begun (start_reaches seen failures config disks s.begun s.starts)
-    (ap (λ c. c.last.client) s.starts.client, ap (λ c. c.chunk) s.starts.client) s.writes.runs
+module _ {D : Type 0} (law : (seen : D → List ℕ) (failures : D → ℕ) (config : Config) (disks : D × D) → ReadTheSame seen failures config disks) where
+  -- lines that are answered one after the other from a store's beginning on
+  from_start : (seen : D → List ℕ) (failures : D → ℕ) (config : Config) (disks : D × D) → standing (seen disks.0) (seen disks.1) ≡ fresh → (begun ended : Desk D) → Starts seen failures config disks begun → (all texts : List (List ℕ)) → Lines_run seen failures begun all texts ended
+      → scripts.ReadTheSame seen failures config disks all texts ended
+  from_start seen failures config disks standing_new begun ended starts all texts runs path asks epoch had has q =
+      same_texts seen failures config disks (law seen failures config disks) standing_new ended all texts path asks epoch had has q begun (start_reaches seen failures config disks begun starts) (ap (λ c. c.last.client) starts.client, ap (λ c. c.chunk) starts.client) runs
+
+  pub scripts_read_the_same : ScriptsReadTheSame D
+  scripts_read_the_same seen failures config disks input old new s standing_new =
+      from_start seen failures config disks standing_new s.begun s.ended s.starts (lines_of input) s.writes.texts s.writes.runs
+
+  pub read_the_same_until_a_read_fails : ReadTheSameUntilAReadFails D
+  read_the_same_until_a_read_fails seen failures config disks input left old new s standing_new =
+      from_start seen failures config disks standing_new s.begun s.ended s.starts s.fails.lines s.fails.written.texts s.fails.written.runs
+
+  pub read_the_same_until_a_write_fails : ReadTheSameUntilAWriteFails D
+  read_the_same_until_a_write_fails seen failures config disks input left old new s standing_new = (
+    from_start seen failures config disks standing_new s.begun s.fails.before s.starts s.fails.lines s.fails.written.texts s.fails.written.runs,
+    from_start seen failures config disks standing_new s.begun s.ended s.starts (s.fails.lines ++ s.fails.line ∷ []) (s.fails.written.texts ++ s.fails.text ∷ [])
+        (one_more seen failures s.fails.lines s.fails.written.texts s.fails.line s.fails.text s.begun s.fails.before s.ended s.fails.written.runs s.fails.answers),
+  )

@@ -1,8 +1,9 @@
 -- What a script reads of a file right behind a prepare, and right behind its rollback.
 use Rattle.std.proofs.Common.{arith}
-use Rattle.std.specs.Prelude.{[], ◌+◌, ◌++◌, ◌∷◌, ◌≡◌, Bool, List, Ok, Option, codes, decimal, length, refl, true, ℕ}
+use Rattle.std.specs.Prelude.{[], ◌+◌, ◌++◌, ◌∷◌, ◌≡◌, Bool, List, Ok, Option, Some, codes, decimal, length, refl, take, true, ℕ}
 use Rattle.std.specs.Char.{encode_utf8}
 use Rattle.std.specs.Fmt.{digits}
+use Rattle.std.specs.Io.KnownBytes.{Appends}
 use Rattle.std.specs.Str.{chars, is_utf8}
 use Rattle.gs_base.specs.Told.{IsNumber}
 use Rattle.gs_base.specs.declared.config.Config.{Config}
@@ -11,7 +12,7 @@ use Rattle.gs_block.specs.Written.{TellsApart}
 use Rattle.gs_journal.specs.Records.{fresh, standing}
 use Rattle.gs_path.specs.Path.{Path}
 use Rattle.gs_path.specs.Rules.{parse_hidden}
-use Rattle.gs_shell.specs.Serving.{Serves}
+use Rattle.gs_shell.specs.Serving.{Serves, StopsServing}
 use Rattle.gs_shell_calls.specs.Texts.{answer_text}
 use Rattle.gs_shell_desk.specs.Answering.{AnswersText}
 use Rattle.gs_shell_desk.specs.Ways.{way_of}
@@ -21,7 +22,8 @@ use Rattle.gs_shell_grammar.specs.Grammar as lines
 use Rattle.gs_shell_grammar.specs.declared.command.Upgrade.TheVariants as upgrades
 use Rattle.gs_shell_listed.specs.Scripts.{AsksFor, IsAccepted}
 use Rattle.gs_shell_read.specs.Lines.{Asks, answer_of, Bytes, line_of, reading_of}
-use Rattle.gs_shell_script.specs.Run.{Runs, lines_of}
+use Rattle.gs_shell_script.specs.Run.{AnswersLine, Runs, StopsWriting, WritesAnswers, lines_of}
+use Rattle.gs_shell_script.specs.declared.RunFault.TheVariants as fault
 use Rattle.gs_world_read.specs.Read.{AreAmongAnyhow, ReadsTwice, all_steps}
 
 -- Of the lines of a script, and of their answers: `rollingUpgrade prepare` is answered by an epoch, and right behind it something is read of a file, and accepted. Behind any lines `rollingUpgrade rollback` is answered by the next epoch, and right behind it the same is read, and accepted.
@@ -68,10 +70,25 @@ module _ {D : Type 0} (seen : D → List ℕ) (failures : D → ℕ) (config : C
 
 -- ---- what is to hold
 
+-- Then it goes so.
+abbrev pub ReadTheSame : {D : Type 0} → (D → List ℕ) → (D → ℕ) → Config → D × D → List (List ℕ) → List (List ℕ) → Desk D → Type 0
+ReadTheSame seen failures config disks all texts ended = (path : List ℕ) (asks : Asks) (epoch : ℕ) (had has : List ℕ) (q : AreReadTwice all texts path asks epoch had has) → TextsAreTheSame seen failures config disks path asks had has q.behind q.texts_behind ended
+
 -- So it is of every script over disks that said nothing: whatever lines come before, between and behind, lines that damage blocks among them, and whatever disks fail.
 abbrev pub ScriptsReadTheSame : Type 0 → Type 0
-ScriptsReadTheSame D = (seen : D → List ℕ) (failures : D → ℕ) (config : Config) (disks : D × D) (input : List ℕ) (old new : Option (List ℕ)) (s : Serves seen failures config disks input old new) → standing (seen disks.0) (seen disks.1) ≡ fresh →
-    (path : List ℕ) (asks : Asks) (epoch : ℕ) (had has : List ℕ) (q : AreReadTwice (lines_of input) s.writes.texts path asks epoch had has) → TextsAreTheSame seen failures config disks path asks had has q.behind q.texts_behind s.ended
+ScriptsReadTheSame D = (seen : D → List ℕ) (failures : D → ℕ) (config : Config) (disks : D × D) (input : List ℕ) (old new : Option (List ℕ)) (s : Serves seen failures config disks input old new) → standing (seen disks.0) (seen disks.1) ≡ fresh
+    → ReadTheSame seen failures config disks (lines_of input) s.writes.texts s.ended
+
+-- So it is where a read of the script fails, in those of its lines that were read and answered before.
+abbrev pub ReadTheSameUntilAReadFails : Type 0 → Type 0
+ReadTheSameUntilAReadFails D = (seen : D → List ℕ) (failures : D → ℕ) (config : Config) (disks : D × D) (input : List ℕ) (left old new : Option (List ℕ)) (s : StopsServing seen failures config disks fault.Read (Some input) left old new)
+    → standing (seen disks.0) (seen disks.1) ≡ fresh → ReadTheSame seen failures config disks s.fails.lines s.fails.written.texts s.ended
+
+-- And where a write of an answer fails, in the lines whose answers were written before, and in these with the line of that answer, which is made though no more than a beginning of it is written.
+abbrev pub ReadTheSameUntilAWriteFails : Type 0 → Type 0
+ReadTheSameUntilAWriteFails D = (seen : D → List ℕ) (failures : D → ℕ) (config : Config) (disks : D × D) (input : List ℕ) (left old new : Option (List ℕ)) (s : StopsServing seen failures config disks fault.Write (Some input) left old new)
+    → standing (seen disks.0) (seen disks.1) ≡ fresh → ReadTheSame seen failures config disks s.fails.lines s.fails.written.texts s.fails.before
+    × ReadTheSame seen failures config disks (s.fails.lines ++ s.fails.line ∷ []) (s.fails.written.texts ++ s.fails.text ∷ []) s.ended
 
 -- ---- examples: a script of four lines that is answered so
 
@@ -109,4 +126,22 @@ it_is_such_a_script had has was is = record {
   repeats = refl;
   was = was;
   is = is;
+}
+
+-- a write may fail at the answer to a fifth line behind it: then these four were answered
+a_write_fails_behind_it : {S : Type 0} (A : S → List ℕ → List ℕ → S → Type 0) (begun before ended : S) (old between new : Option (List ℕ)) (text : List ℕ) (count : ℕ) → WritesAnswers A begun some_lines old between before
+    → AnswersLine A before (codes "ls /" ++ 10 ∷ []) text ended → Appends between new (take count (text ++ 10 ∷ []))
+    → StopsWriting A begun (codes "rollingUpgrade prepare" ++ 10 ∷ codes "read /f 0 4" ++ 10 ∷ codes "rollingUpgrade rollback" ++ 10 ∷ codes "read /f 0 4" ++ 10 ∷ codes "ls /" ++ 10 ∷ codes "scan") (Some (codes "scan")) old new ended
+a_write_fails_behind_it A begun before ended old between new text count written answers begins = record {
+  lines = some_lines;
+  line = codes "ls /" ++ 10 ∷ [];
+  rest = codes "scan";
+  parts = refl;
+  left_is = refl;
+  between = between;
+  before = before;
+  written = written;
+  text = text;
+  answers = answers;
+  begun = (count, begins);
 }

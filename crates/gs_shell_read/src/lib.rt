@@ -3,7 +3,7 @@
 
 ghost use Rattle.gs_base.specs.declared.config.Config.{Config};
 ghost use Rattle.gs_shell_read.specs.Lines.{ReadTheSame};
-ghost use Rattle.gs_shell_read.specs.Scripts.{ScriptsReadTheSame};
+ghost use Rattle.gs_shell_read.specs.Scripts.{ReadTheSameUntilAReadFails, ReadTheSameUntilAWriteFails, ScriptsReadTheSame};
 ghost use Rattle.std.specs.Prelude.{List, ℕ};
 
 use gs_client_plain::readers_ask_under_locations_that_they_were_told;
@@ -22,9 +22,11 @@ pub fn what_is_read_twice_by_lines_is_the_same<D>()
 
 /// For every script over disks that said nothing, what `read` or `digest` of a file is answered right behind an accepted rollback is what it was answered right behind its prepare, wherever both answer: byte for byte, whatever else the script does, whatever lines
 /// come between, and whatever disks of the master fail. The rollback is of that prepare since it is answered the next epoch. There is a run of a store that goes so, and different blocks that its servers may have on the steps of that run are to have
-/// different digests.
+/// different digests. So it is too where a read of the script or a write of an answer fails and ends the run: in the lines whose answers were written before, and, where a write has failed, in these with the line of that answer, which was made though no more than a beginning of it is written.
 pub fn what_a_script_reads_behind_a_rollback_is_what_it_read_behind_its_prepare<D>()
-    ensures { ScriptsReadTheSame D }
+    ensures ended { ScriptsReadTheSame D }
+    ensures read_fails { ReadTheSameUntilAReadFails D }
+    ensures write_fails { ReadTheSameUntilAWriteFails D }
 {
     readers_ask_under_locations_that_they_were_told();
     epochs_that_are_answered_are_numbers::<D>();
