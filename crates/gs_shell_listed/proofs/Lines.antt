@@ -1,6 +1,7 @@
 -- What lines list behind a prepare, and behind its rollback.
-use Rattle.std.proofs.Common.{◌≡◌, ◌∙◌, inl, inr, ◌++◌, ◌+◌, ◌-◌, ◌==◌, ◌<◌, ℕ, zero, suc, Bool, true, false, List, [], ◌∷◌, Some, None, Result, Ok, length, nat_le, refl, sym, ap, subst, arith, slice_get, if◌then◌else◌}
+use Rattle.std.proofs.Common.{◌≡◌, ◌∙◌, ◌⊎◌, inl, inr, ◌++◌, ◌+◌, ◌-◌, ◌==◌, ◌<◌, ℕ, zero, suc, Bool, true, false, List, [], ◌∷◌, Some, None, Result, Ok, length, nat_le, refl, sym, ap, subst, arith, slice_get, if◌then◌else◌}
 use Rattle.std.specs.List.{AllByRecursion}
+use Rattle.std.proofs.lemmas.Bool.{false≢true}
 use Rattle.std.proofs.lemmas.Bool.Decides.{nat_tests}
 use Rattle.gs_base.specs.Told.{IsNumber}
 use Rattle.gs_base.specs.declared.config.Config.{Config}
@@ -28,8 +29,10 @@ use Rattle.gs_shell_desk.specs.Lines.{Comes, carried}
 use Rattle.gs_shell_desk.specs.Ways.{way_of}
 use Rattle.gs_shell_desk.specs.declared.desk.Desk.{Desk}
 use Rattle.gs_shell_desk.specs.declared.wire.Wire.{Wire}
+use Rattle.gs_shell_grammar.specs.Grammar.{Request as LineRequest}
 use Rattle.gs_shell_grammar.specs.Grammar as lines
 use Rattle.gs_shell_grammar.specs.declared.command.Upgrade.TheVariants as upgrades
+use Rattle.gs_shell_grammar.specs.declared.command.UpgradeStep.TheVariants as steps
 use Rattle.gs_shell_line.specs.Line.{content, longest_line}
 use Rattle.gs_shell_script.specs.Run as script
 use Rattle.gs_world.proofs.Staying.{run_same}
@@ -47,8 +50,8 @@ use Rattle.gs_world_laws.specs.Reached.{Covers, history, unarmed}
 use Rattle.gs_world_laws.specs.Saying.{IsStepWithin}
 use Rattle.gs_world_laws.specs.Within.{IsReachedWithin}
 use Rattle.gs_world_listed.specs.Listed.{EpochsAreNumbers, ListsComeBack, ListsTwice}
-use Rattle.gs_shell_listed.proofs.Dialogues.{BeginsAndCommits, Lists, list_asks, prepare_asks, rollback_asks}
-use Rattle.gs_shell_listed.specs.Lines.{ListTheSame, ListTwice}
+use Rattle.gs_shell_listed.proofs.Dialogues.{BeginsAndCommits, Lists, list_asks, prepare_asks, prepare_commit_asks, rollback_asks, rollback_commit_asks}
+use Rattle.gs_shell_listed.specs.Lines.{ListTheSame, ListTwice, commits_prepare, commits_rollback}
 
 -- a number below the last is one of 64 bits, and so is the next
 pub next_small : (number : ℕ) → number < last_number → IsNumber (number + 1)
@@ -114,13 +117,22 @@ module _ {D : Type 0} (seen : D → List ℕ) (failures : D → ℕ) where
   abbrev at : Desk D → Client × Wire D
   at d = (d.caller.client, d.wire)
 
-  pub prepares_asks : (old new : Desk D) (epoch : ℕ) → Comes seen failures (lines.RollingUpgrade upgrades.Prepare) old (Ok (answers.Number epoch)) new → BeginsAndCommits Carries_at (requests.Call calls.PrepareBegin) (requests.Call calls.PrepareCommit) (at old) epoch (at new)
+  pub prepares_asks : (by : LineRequest) → commits_prepare by ≡ true → (old new : Desk D) (epoch : ℕ) → Comes seen failures by old (Ok (answers.Number epoch)) new → BeginsAndCommits Carries_at (requests.Call calls.PrepareBegin) (requests.Call calls.PrepareCommit) (at old) epoch (at new)
   unfolding Comes
-  prepares_asks old new epoch c = prepare_asks Carries_at (at old) (at new) epoch c
+  prepares_asks (lines.RollingUpgrade upgrades.Prepare) is old new epoch c = prepare_asks Carries_at (at old) (at new) epoch c
+  prepares_asks (lines.Step steps.PrepareCommit) is old new epoch c = prepare_commit_asks Carries_at (at old) (at new) epoch c
+  prepares_asks by is old new epoch c = absurd (false≢true is)
 
-  pub rolls_asks : (old new : Desk D) (epoch : ℕ) → Comes seen failures (lines.RollingUpgrade upgrades.Rollback) old (Ok (answers.Number epoch)) new → BeginsAndCommits Carries_at (requests.Call calls.RollbackBegin) (requests.Call calls.RollbackCommit) (at old) epoch (at new)
+  pub rolls_asks : (by : LineRequest) → commits_rollback by ≡ true → (old new : Desk D) (epoch : ℕ) → Comes seen failures by old (Ok (answers.Number epoch)) new → BeginsAndCommits Carries_at (requests.Call calls.RollbackBegin) (requests.Call calls.RollbackCommit) (at old) epoch (at new)
   unfolding Comes
-  rolls_asks old new epoch c = rollback_asks Carries_at (at old) (at new) epoch c
+  rolls_asks (lines.RollingUpgrade upgrades.Rollback) is old new epoch c = rollback_asks Carries_at (at old) (at new) epoch c
+  rolls_asks (lines.Step steps.RollbackCommit) is old new epoch c = rollback_commit_asks Carries_at (at old) (at new) epoch c
+  rolls_asks by is old new epoch c = absurd (false≢true is)
+
+  -- what is begun before a commit, if something is, leads on
+  pub begun_leads : (old mid : Client × Wire D) (begin : Request) → MayBeAsked begin → ((reply : Reply) × Carries_at old begin reply mid) ⊎ (mid ≡ old) → Leads seen failures true (way_of old.1) (way_of mid.1)
+  begun_leads old mid begin may (inl (reply, c)) = leads_on old mid begin reply may c
+  begun_leads old mid begin may (inr same) = nothing seen failures true (way_of old.1) (way_of mid.1) (ap (λ (s : Client × Wire D). way_of s.1) same)
 
   lists_asks : (path : List ℕ) (old new : Desk D) (names : List ListedName) → Comes seen failures (lines.Ls path) old (Ok (answers.Names names)) new → Lists Carries_at path (at old) names (at new)
   unfolding Comes
@@ -134,10 +146,10 @@ module _ {D : Type 0} (seen : D → List ℕ) (failures : D → ℕ) where
     r = l.reached
 
     one : BeginsAndCommits Carries_at (requests.Call calls.PrepareBegin) (requests.Call calls.PrepareCommit) (at l.begun) epoch (at l.prepared)
-    one = prepares_asks l.begun l.prepared epoch l.prepares
+    one = prepares_asks l.prepare_by l.is_prepare l.begun l.prepared epoch l.prepares
 
     first : StepsSo seen failures true (way_of l.begun.wire) (way_of one.mid.1) r.sent
-    first = leads_on (at l.begun) one.mid (requests.Call calls.PrepareBegin) one.reply (record { named = tt; met = λ names. tt }) one.begins r.sent r.covers r.moment
+    first = begun_leads (at l.begun) one.mid (requests.Call calls.PrepareBegin) (record { named = tt; met = λ names. tt }) one.begins r.sent r.covers r.moment
 
     prepared : IsCarried seen failures (next_request one.mid.0).client (way_of one.mid.1) first.after calls.PrepareCommit (said.Epoch epoch) (way_of l.prepared.wire)
     prepared = answered_on first.after one.mid (at l.prepared) calls.PrepareCommit (said.Epoch epoch) first.covers first.moment (record { named = tt; met = λ names. tt }) one.commits
@@ -158,10 +170,10 @@ module _ {D : Type 0} (seen : D → List ℕ) (failures : D → ℕ) where
     lines_on = lines_lead l.between l.texts l.listed l.later l.passes listed.after listed.covers small_two
 
     two : BeginsAndCommits Carries_at (requests.Call calls.RollbackBegin) (requests.Call calls.RollbackCommit) (at l.later) next (at l.back)
-    two = rolls_asks l.later l.back next l.rolls
+    two = rolls_asks l.roll_by l.is_rollback l.later l.back next l.rolls
 
     second : StepsSo seen failures true (way_of l.later.wire) (way_of two.mid.1) lines_on.after
-    second = leads_on (at l.later) two.mid (requests.Call calls.RollbackBegin) two.reply (record { named = tt; met = λ names. tt }) two.begins lines_on.after lines_on.covers lines_on.moment
+    second = begun_leads (at l.later) two.mid (requests.Call calls.RollbackBegin) (record { named = tt; met = λ names. tt }) two.begins lines_on.after lines_on.covers lines_on.moment
 
     back : IsCarried seen failures (next_request two.mid.0).client (way_of two.mid.1) second.after calls.RollbackCommit (said.Epoch next) (way_of l.back.wire)
     back = answered_on second.after two.mid (at l.back) calls.RollbackCommit (said.Epoch next) second.covers second.moment (record { named = tt; met = λ names. tt }) two.commits

@@ -1,5 +1,6 @@
 -- What a script is answered to `ls` right behind a prepare, and right behind its rollback.
-use Rattle.std.proofs.Common.{◌≡◌, ◌∙◌, inl, inr, ◌++◌, ◌+◌, ℕ, suc, Bool, true, false, List, [], ◌∷◌, Option, Some, None, MatchOption, Result, Ok, Err, length, nat_le, refl, sym, ap, subst, arith}
+use Rattle.std.proofs.Common.{◌≡◌, ◌∙◌, ◌⊎◌, inl, inr, ◌++◌, ◌+◌, ℕ, suc, Bool, true, false, List, [], ◌∷◌, Option, Some, None, MatchOption, Result, Ok, Err, length, nat_le, refl, sym, ap, subst, arith}
+use Rattle.std.proofs.lemmas.Bool.{false≢true}
 use Rattle.std.specs.Prelude.{codes, decimal}
 use Rattle.gs_base.specs.Told.{IsNumber}
 use Rattle.gs_base.specs.declared.config.Config.{Config}
@@ -18,13 +19,14 @@ use Rattle.gs_shell_desk.specs.declared.desk.Desk.{Desk}
 use Rattle.gs_shell_grammar.specs.Grammar.{Request, line_request}
 use Rattle.gs_shell_grammar.specs.Grammar as lines
 use Rattle.gs_shell_grammar.specs.declared.command.Upgrade.TheVariants as upgrades
+use Rattle.gs_shell_grammar.specs.declared.command.UpgradeStep.TheVariants as steps
 use Rattle.gs_shell_line.specs.Line.{content, longest_line}
 use Rattle.gs_shell_script.specs.Run as script
 use Rattle.gs_shell_script.specs.Run.{lines_of}
 use Rattle.gs_world_laws.proofs.Lines.{line_reaches, start_reaches}
 use Rattle.gs_world_laws.specs.Within.{IsReachedWithin}
-use Rattle.gs_shell_listed.proofs.Texts.{list_comes, names_told, number_told, prepare_comes, refused_never, rollback_comes, same_numbers}
-use Rattle.gs_shell_listed.specs.Lines.{ListTheSame}
+use Rattle.gs_shell_listed.proofs.Texts.{list_comes, names_told, number_told, prepare_comes, prepare_commit_comes, refused_never, rollback_comes, rollback_commit_comes, same_numbers}
+use Rattle.gs_shell_listed.specs.Lines.{ListTheSame, commits_prepare, commits_rollback}
 use Rattle.gs_shell_listed.specs.Scripts.{AreListedTwice, AsksFor, IsAccepted, ListTheSameUntilAReadFails, ListTheSameUntilAWriteFails, ScriptsListTheSame}
 use Rattle.gs_shell_listed.specs.Scripts as scripts
 
@@ -87,19 +89,30 @@ module _ {D : Type 0} (seen : D → List ℕ) (failures : D → ℕ) where
     pub comes : Comes seen failures request old (Ok (answers.Number number)) new
     pub digits : decimal number ≡ decimal epoch
 
-  pub prepared : (line : List ℕ) (epoch : ℕ) (old new : Desk D) → AsksFor (lines.RollingUpgrade upgrades.Prepare) line → Line_answered old line (codes "ok " ++ decimal epoch) new → Epoch_at (lines.RollingUpgrade upgrades.Prepare) epoch old new
+  prepare_line_comes : (by : Request) → commits_prepare by ≡ true → (old new : Desk D) (result : Result Answer Refusal) → Comes seen failures by old result new → ((k : ℕ) × (result ≡ Ok (answers.Number k))) ⊎ ((refusal : Refusal) × (result ≡ Err refusal))
   unfolding Comes
-  prepared line epoch old new asks a =
-      let c = came (lines.RollingUpgrade upgrades.Prepare) line (codes "ok " ++ decimal epoch) old new asks refl a in
-      let found = number_told c.answer (codes "ok " ++ decimal epoch) epoch (prepare_comes (Asks (carried seen failures)) (old.caller.client, old.wire) (new.caller.client, new.wire) c.answer c.comes) c.told refl in
-      record { number = found.0; comes = subst (λ r. Comes seen failures (lines.RollingUpgrade upgrades.Prepare) old r new) found.1 c.comes; digits = found.2 }
+  prepare_line_comes (lines.RollingUpgrade upgrades.Prepare) is old new result c = prepare_comes (Asks (carried seen failures)) (old.caller.client, old.wire) (new.caller.client, new.wire) result c
+  prepare_line_comes (lines.Step steps.PrepareCommit) is old new result c = prepare_commit_comes (Asks (carried seen failures)) (old.caller.client, old.wire) (new.caller.client, new.wire) result c
+  prepare_line_comes by is old new result c = absurd (false≢true is)
 
-  pub rolled : (line : List ℕ) (epoch : ℕ) (old new : Desk D) → AsksFor (lines.RollingUpgrade upgrades.Rollback) line → Line_answered old line (codes "ok " ++ decimal epoch) new → Epoch_at (lines.RollingUpgrade upgrades.Rollback) epoch old new
+  rollback_line_comes : (by : Request) → commits_rollback by ≡ true → (old new : Desk D) (result : Result Answer Refusal) → Comes seen failures by old result new → ((k : ℕ) × (result ≡ Ok (answers.Number k))) ⊎ ((refusal : Refusal) × (result ≡ Err refusal))
   unfolding Comes
-  rolled line epoch old new asks a =
-      let c = came (lines.RollingUpgrade upgrades.Rollback) line (codes "ok " ++ decimal epoch) old new asks refl a in
-      let found = number_told c.answer (codes "ok " ++ decimal epoch) epoch (rollback_comes (Asks (carried seen failures)) (old.caller.client, old.wire) (new.caller.client, new.wire) c.answer c.comes) c.told refl in
-      record { number = found.0; comes = subst (λ r. Comes seen failures (lines.RollingUpgrade upgrades.Rollback) old r new) found.1 c.comes; digits = found.2 }
+  rollback_line_comes (lines.RollingUpgrade upgrades.Rollback) is old new result c = rollback_comes (Asks (carried seen failures)) (old.caller.client, old.wire) (new.caller.client, new.wire) result c
+  rollback_line_comes (lines.Step steps.RollbackCommit) is old new result c = rollback_commit_comes (Asks (carried seen failures)) (old.caller.client, old.wire) (new.caller.client, new.wire) result c
+  rollback_line_comes by is old new result c = absurd (false≢true is)
+
+  epoch_of : (by : Request) (line : List ℕ) (epoch : ℕ) (old new : Desk D) → ((result : Result Answer Refusal) → Comes seen failures by old result new → ((k : ℕ) × (result ≡ Ok (answers.Number k))) ⊎ ((refusal : Refusal) × (result ≡ Err refusal))) → AsksFor by line
+      → Line_answered old line (codes "ok " ++ decimal epoch) new → Epoch_at by epoch old new
+  epoch_of by line epoch old new comes asks a =
+      let c = came by line (codes "ok " ++ decimal epoch) old new asks refl a in
+      let found = number_told c.answer (codes "ok " ++ decimal epoch) epoch (comes c.answer c.comes) c.told refl in
+      record { number = found.0; comes = subst (λ r. Comes seen failures by old r new) found.1 c.comes; digits = found.2 }
+
+  pub prepared : (by : Request) → commits_prepare by ≡ true → (line : List ℕ) (epoch : ℕ) (old new : Desk D) → AsksFor by line → Line_answered old line (codes "ok " ++ decimal epoch) new → Epoch_at by epoch old new
+  prepared by is line epoch old new asks a = epoch_of by line epoch old new (prepare_line_comes by is old new) asks a
+
+  pub rolled : (by : Request) → commits_rollback by ≡ true → (line : List ℕ) (epoch : ℕ) (old new : Desk D) → AsksFor by line → Line_answered old line (codes "ok " ++ decimal epoch) new → Epoch_at by epoch old new
+  rolled by is line epoch old new asks a = epoch_of by line epoch old new (rollback_line_comes by is old new) asks a
 
   record Listed (path text : List ℕ) (old new : Desk D) : Type 0 where
     names : List ListedName
@@ -146,8 +159,8 @@ module _ {D : Type 0} (seen : D → List ℕ) (failures : D → ℕ) where
         by_second start mid listed_at later reached_there a b lines_between (back, c, (last, e, rest)) =
             let one = listed path q.list had mid listed_at q.lists q.was b in
             let two = listed path q.again has back last q.repeats q.is e in
-            let first = prepared q.prepare epoch start mid q.prepares a in
-            let next = rolled q.rollback (epoch + 1) later back q.rolls c in
+            let first = prepared q.prepare_by q.is_prepare q.prepare epoch start mid q.prepares a in
+            let next = rolled q.roll_by q.is_rollback q.rollback (epoch + 1) later back q.rolls c in
             two.is
             ∙ ap (λ names. answer_text (Ok (answers.Names names)))
             (law path first.number next.number one.names two.names (record {
@@ -155,6 +168,8 @@ module _ {D : Type 0} (seen : D → List ℕ) (failures : D → ℕ) where
               follows = λ small high. same_numbers next.number (epoch + 1) high q.small next.digits ∙ ap (λ k. k + 1) (sym (same_numbers first.number epoch small (lower epoch q.small) first.digits));
               begun = start;
               reached = reached_there;
+              prepare_by = q.prepare_by;
+              is_prepare = q.is_prepare;
               prepared = mid;
               prepares = first.comes;
               listed = listed_at;
@@ -164,6 +179,8 @@ module _ {D : Type 0} (seen : D → List ℕ) (failures : D → ℕ) where
               later = later;
               passes = lines_between;
               back = back;
+              roll_by = q.roll_by;
+              is_rollback = q.is_rollback;
               rolls = next.comes;
               last = last;
               again = two.comes;

@@ -1,5 +1,5 @@
 -- What a script is answered to `ls` right behind a prepare, and right behind its rollback.
-use Rattle.std.specs.Prelude.{◌+◌, ◌++◌, ◌∷◌, ◌≡◌, ◌≢◌, List, Option, Some, codes, decimal, length, take, ℕ, [], get_or, refl}
+use Rattle.std.specs.Prelude.{◌+◌, ◌++◌, ◌∷◌, ◌≡◌, ◌≢◌, List, Option, Some, codes, decimal, length, take, true, ℕ, [], get_or, refl}
 use Rattle.std.proofs.Common.{ap, arith}
 use Rattle.std.proofs.lemmas.List.Elements.{All-cons, All-nil}
 use Rattle.std.specs.Char.{encode_utf8}
@@ -15,6 +15,7 @@ use Rattle.gs_shell_grammar.specs.declared.command.Upgrade.TheVariants as upgrad
 use Rattle.gs_shell_line.specs.Line.{content}
 use Rattle.gs_shell_script.specs.Run.{StopsReading, WritesAnswers, lines_of}
 use Rattle.gs_shell_script.specs.declared.RunFault.TheVariants as fault
+use Rattle.gs_shell_listed.specs.Lines.{commits_prepare, commits_rollback}
 
 -- an answer that isn't a refusal
 abbrev pub IsAccepted : List ℕ → Type 0
@@ -24,7 +25,8 @@ IsAccepted text = take 2 text ≡ codes "ok"
 abbrev pub AsksFor : Request → List ℕ → Type 0
 AsksFor request line = line_request (content line) ≡ Some request
 
--- Of the lines of a script, and of their answers: `rollingUpgrade prepare` is answered by an epoch, and `ls` of a path right behind it by a list. Behind any lines `rollingUpgrade rollback` is answered by the next epoch, and the same `ls` right behind it by a list.
+-- Of the lines of a script, and of their answers: `rollingUpgrade prepare`, or `prepare-commit`, is answered by an epoch, and `ls` of a path right behind it by a list. Behind any lines `rollingUpgrade rollback`, or `rollback-commit`, is answered by the next epoch, and the same `ls` right
+-- behind it by a list.
 pub record AreListedTwice (all texts : List (List ℕ)) (path : List ℕ) (epoch : ℕ) (had has : List ℕ) : Type 0 where
   pub before : List (List ℕ)
   pub prepare : List ℕ
@@ -41,9 +43,13 @@ pub record AreListedTwice (all texts : List (List ℕ)) (path : List ℕ) (epoch
   pub small : IsNumber (epoch + 1)
   pub long_before : length texts_before ≡ length before
   pub long_between : length texts_between ≡ length between
-  pub prepares : AsksFor (lines.RollingUpgrade upgrades.Prepare) prepare
+  pub prepare_by : Request
+  pub is_prepare : commits_prepare prepare_by ≡ true
+  pub prepares : AsksFor prepare_by prepare
   pub lists : AsksFor (lines.Ls path) list
-  pub rolls : AsksFor (lines.RollingUpgrade upgrades.Rollback) rollback
+  pub roll_by : Request
+  pub is_rollback : commits_rollback roll_by ≡ true
+  pub rolls : AsksFor roll_by rollback
   pub repeats : AsksFor (lines.Ls path) again
   pub was : IsAccepted had
   pub is : IsAccepted has
@@ -99,8 +105,12 @@ it_is_such_a_script had has was is = record {
   small = omega arith;
   long_before = refl;
   long_between = refl;
+  prepare_by = lines.RollingUpgrade upgrades.Prepare;
+  is_prepare = refl;
   prepares = refl;
   lists = refl;
+  roll_by = lines.RollingUpgrade upgrades.Rollback;
+  is_rollback = refl;
   rolls = refl;
   repeats = refl;
   was = was;

@@ -60,3 +60,8 @@ module _ {D : Type 0} (seen : D → List ℕ) (failures : D → ℕ) (config : C
   pub exchanges_mine : (pairs : List (Request × Reply)) (old new : Client × Wire D) → IsClientOf config old.0 → Carried (Carries_at seen failures) old pairs new → IsClientOf config new.0
   exchanges_mine [] old new mine same = (ap (λ (s : Client × Wire D). s.0.last.client) same ∙ mine.0, ap (λ (s : Client × Wire D). s.0.chunk) same ∙ mine.1)
   exchanges_mine (pair ∷ pairs) old new mine (mid, one, rest) = exchanges_mine pairs mid new (still_mine old mid pair.0 pair.1 mine one) rest
+
+  -- and behind what is begun before a commit, if something is
+  pub begun_mine : (old mid : Client × Wire D) (begin : Request) → IsClientOf config old.0 → ((reply : Reply) × Carries_at seen failures old begin reply mid) ⊎ (mid ≡ old) → IsClientOf config mid.0
+  begun_mine old mid begin mine (inl (reply, c)) = still_mine old mid begin reply mine c
+  begun_mine old mid begin mine (inr same) = (ap (λ (s : Client × Wire D). s.0.last.client) same ∙ mine.0, ap (λ (s : Client × Wire D). s.0.chunk) same ∙ mine.1)

@@ -19,7 +19,7 @@ use Rattle.gs_shell_desk.specs.Ways.{way_of}
 use Rattle.gs_shell_desk.specs.declared.desk.Desk.{Desk}
 use Rattle.gs_shell_desk.specs.declared.wire.Wire.{Wire}
 use Rattle.gs_shell_listed.proofs.Dialogues.{BeginsAndCommits}
-use Rattle.gs_shell_listed.proofs.Lines.{Carries_at, answered_on, leads_on, lines_lead, only_one, prepares_asks, rolls_asks, the_client}
+use Rattle.gs_shell_listed.proofs.Lines.{Carries_at, answered_on, begun_leads, lines_lead, only_one, prepares_asks, rolls_asks, the_client}
 use Rattle.gs_world.proofs.Staying.{run_same}
 use Rattle.gs_world.specs.Histories.{History}
 use Rattle.gs_world.specs.Runs.{Takes}
@@ -38,7 +38,7 @@ use Rattle.gs_shell_read.proofs.Clients.{exchanges_mine, lines_mine, still_mine}
 use Rattle.gs_shell_read.proofs.Dialogues.{LineReads, line_reads}
 use Rattle.gs_shell_read.proofs.Exchanges.{ExchangesOn, exchanges_on, reader_asks}
 use Rattle.gs_shell_read.proofs.Running.{Ran, answered_ran, exchanged_ran, looked_ran, then_ran}
-use Rattle.gs_shell_read.specs.Lines.{AreTheSame, Asks, ReadTheSame, ReadTwice, reading_of}
+use Rattle.gs_shell_read.specs.Lines.{AreTheSameWhereToldApart, Asks, ReadTheSameWhereToldApart, ReadTwice, reading_of}
 
 module _ {D : Type 0} (seen : D → List ℕ) (failures : D → ℕ) where
   abbrev at : Desk D → Client × Wire D
@@ -74,13 +74,13 @@ module _ {D : Type 0} (seen : D → List ℕ) (failures : D → ℕ) where
     reached = r.reached
 
     one : BeginsAndCommits (Carries_at seen failures) (requests.Call calls.PrepareBegin) (requests.Call calls.PrepareCommit) (at r.begun) epoch (at r.prepared)
-    one = prepares_asks seen failures r.begun r.prepared epoch r.prepares
+    one = prepares_asks seen failures r.prepare_by r.is_prepare r.begun r.prepared epoch r.prepares
 
     first : StepsSo seen failures true (way_of r.begun.wire) (way_of one.mid.1) reached.sent
-    first = leads_on seen failures (at r.begun) one.mid (requests.Call calls.PrepareBegin) one.reply (record { named = tt; met = λ names. tt }) one.begins reached.sent reached.covers reached.moment
+    first = begun_leads seen failures (at r.begun) one.mid (requests.Call calls.PrepareBegin) (record { named = tt; met = λ names. tt }) one.begins reached.sent reached.covers reached.moment
 
     mine_one : IsClientOf config one.mid.0
-    mine_one = still_mine seen failures config (at r.begun) one.mid (requests.Call calls.PrepareBegin) one.reply r.client one.begins
+    mine_one = begun_mine seen failures config (at r.begun) one.mid (requests.Call calls.PrepareBegin) r.client one.begins
 
     prepared : IsCarried seen failures the_client (way_of one.mid.1) first.after calls.PrepareCommit (said.Epoch epoch) (way_of r.prepared.wire)
     prepared = carried_on config first.after one.mid (at r.prepared) calls.PrepareCommit (said.Epoch epoch) mine_one first.covers first.moment (record { named = tt; met = λ names. tt }) one.commits
@@ -103,13 +103,13 @@ module _ {D : Type 0} (seen : D → List ℕ) (failures : D → ℕ) where
     -- ---- a rollback, and what is read behind it
 
     two : BeginsAndCommits (Carries_at seen failures) (requests.Call calls.RollbackBegin) (requests.Call calls.RollbackCommit) (at r.later) next (at r.back)
-    two = rolls_asks seen failures r.later r.back next r.rolls
+    two = rolls_asks seen failures r.roll_by r.is_rollback r.later r.back next r.rolls
 
     second : StepsSo seen failures true (way_of r.later.wire) (way_of two.mid.1) lines_on.after
-    second = leads_on seen failures (at r.later) two.mid (requests.Call calls.RollbackBegin) two.reply (record { named = tt; met = λ names. tt }) two.begins lines_on.after lines_on.covers lines_on.moment
+    second = begun_leads seen failures (at r.later) two.mid (requests.Call calls.RollbackBegin) (record { named = tt; met = λ names. tt }) two.begins lines_on.after lines_on.covers lines_on.moment
 
     mine_two : IsClientOf config two.mid.0
-    mine_two = still_mine seen failures config (at r.later) two.mid (requests.Call calls.RollbackBegin) two.reply mine_later two.begins
+    mine_two = begun_mine seen failures config (at r.later) two.mid (requests.Call calls.RollbackBegin) mine_later two.begins
 
     back : IsCarried seen failures the_client (way_of two.mid.1) second.after calls.RollbackCommit (said.Epoch next) (way_of r.back.wire)
     back = carried_on config second.after two.mid (at r.back) calls.RollbackCommit (said.Epoch next) mine_two second.covers second.moment (record { named = tt; met = λ names. tt }) two.commits
@@ -163,9 +163,12 @@ module _ {D : Type 0} (seen : D → List ℕ) (failures : D → ℕ) where
     only_at : (world : History D) → Ran seen failures start world → IsOnly the_client world
     only_at world ran other n there = only_one world.nodes.clients ((run_same seen failures unarmed ran.steps start world ran.runs).clients ∙ ap (λ (k : Nodes D). length k.clients) reached.reached.begins.nodes) other n there
 
+    epoch_small : EpochsAreNumbers seen failures config 1 disks → IsNumber epoch
+    epoch_small numbers = numbers the_client calls.PrepareCommit epoch r.new (omega arith) start (history first.after (way_of one.mid.1)) prepared.mid to_old.steps reached.reached.begins to_old.runs to_old.within refl prepared.has
+
     next_is : EpochsAreNumbers seen failures config 1 disks → next ≡ epoch + 1
     next_is numbers =
-        r.follows (numbers the_client calls.PrepareCommit epoch r.new (omega arith) start (history first.after (way_of one.mid.1)) prepared.mid to_old.steps reached.reached.begins to_old.runs to_old.within refl prepared.has)
+        r.follows (epoch_small numbers)
         (numbers the_client calls.RollbackCommit next r.new (omega arith) start (history second.after (way_of two.mid.1)) back.mid to_later.steps reached.reached.begins to_later.runs to_later.within refl back.has)
 
     abbrev twice : EpochsAreNumbers seen failures config 1 disks → ReadsTwice seen failures config 1 disks the_client read_one.path reading epoch had has
@@ -203,16 +206,17 @@ module _ {D : Type 0} (seen : D → List ℕ) (failures : D → ℕ) where
       };
     }
 
-    pub are_the_same : EpochsAreNumbers seen failures config 1 disks → ReadsComeBack seen failures config 1 disks → AreTheSame seen failures config disks text asks epoch had has r.last
+    pub are_the_same : EpochsAreNumbers seen failures config 1 disks → ReadsComeBack seen failures config 1 disks → AreTheSameWhereToldApart seen failures config disks text asks epoch had has r.last
     are_the_same numbers law = record {
+      number = epoch_small numbers;
       client = the_client;
       path = read_one.path;
       parsed = read_one.parsed;
       run = twice numbers;
       ends = refl;
-      same = λ among none apart all. law the_client read_one.path reading epoch had has (twice numbers) among none apart all;
+      same = λ run among none apart all. law the_client read_one.path reading epoch had has run among none apart all;
     }
 
 pub read_the_same : {D : Type 0} → ((path : Path) → ReadersAskSo path) → ((path : Path) → DigestersAskSo path) → ((seen : D → List ℕ) (failures : D → ℕ) (config : Config) (clients : ℕ) (disks : D × D) → EpochsAreNumbers seen failures config clients disks)
-    → ((seen : D → List ℕ) (failures : D → ℕ) (config : Config) (clients : ℕ) (disks : D × D) → ReadsComeBack seen failures config clients disks) → (seen : D → List ℕ) (failures : D → ℕ) (config : Config) (disks : D × D) → ReadTheSame seen failures config disks
+    → ((seen : D → List ℕ) (failures : D → ℕ) (config : Config) (clients : ℕ) (disks : D × D) → ReadsComeBack seen failures config clients disks) → (seen : D → List ℕ) (failures : D → ℕ) (config : Config) (disks : D × D) → ReadTheSameWhereToldApart seen failures config disks
 read_the_same readers digesters numbers law seen failures config disks path asks epoch next had has r = are_the_same seen failures readers digesters config disks path asks epoch next had has r (numbers seen failures config 1 disks) (law seen failures config 1 disks)

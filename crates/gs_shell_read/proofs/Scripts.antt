@@ -1,5 +1,5 @@
 -- What a script reads of a file right behind a prepare, and right behind its rollback.
-use Rattle.std.proofs.Common.{◌≡◌, ◌∙◌, ◌⊎◌, inl, inr, ◌++◌, ◌+◌, ℕ, List, [], ◌∷◌, Result, Ok, Err, sym, ap, subst, arith}
+use Rattle.std.proofs.Common.{◌≡◌, ◌∙◌, ◌⊎◌, inl, inr, ◌++◌, ◌+◌, ℕ, List, [], ◌∷◌, Result, Ok, Err, refl, sym, ap, subst, arith}
 use Rattle.std.specs.Prelude.{codes, decimal}
 use Rattle.gs_base.specs.Told.{IsNumber}
 use Rattle.gs_base.specs.declared.config.Config.{Config}
@@ -28,8 +28,8 @@ use Rattle.gs_world_laws.proofs.Lines.{start_reaches}
 use Rattle.gs_world_laws.specs.Meeting.{IsClientOf}
 use Rattle.gs_world_laws.specs.Within.{IsReachedWithin}
 use Rattle.gs_shell_read.proofs.Clients.{lines_mine}
-use Rattle.gs_shell_read.specs.Lines.{AreTheSame, Asks, Bytes, Digest, ReadTheSame, answer_of, line_of}
-use Rattle.gs_shell_read.specs.Scripts.{AreReadTwice, ReadTheSameUntilAReadFails, ReadTheSameUntilAWriteFails, ScriptsReadTheSame, TextsAreTheSame}
+use Rattle.gs_shell_read.specs.Lines.{AreTheSameWhereToldApart, Asks, Bytes, Digest, ReadTheSameWhereToldApart, answer_of, line_of}
+use Rattle.gs_shell_read.specs.Scripts.{AreReadTwice, ReadTheSameUntilAReadFails, ReadTheSameUntilAWriteFails, ScriptsReadTheSame, TextsAreTheSameWhereToldApart}
 use Rattle.gs_shell_read.specs.Scripts as scripts
 
 -- ---- what lines come to
@@ -70,6 +70,13 @@ module _ {D : Type 0} (seen : D → List ℕ) (failures : D → ℕ) where
         | inr refused ↦ inr refused
       ]
 
+  -- lines one after the other
+  lines_join : (first texts second more : List (List ℕ)) (old mid new : Desk D) → Lines_run seen failures old first texts mid → Lines_run seen failures mid second more new → Lines_run seen failures old (first ++ second) (texts ++ more) new
+  lines_join [] [] second more old mid new same runs = subst (λ d. Lines_run seen failures d second more new) same runs
+  lines_join (line ∷ first) (text ∷ texts) second more old mid new (next, one, rest) runs = (next, one, lines_join first texts second more next mid new rest runs)
+  lines_join [] (text ∷ texts) second more old mid new never runs = absurd never
+  lines_join (line ∷ first) [] second more old mid new never runs = absurd never
+
   -- what was read, as its text tells it
   record WasRead (path : List ℕ) (asks : Asks) (text : List ℕ) (old new : Desk D) : Type 0 where
     bytes : List ℕ
@@ -88,43 +95,52 @@ module _ {D : Type 0} (seen : D → List ℕ) (failures : D → ℕ) where
 
   -- ---- a script
 
-  module _ (config : Config) (disks : D × D) (law : ReadTheSame seen failures config disks) (new : standing (seen disks.0) (seen disks.1) ≡ fresh) (ended : Desk D) (all texts : List (List ℕ)) (path : List ℕ) (asks : Asks) (epoch : ℕ) (had has : List ℕ)
+  module _ (config : Config) (disks : D × D) (law : ReadTheSameWhereToldApart seen failures config disks) (new : standing (seen disks.0) (seen disks.1) ≡ fresh) (ended : Desk D) (all texts : List (List ℕ)) (path : List ℕ) (asks : Asks) (epoch : ℕ) (had has : List ℕ)
       (q : AreReadTwice all texts path asks epoch had has) where
     lower : (k : ℕ) → IsNumber (k + 1) → IsNumber k
     lower k small = omega arith
 
+    abbrev up_to : List (List ℕ)
+    up_to = q.prepare ∷ q.read ∷ (q.between ++ q.rollback ∷ q.again ∷ [])
+
+    abbrev texts_up_to : List (List ℕ)
+    texts_up_to = (codes "ok " ++ decimal epoch) ∷ had ∷ (q.texts_between ++ (codes "ok " ++ decimal (epoch + 1)) ∷ has ∷ [])
+
     -- both texts tell what was read
-    texts_so : (number : ℕ) (one two : List ℕ) (last : Desk D) → Lines_run seen failures last q.behind q.texts_behind ended → had ≡ answer_text (Ok (answer_of asks one)) → has ≡ answer_text (Ok (answer_of asks two)) → AreTheSame seen failures config disks path asks number one two last → TextsAreTheSame seen failures config disks path asks had has q.behind q.texts_behind ended
-    texts_so number one two last rest was is a = record {
+    texts_so : (start_of last : Desk D) (one two : List ℕ) → Lines_run seen failures start_of (q.before ++ up_to) (q.texts_before ++ texts_up_to) last → Lines_run seen failures last q.behind q.texts_behind ended → had ≡ answer_text (Ok (answer_of asks one)) → has ≡ answer_text (Ok (answer_of asks two))
+        → AreTheSameWhereToldApart seen failures config disks path asks epoch one two last → TextsAreTheSameWhereToldApart seen failures config disks all texts path asks epoch had has q start_of ended
+    texts_so start_of last one two led rest was is a = record {
       client = a.client;
       path = a.path;
       parsed = a.parsed;
-      epoch = number;
       first = one;
       was = was;
       second = two;
       is = is;
       last = last;
+      led = led;
       rest = rest;
       run = a.run;
       ends = a.ends;
-      same = λ among none apart blocks. is ∙ ap (λ (bytes : List ℕ). answer_text (Ok (answer_of asks bytes))) (a.same among none apart blocks) ∙ sym was;
+      same = λ run among none apart blocks. is ∙ ap (λ (bytes : List ℕ). answer_text (Ok (answer_of asks bytes))) (a.same run among none apart blocks) ∙ sym was;
     }
 
-    by_second : (start mid read_at later : Desk D) → IsReachedWithin seen failures config disks start → IsClientOf config start.caller.client → Line_answered seen failures start q.prepare (codes "ok " ++ decimal epoch) mid → Line_answered seen failures mid q.read had read_at
-        → Lines_run seen failures read_at q.between q.texts_between later → Lines_run seen failures later (q.rollback ∷ q.again ∷ q.behind) ((codes "ok " ++ decimal (epoch + 1)) ∷ has ∷ q.texts_behind) ended → TextsAreTheSame seen failures config disks path asks had has q.behind q.texts_behind ended
-    by_second start mid read_at later reached_there mine a b lines_between (back, c, (last, e, rest)) =
+    by_second : (start_of start mid read_at later : Desk D) → Lines_run seen failures start_of q.before q.texts_before start → IsReachedWithin seen failures config disks start → IsClientOf config start.caller.client → Line_answered seen failures start q.prepare (codes "ok " ++ decimal epoch) mid
+        → Line_answered seen failures mid q.read had read_at → Lines_run seen failures read_at q.between q.texts_between later → Lines_run seen failures later (q.rollback ∷ q.again ∷ q.behind) ((codes "ok " ++ decimal (epoch + 1)) ∷ has ∷ q.texts_behind) ended
+        → TextsAreTheSameWhereToldApart seen failures config disks all texts path asks epoch had has q start_of ended
+    by_second start_of start mid read_at later led reached_there mine a b lines_between (back, c, (last, e, rest)) =
         let one = was_read path asks q.read had mid read_at q.reads q.was b in
         let two = was_read path asks q.again has back last q.repeats q.is e in
-        let first = prepared seen failures q.prepare epoch start mid q.prepares a in
-        let next = rolled seen failures q.rollback (epoch + 1) later back q.rolls c in
-        texts_so first.number one.bytes two.bytes last rest one.is two.is
-        (law path asks first.number next.number one.bytes two.bytes (record {
+        let first = prepared seen failures q.prepare_by q.is_prepare q.prepare epoch start mid q.prepares a in
+        let next = rolled seen failures q.roll_by q.is_rollback q.rollback (epoch + 1) later back q.rolls c in
+        let found = law path asks first.number next.number one.bytes two.bytes (record {
           new = new;
           follows = λ small high. same_numbers next.number (epoch + 1) high q.small next.digits ∙ ap (λ k. k + 1) (sym (same_numbers first.number epoch small (lower epoch q.small) first.digits));
           begun = start;
           reached = reached_there;
           client = mine;
+          prepare_by = q.prepare_by;
+          is_prepare = q.is_prepare;
           prepared = mid;
           prepares = first.comes;
           read = read_at;
@@ -134,28 +150,34 @@ module _ {D : Type 0} (seen : D → List ℕ) (failures : D → ℕ) where
           later = later;
           passes = lines_between;
           back = back;
+          roll_by = q.roll_by;
+          is_rollback = q.is_rollback;
           rolls = next.comes;
           last = last;
           again = two.comes;
-        }))
+        }) in
+        let all_led = lines_join q.before q.texts_before up_to texts_up_to start_of start last led (mid, a, (read_at, b, lines_join q.between q.texts_between (q.rollback ∷ q.again ∷ []) ((codes "ok " ++ decimal (epoch + 1)) ∷ has ∷ []) read_at later last lines_between (back, c, (last, e, refl)))) in
+        texts_so start_of last one.bytes two.bytes all_led rest one.is two.is
+        (subst (λ k. AreTheSameWhereToldApart seen failures config disks path asks k one.bytes two.bytes last) (same_numbers first.number epoch found.number (lower epoch q.small) first.digits) found)
 
-    by_first : (start : Desk D) → IsReachedWithin seen failures config disks start → IsClientOf config start.caller.client
-        → Lines_run seen failures start (q.prepare ∷ q.read ∷ (q.between ++ q.rollback ∷ q.again ∷ q.behind)) ((codes "ok " ++ decimal epoch) ∷ had ∷ (q.texts_between ++ (codes "ok " ++ decimal (epoch + 1)) ∷ has ∷ q.texts_behind)) ended → TextsAreTheSame seen failures config disks path asks had has q.behind q.texts_behind ended
-    by_first start reached_there mine (mid, a, (read_at, b, rest)) =
+    by_first : (start_of start : Desk D) → Lines_run seen failures start_of q.before q.texts_before start → IsReachedWithin seen failures config disks start → IsClientOf config start.caller.client
+        → Lines_run seen failures start (q.prepare ∷ q.read ∷ (q.between ++ q.rollback ∷ q.again ∷ q.behind)) ((codes "ok " ++ decimal epoch) ∷ had ∷ (q.texts_between ++ (codes "ok " ++ decimal (epoch + 1)) ∷ has ∷ q.texts_behind)) ended
+        → TextsAreTheSameWhereToldApart seen failures config disks all texts path asks epoch had has q start_of ended
+    by_first start_of start led reached_there mine (mid, a, (read_at, b, rest)) =
         let second = split seen failures q.between q.texts_between (q.rollback ∷ q.again ∷ q.behind) ((codes "ok " ++ decimal (epoch + 1)) ∷ has ∷ q.texts_behind) read_at ended q.long_between rest in
-        by_second start mid read_at second.0 reached_there mine a b second.1 second.2
+        by_second start_of start mid read_at second.0 led reached_there mine a b second.1 second.2
 
-    same_texts : (begun : Desk D) → IsReachedWithin seen failures config disks begun → IsClientOf config begun.caller.client → Lines_run seen failures begun all texts ended → TextsAreTheSame seen failures config disks path asks had has q.behind q.texts_behind ended
+    same_texts : (begun : Desk D) → IsReachedWithin seen failures config disks begun → IsClientOf config begun.caller.client → Lines_run seen failures begun all texts ended → TextsAreTheSameWhereToldApart seen failures config disks all texts path asks epoch had has q begun ended
     same_texts begun reached_there mine runs =
         let lined = subst (λ ls. Lines_run seen failures begun ls texts ended) q.lines_are runs in
         let told = subst (λ ts. Lines_run seen failures begun (q.before ++ q.prepare ∷ q.read ∷ (q.between ++ q.rollback ∷ q.again ∷ q.behind)) ts ended) q.texts_are lined in
         let first = split seen failures q.before q.texts_before (q.prepare ∷ q.read ∷ (q.between ++ q.rollback ∷ q.again ∷ q.behind)) ((codes "ok " ++ decimal epoch) ∷ had ∷ (q.texts_between ++ (codes "ok " ++ decimal (epoch + 1)) ∷ has ∷ q.texts_behind)) begun ended q.long_before told in
-        by_first first.0 (reached seen failures config disks q.before q.texts_before begun first.0 first.1 reached_there) (lines_mine seen failures config q.before q.texts_before begun first.0 first.1 mine) first.2
+        by_first begun first.0 first.1 (reached seen failures config disks q.before q.texts_before begun first.0 first.1 reached_there) (lines_mine seen failures config q.before q.texts_before begun first.0 first.1 mine) first.2
 
-module _ {D : Type 0} (law : (seen : D → List ℕ) (failures : D → ℕ) (config : Config) (disks : D × D) → ReadTheSame seen failures config disks) where
+module _ {D : Type 0} (law : (seen : D → List ℕ) (failures : D → ℕ) (config : Config) (disks : D × D) → ReadTheSameWhereToldApart seen failures config disks) where
   -- lines that are answered one after the other from a store's beginning on
   from_start : (seen : D → List ℕ) (failures : D → ℕ) (config : Config) (disks : D × D) → standing (seen disks.0) (seen disks.1) ≡ fresh → (begun ended : Desk D) → Starts seen failures config disks begun → (all texts : List (List ℕ)) → Lines_run seen failures begun all texts ended
-      → scripts.ReadTheSame seen failures config disks all texts ended
+      → scripts.ReadTheSameWhereToldApart seen failures config disks all texts begun ended
   from_start seen failures config disks standing_new begun ended starts all texts runs path asks epoch had has q =
       same_texts seen failures config disks (law seen failures config disks) standing_new ended all texts path asks epoch had has q begun (start_reaches seen failures config disks begun starts) (ap (λ c. c.last.client) starts.client, ap (λ c. c.chunk) starts.client) runs
 

@@ -17,16 +17,18 @@ use Rattle.gs_shell_calls.specs.Texts.{answer_text}
 use Rattle.gs_shell_desk.specs.Answering.{AnswersText}
 use Rattle.gs_shell_desk.specs.Ways.{way_of}
 use Rattle.gs_shell_desk.specs.declared.desk.Desk.{Desk}
-use Rattle.gs_shell_grammar.specs.Grammar.{four_words, read_line, two_words, upgrade_line}
+use Rattle.gs_shell_grammar.specs.Grammar.{Request, four_words, read_line, two_words, upgrade_line}
 use Rattle.gs_shell_grammar.specs.Grammar as lines
 use Rattle.gs_shell_grammar.specs.declared.command.Upgrade.TheVariants as upgrades
+use Rattle.gs_shell_listed.specs.Lines.{commits_prepare, commits_rollback}
 use Rattle.gs_shell_listed.specs.Scripts.{AsksFor, IsAccepted}
 use Rattle.gs_shell_read.specs.Lines.{Asks, answer_of, Bytes, line_of, reading_of}
 use Rattle.gs_shell_script.specs.Run.{AnswersLine, Runs, StopsWriting, WritesAnswers, lines_of}
 use Rattle.gs_shell_script.specs.declared.RunFault.TheVariants as fault
 use Rattle.gs_world_read.specs.Read.{AreAmongAnyhow, ReadsTwice, all_steps}
 
--- Of the lines of a script, and of their answers: `rollingUpgrade prepare` is answered by an epoch, and right behind it something is read of a file, and accepted. Behind any lines `rollingUpgrade rollback` is answered by the next epoch, and right behind it the same is read, and accepted.
+-- Of the lines of a script, and of their answers: `rollingUpgrade prepare`, or `prepare-commit`, is answered by an epoch, and right behind it something is read of a file, and accepted. Behind any lines `rollingUpgrade rollback`, or `rollback-commit`, is answered by the next epoch, and
+-- right behind it the same is read, and accepted.
 pub record AreReadTwice (all texts : List (List ℕ)) (path : List ℕ) (asks : Asks) (epoch : ℕ) (had has : List ℕ) : Type 0 where
   pub before : List (List ℕ)
   pub prepare : List ℕ
@@ -43,52 +45,57 @@ pub record AreReadTwice (all texts : List (List ℕ)) (path : List ℕ) (asks : 
   pub small : IsNumber (epoch + 1)
   pub long_before : length texts_before ≡ length before
   pub long_between : length texts_between ≡ length between
-  pub prepares : AsksFor (lines.RollingUpgrade upgrades.Prepare) prepare
+  pub prepare_by : Request
+  pub is_prepare : commits_prepare prepare_by ≡ true
+  pub prepares : AsksFor prepare_by prepare
   pub reads : AsksFor (line_of path asks) read
-  pub rolls : AsksFor (lines.RollingUpgrade upgrades.Rollback) rollback
+  pub roll_by : Request
+  pub is_rollback : commits_rollback roll_by ≡ true
+  pub rolls : AsksFor roll_by rollback
   pub repeats : AsksFor (line_of path asks) again
   pub was : IsAccepted had
   pub is : IsAccepted has
 
 module _ {D : Type 0} (seen : D → List ℕ) (failures : D → ℕ) (config : Config) (disks : D × D) where
-  -- So it goes in a run of a store that has begun over these disks, and that ends as the desk has left it which these lines have led to the end of the script: at the path that the lines name it reads twice what these texts tell. Where different blocks that its servers
-  -- may have on its steps have different digests, both texts are the same.
-  pub record TextsAreTheSame (text : List ℕ) (asks : Asks) (had has : List ℕ) (behind texts_behind : List (List ℕ)) (ended : Desk D) : Type 0 where
+  -- So it goes in a run of a store that has begun over these disks, and ends as the desk has left it which the lines up to the second reading have led to: at the path that these lines name, in that epoch, it reads twice what their texts tell. And both texts are the same, if
+  -- there is a run that goes so on whose steps different blocks that servers may have have different digests.
+  pub record TextsAreTheSameWhereToldApart (all texts : List (List ℕ)) (text : List ℕ) (asks : Asks) (epoch : ℕ) (had has : List ℕ) (q : AreReadTwice all texts text asks epoch had has) (begun ended : Desk D) : Type 0 where
     pub client : ClientId
     pub path : Path
     pub parsed : parse_hidden text ≡ Ok path
-    pub epoch : ℕ
     pub first : List ℕ
     pub was : had ≡ answer_text (Ok (answer_of asks first))
     pub second : List ℕ
     pub is : has ≡ answer_text (Ok (answer_of asks second))
     pub last : Desk D
-    pub rest : Runs (AnswersText seen failures) last behind texts_behind ended
+    pub led : Runs (AnswersText seen failures) begun (q.before ++ q.prepare ∷ q.read ∷ (q.between ++ q.rollback ∷ q.again ∷ [])) (q.texts_before ++ (codes "ok " ++ decimal epoch) ∷ had ∷ (q.texts_between ++ (codes "ok " ++ decimal (epoch + 1)) ∷ has ∷ [])) last
+    pub rest : Runs (AnswersText seen failures) last q.behind q.texts_behind ended
     pub run : ReadsTwice seen failures config 1 disks client path (reading_of config.chunk asks) epoch first second
     pub ends : run.last.nodes ≡ (way_of last.wire).nodes
-    pub same : (among : List ℕ → Bool) → among [] ≡ true → TellsApart among → AreAmongAnyhow seen failures among (all_steps seen failures config 1 disks client path (reading_of config.chunk asks) epoch first second run) run.begun → has ≡ had
+    pub same : (r : ReadsTwice seen failures config 1 disks client path (reading_of config.chunk asks) epoch first second) (among : List ℕ → Bool) → among [] ≡ true → TellsApart among
+        → AreAmongAnyhow seen failures among (all_steps seen failures config 1 disks client path (reading_of config.chunk asks) epoch first second r) r.begun → has ≡ had
 
 -- ---- what is to hold
 
 -- Then it goes so.
-abbrev pub ReadTheSame : {D : Type 0} → (D → List ℕ) → (D → ℕ) → Config → D × D → List (List ℕ) → List (List ℕ) → Desk D → Type 0
-ReadTheSame seen failures config disks all texts ended = (path : List ℕ) (asks : Asks) (epoch : ℕ) (had has : List ℕ) (q : AreReadTwice all texts path asks epoch had has) → TextsAreTheSame seen failures config disks path asks had has q.behind q.texts_behind ended
+abbrev pub ReadTheSameWhereToldApart : {D : Type 0} → (D → List ℕ) → (D → ℕ) → Config → D × D → List (List ℕ) → List (List ℕ) → Desk D → Desk D → Type 0
+ReadTheSameWhereToldApart seen failures config disks all texts begun ended = (path : List ℕ) (asks : Asks) (epoch : ℕ) (had has : List ℕ) (q : AreReadTwice all texts path asks epoch had has) → TextsAreTheSameWhereToldApart seen failures config disks all texts path asks epoch had has q begun ended
 
 -- So it is of every script over disks that said nothing: whatever lines come before, between and behind, lines that damage blocks among them, and whatever disks fail.
 abbrev pub ScriptsReadTheSame : Type 0 → Type 0
 ScriptsReadTheSame D = (seen : D → List ℕ) (failures : D → ℕ) (config : Config) (disks : D × D) (input : List ℕ) (old new : Option (List ℕ)) (s : Serves seen failures config disks input old new) → standing (seen disks.0) (seen disks.1) ≡ fresh
-    → ReadTheSame seen failures config disks (lines_of input) s.writes.texts s.ended
+    → ReadTheSameWhereToldApart seen failures config disks (lines_of input) s.writes.texts s.begun s.ended
 
 -- So it is where a read of the script fails, in those of its lines that were read and answered before.
 abbrev pub ReadTheSameUntilAReadFails : Type 0 → Type 0
 ReadTheSameUntilAReadFails D = (seen : D → List ℕ) (failures : D → ℕ) (config : Config) (disks : D × D) (input : List ℕ) (left old new : Option (List ℕ)) (s : StopsServing seen failures config disks fault.Read (Some input) left old new)
-    → standing (seen disks.0) (seen disks.1) ≡ fresh → ReadTheSame seen failures config disks s.fails.lines s.fails.written.texts s.ended
+    → standing (seen disks.0) (seen disks.1) ≡ fresh → ReadTheSameWhereToldApart seen failures config disks s.fails.lines s.fails.written.texts s.begun s.ended
 
 -- And where a write of an answer fails, in the lines whose answers were written before, and in these with the line of that answer, which is made though no more than a beginning of it is written.
 abbrev pub ReadTheSameUntilAWriteFails : Type 0 → Type 0
 ReadTheSameUntilAWriteFails D = (seen : D → List ℕ) (failures : D → ℕ) (config : Config) (disks : D × D) (input : List ℕ) (left old new : Option (List ℕ)) (s : StopsServing seen failures config disks fault.Write (Some input) left old new)
-    → standing (seen disks.0) (seen disks.1) ≡ fresh → ReadTheSame seen failures config disks s.fails.lines s.fails.written.texts s.fails.before
-    × ReadTheSame seen failures config disks (s.fails.lines ++ s.fails.line ∷ []) (s.fails.written.texts ++ s.fails.text ∷ []) s.ended
+    → standing (seen disks.0) (seen disks.1) ≡ fresh → ReadTheSameWhereToldApart seen failures config disks s.fails.lines s.fails.written.texts s.begun s.fails.before
+    × ReadTheSameWhereToldApart seen failures config disks (s.fails.lines ++ s.fails.line ∷ []) (s.fails.written.texts ++ s.fails.text ∷ []) s.begun s.ended
 
 -- ---- examples: a script of four lines that is answered so
 
@@ -120,8 +127,12 @@ it_is_such_a_script had has was is = record {
   small = omega arith;
   long_before = refl;
   long_between = refl;
+  prepare_by = lines.RollingUpgrade upgrades.Prepare;
+  is_prepare = refl;
   prepares = refl;
   reads = refl;
+  roll_by = lines.RollingUpgrade upgrades.Rollback;
+  is_rollback = refl;
   rolls = refl;
   repeats = refl;
   was = was;

@@ -121,5 +121,5 @@ module _ {D : Type 0} (seen : D → List ℕ) (failures : D → ℕ) where
 -- ---- an example: where no step is made, the blocks are those that are there
 
 no_step_is_made : {D : Type 0} (seen : D → List ℕ) (failures : D → ℕ) (among : List ℕ → Bool) (old : History D) → AreAmong among old.nodes → AreAmongAnyhow seen failures among [] old
-no_step_is_made seen failures among old here [] behind now is runs = subst (λ (h : History D). AreAmong among h.nodes) (sym runs) here
-no_step_is_made seen failures among old here (step ∷ front) behind now is runs = absurd cc
+no_step_is_made {D = D} seen failures among old here [] behind now is runs = subst (λ (h : History D). AreAmong among h.nodes) (sym runs) here
+no_step_is_made {D = D} seen failures among old here (step ∷ front) behind now is runs = absurd cc
