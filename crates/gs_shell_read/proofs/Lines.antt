@@ -34,7 +34,7 @@ use Rattle.gs_world_laws.specs.Reached.{Covers, history, unarmed}
 use Rattle.gs_world_laws.specs.Within.{IsReachedWithin}
 use Rattle.gs_world_listed.specs.Listed.{EpochsAreNumbers}
 use Rattle.gs_world_read.specs.Read.{Reading, ReadsComeBack, ReadsTwice, reading_call}
-use Rattle.gs_shell_read.proofs.Clients.{exchanges_mine, lines_mine, still_mine}
+use Rattle.gs_shell_read.proofs.Clients.{begun_mine, exchanges_mine, lines_mine, still_mine}
 use Rattle.gs_shell_read.proofs.Dialogues.{LineReads, line_reads}
 use Rattle.gs_shell_read.proofs.Exchanges.{ExchangesOn, exchanges_on, reader_asks}
 use Rattle.gs_shell_read.proofs.Running.{Ran, answered_ran, exchanged_ran, looked_ran, then_ran}
