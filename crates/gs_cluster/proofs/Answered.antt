@@ -27,7 +27,7 @@ use Rattle.gs_cluster_history.specs.declared.took.Took.TheVariants.{Heard, Did}
 use Rattle.gs_cluster_node.specs.Nodes.{Stepped, last_clock}
 use Rattle.gs_cluster.proofs.Lists.{at_before, at_behind, at_last}
 use Rattle.gs_cluster.specs.Answered.{Answered, IsBrought, Question, Source, brought, client_of, is_own}
-use Rattle.gs_cluster.specs.Calling.{Carries, HearsAll, HearsThem, Replied, asking, reply_of}
+use Rattle.gs_cluster.specs.Calling.{Carries, HearsAll, HearsThem, Replied, asking, reply_of, takes_memory}
 
 -- ---- one message
 
@@ -279,10 +279,10 @@ module _ {D : Type 0} (seen : D → List ℕ) (failures : D → ℕ) where
       question : Question moment req request old reply new (step.entry ∷ h.more) h.more
       question = record { entry = step.entry; asked = step.of; first = refl }
 
-      by_copy : (came : Reply) → reply_of new.past.core ≡ Some came → (reply ≡ came) ⊎ (reply ≡ replies.Refused refusals.Memory) → Source moment req request old reply new (step.entry ∷ h.more)
+      by_copy : (came : Reply) → reply_of new.past.core ≡ Some came → (reply ≡ came) ⊎ ((reply ≡ replies.Refused refusals.Memory) × (takes_memory came ≡ true)) → Source moment req request old reply new (step.entry ∷ h.more)
       by_copy came has copy = elim copy [
         | inl is ↦ Source.Message h.more question (subst (λ r. IsBrought h.more (client_of old.past.core) req.number r) (sym is) (from_has came has))
-        | inr lacks ↦ Source.NoCopy came h.more question (from_has came has) lacks
+        | inr lacks ↦ Source.NoCopy came h.more question (from_has came has) lacks.1 lacks.0
       ]
 
       by_end : Replied new.past.core (Some reply) ⊎ ((reply ≡ replies.Refused refusals.Exhausted) × (new.past.clock ≡ last_clock)) → Source moment req request old reply new (step.entry ∷ h.more)

@@ -1,5 +1,5 @@
 -- What a caller hears, one message after the other, and what comes of what it asks.
-use Rattle.std.proofs.Common.{◌≡◌, ◌∙◌, ◌<◌, ◌++◌, ℕ, List, [], ◌∷◌, Option, Some, None, Result, Ok, Err, refl, ap, subst, sym, inl, inr, arith}
+use Rattle.std.proofs.Common.{◌≡◌, ◌∙◌, ◌<◌, ◌++◌, ℕ, true, List, [], ◌∷◌, Option, Some, None, Result, Ok, Err, refl, ap, subst, sym, inl, inr, arith}
 use Rattle.gs_base.specs.declared.numbers.Moment.{Moment}
 use Rattle.gs_base.specs.declared.numbers.ReqId.{ReqId}
 use Rattle.gs_base.specs.declared.refusal.Refusal.{Refusal}
@@ -15,7 +15,7 @@ use Rattle.gs_cluster_core.specs.declared.role.Role.TheVariants.{Client}
 use Rattle.gs_cluster_history.specs.Histories.{Kept}
 use Rattle.gs_cluster_history.specs.declared.took.Took.TheVariants.{Heard}
 use Rattle.gs_cluster_node.specs.Nodes.{Receives, Stepped, Steps}
-use Rattle.gs_cluster.specs.Calling.{Asked, Carries, Exhausted, HearsAll, HearsThem, Refused, Replied, Stray, asking, reply_of}
+use Rattle.gs_cluster.specs.Calling.{Asked, Carries, Exhausted, HearsAll, HearsThem, Refused, Replied, Stray, asking, reply_of, takes_memory}
 use Rattle.gs_cluster.specs.inner.Looking.{Looks, most_looks}
 use Rattle.gs_cluster.proofs.Refused.{receives_not, steps_not}
 
@@ -96,6 +96,15 @@ module _ {D : Type 0} (seen : D → List ℕ) (failures : D → ℕ) where
         | inr other ↦ Stray r.0 other.1 (ap replies.Refused other.0)
       ]
 
--- what came, or want of memory for its copy
-pub no_copy : {D : Type 0} (role : Role D) (node : Node) (came : Reply) → role ≡ Client node → node.reply ≡ Some came → Replied role (Some (replies.Refused refusals.Memory))
-no_copy role node came is has = (came, ap reply_of is ∙ has, inr refl)
+-- what came, which is an outcome, or want of memory for the copy of what isn't
+pub outcome_copied : {D : Type 0} (role : Role D) (node : Node) (came : Reply) (outcome : _) → role ≡ Client node → node.reply ≡ Some came → came ≡ replies.Outcome outcome
+    → Replied role (Some (replies.Outcome outcome))
+outcome_copied role node came outcome is has so = (came, ap reply_of is ∙ has, inl (sym so))
+
+no_outcome : (reply : Reply) → ((outcome : _) → reply ≡ replies.Outcome outcome → ⊥) → takes_memory reply ≡ true
+no_outcome (replies.Outcome outcome) other = absurd (other outcome refl)
+no_outcome reply other = refl
+
+pub no_copy : {D : Type 0} (role : Role D) (node : Node) (came : Reply) → role ≡ Client node → node.reply ≡ Some came → ((outcome : _) → came ≡ replies.Outcome outcome → ⊥)
+    → Replied role (Some (replies.Refused refusals.Memory))
+no_copy role node came is has other = (came, ap reply_of is ∙ has, inr (refl, no_outcome came other))

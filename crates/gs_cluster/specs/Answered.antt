@@ -18,7 +18,7 @@ use Rattle.gs_cluster_core.specs.declared.role.Role.TheVariants.{Client}
 use Rattle.gs_cluster_history.specs.Histories.{Among, Entry, Kept, doer}
 use Rattle.gs_cluster_history.specs.declared.took.Took.TheVariants.{Heard, Did}
 use Rattle.gs_cluster_node.specs.Nodes.{last_clock}
-use Rattle.gs_cluster.specs.Calling.{asking}
+use Rattle.gs_cluster.specs.Calling.{asking, takes_memory}
 
 -- which request a message answers, and with what; of what no client is sent none
 abbrev pub brought : Body → Option (ReqId × Reply)
@@ -62,7 +62,7 @@ module _ {D : Type 0} (moment : Moment) (req : ReqId) (request : Request) (old :
     -- a message brings it
     Message : (heard : List Entry) → Question took heard → IsBrought heard (client_of old.past.core) req.number reply → Source took
     -- a message brings one, and memory is wanting for its copy
-    NoCopy : (came : Reply) (heard : List Entry) → Question took heard → IsBrought heard (client_of old.past.core) req.number came → reply ≡ replies.Refused refusals.Memory → Source took
+    NoCopy : (came : Reply) (heard : List Entry) → Question took heard → IsBrought heard (client_of old.past.core) req.number came → takes_memory came ≡ true → reply ≡ replies.Refused refusals.Memory → Source took
     -- what it asks is refused at its own node, of which the history tells; nothing is heard
     Own : (refusal : Refusal) (question : Question took []) → question.entry.outcome ≡ Err refusal → is_own refusal ≡ true → reply ≡ replies.Refused refusal → Source took
     -- its clock is at its last value

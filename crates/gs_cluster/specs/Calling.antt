@@ -1,5 +1,5 @@
 -- What a request of a caller comes to.
-use Rattle.std.specs.Prelude.{◌≡◌, ◌⊎◌, ◌+◌, ◌++◌, ℕ, zero, suc, List, [], ◌∷◌, Option, Some, None, Result, Ok, Err}
+use Rattle.std.specs.Prelude.{◌≡◌, ◌⊎◌, ◌+◌, ◌++◌, ℕ, zero, suc, Bool, true, false, List, [], ◌∷◌, Option, Some, None, Result, Ok, Err}
 use Rattle.gs_base.specs.declared.numbers.Moment.{Moment}
 use Rattle.gs_base.specs.declared.numbers.ReqId.{ReqId}
 use Rattle.gs_base.specs.declared.refusal.Refusal.{Refusal}
@@ -24,10 +24,15 @@ abbrev pub reply_of : {D : Type 0} → Role D → Option Reply
 reply_of (Client node) = node.reply
 reply_of role = None
 
+-- A copy of it takes memory: of all but an edit's outcome.
+abbrev pub takes_memory : Reply → Bool
+takes_memory (replies.Outcome outcome) = false
+takes_memory reply = true
+
 -- it is given, or memory is wanting for its copy
 abbrev pub Replied : {D : Type 0} → Role D → Option Reply → Type 0
 Replied role None = reply_of role ≡ None
-Replied role (Some reply) = (came : Reply) × (reply_of role ≡ Some came) × ((reply ≡ came) ⊎ (reply ≡ replies.Refused refusals.Memory))
+Replied role (Some reply) = (came : Reply) × (reply_of role ≡ Some came) × ((reply ≡ came) ⊎ ((reply ≡ replies.Refused refusals.Memory) × (takes_memory came ≡ true)))
 
 abbrev pub asking : Moment → ReqId → Request → Event
 asking moment req request = record { moment = moment; happening = happenings.Ask req request }

@@ -24,14 +24,18 @@ pub struct Caller<N: Plan, D: Disk + Drop, R: Wait + Clock + Drop> {
     pub(crate) moment: Moment,
 }
 
-/// A copy of what came back, if something did.
+/// A copy of what came back, if something did. That of an edit's outcome takes no memory.
 fn reply_at<D: Disk + Drop>(alloc: Global, role: &Role<D>) -> Option<Reply>
     ensures { Replied role.now result }
 {
     let Role::Client(client) = role else {
         return None;
     };
-    match client.reply()?.copy(alloc) {
+    let reply = client.reply()?;
+    if let Reply::Outcome(outcome) = reply {
+        return Some(Reply::Outcome(*outcome));
+    }
+    match reply.copy(alloc) {
         Ok(reply) => Some(reply),
         Err(_) => Some(Reply::Refused(Refusal::Memory)),
     }

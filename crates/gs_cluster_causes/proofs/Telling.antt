@@ -21,7 +21,7 @@ use Rattle.gs_client.specs.declared.link.Reply.TheVariants as replies
 use Rattle.gs_cluster.proofs.Answered.{answered_by, more_brought, then_brought}
 use Rattle.gs_cluster.proofs.Lists.{at_before, at_behind}
 use Rattle.gs_cluster.specs.Answered.{Answered, IsBrought, Question, Source, brought, client_of, is_own}
-use Rattle.gs_cluster.specs.Calling.{Carries}
+use Rattle.gs_cluster.specs.Calling.{Carries, takes_memory}
 use Rattle.gs_cluster_core.specs.declared.role.Role.{Role}
 use Rattle.gs_cluster_history.specs.Histories.{Among, Entry, Kept}
 use Rattle.gs_call_causes.specs.Carried.{Carried, Explained, Explains}
@@ -66,14 +66,14 @@ module _ (took more : List Entry) where
   unsure_before client (UnsureOf.NoMemory request may told) = UnsureOf.NoMemory request may (told_before client request (replies.Refused refusals.Memory) told)
   unsure_before client (UnsureOf.NoDisk request may told) = UnsureOf.NoDisk request may (told_before client request (replies.Refused refusals.Device) told)
   unsure_before client (UnsureOf.NoRoom request may asks told) = UnsureOf.NoRoom request may (asked_before request asks) told
-  unsure_before client (UnsureOf.NoCopy request came may told) = UnsureOf.NoCopy request came may (told_before client request came told)
+  unsure_before client (UnsureOf.NoCopy request came may told takes) = UnsureOf.NoCopy request came may (told_before client request came told) takes
 
   unsure_behind : (client : Option ClientId) → UnsureOf client more → UnsureOf client (took ++ more)
   unsure_behind client (UnsureOf.Refused request told) = UnsureOf.Refused request (told_behind client request (replies.Refused refusals.Unsure) told)
   unsure_behind client (UnsureOf.NoMemory request may told) = UnsureOf.NoMemory request may (told_behind client request (replies.Refused refusals.Memory) told)
   unsure_behind client (UnsureOf.NoDisk request may told) = UnsureOf.NoDisk request may (told_behind client request (replies.Refused refusals.Device) told)
   unsure_behind client (UnsureOf.NoRoom request may asks told) = UnsureOf.NoRoom request may (asked_behind request asks) told
-  unsure_behind client (UnsureOf.NoCopy request came may told) = UnsureOf.NoCopy request came may (told_behind client request came told)
+  unsure_behind client (UnsureOf.NoCopy request came may told takes) = UnsureOf.NoCopy request came may (told_behind client request came told) takes
 
 -- ---- what a message brings
 
@@ -111,7 +111,7 @@ never_lost body req is = differ (ap brings_nothing is)
 -- what is known of a reply, where a history took this
 data Told (took : List Entry) (client : Option ClientId) (request : Request) (reply : Reply) : Type 0 where
   ByMessage : IsTold took client request reply → Told took client request reply
-  ByCopy : (came : Reply) → IsTold took client request came → reply ≡ replies.Refused refusals.Memory → Told took client request reply
+  ByCopy : (came : Reply) → IsTold took client request came → takes_memory came ≡ true → reply ≡ replies.Refused refusals.Memory → Told took client request reply
   ByOwn : (refusal : Refusal) (asks : IsAsked took request) → asks.question.outcome ≡ Err refusal → is_own refusal ≡ true → reply ≡ replies.Refused refusal → Told took client request reply
   ByClock : reply ≡ replies.Refused refusals.Exhausted → Told took client request reply
   ByStranger : reply ≡ replies.Refused refusals.Stray → Told took client request reply
@@ -153,7 +153,7 @@ module _ {D : Type 0} (seen : D → List ℕ) (failures : D → ℕ) where
 
       by_source : Source moment req request old reply new a.took → Told a.took (client_of old.past.core) request reply
       by_source (Source.Message heard q b) = ByMessage (told_of a.took heard reply q b)
-      by_source (Source.NoCopy came heard q b lacks) = ByCopy came (told_of a.took heard came q b) lacks
+      by_source (Source.NoCopy came heard q b takes lacks) = ByCopy came (told_of a.took heard came q b) takes lacks
       by_source (Source.Own refusal q told own is) = ByOwn refusal (record { moment = moment; req = req; question = q.entry; among = first a.took [] q; asked = q.asked }) told own is
       by_source (Source.Exhausted last is) = ByClock is
       by_source (Source.Stray none other is) = ByStranger is
@@ -162,7 +162,7 @@ module _ {D : Type 0} (seen : D → List ℕ) (failures : D → ℕ) where
   by_message : (took : List Entry) (client : Option ClientId) (request : Request) (reply : Reply) (f : Refusal) → is_own f ≡ false → (f ≡ refusals.Exhausted → ⊥) → reply ≡ replies.Refused f
       → Told took client request reply → IsTold took client request (replies.Refused f)
   by_message took client request reply f other apart is (ByMessage told) = subst (λ r. IsTold took client request r) is told
-  by_message took client request reply f other apart is (ByCopy came told lacks) = not_own f refusals.Memory other refl (refused_is (sym is ∙ lacks))
+  by_message took client request reply f other apart is (ByCopy came told takes lacks) = not_own f refusals.Memory other refl (refused_is (sym is ∙ lacks))
   by_message took client request reply f other apart is (ByOwn refusal asks told own so) = not_own f refusal other own (refused_is (sym is ∙ so))
   by_message took client request reply f other apart is (ByClock so) = absurd (apart (refused_is (sym is ∙ so)))
   by_message took client request reply f other apart is (ByStranger so) = not_own f refusals.Stray other refl (refused_is (sym is ∙ so))
@@ -170,7 +170,7 @@ module _ {D : Type 0} (seen : D → List ℕ) (failures : D → ℕ) where
   -- so was what is no refusal
   brought_so : (took : List Entry) (client : Option ClientId) (request : Request) (reply : Reply) → is_refused reply ≡ false → Told took client request reply → IsTold took client request reply
   brought_so took client request reply other (ByMessage told) = told
-  brought_so took client request reply other (ByCopy came told lacks) = differ (sym other ∙ ap is_refused lacks)
+  brought_so took client request reply other (ByCopy came told takes lacks) = differ (sym other ∙ ap is_refused lacks)
   brought_so took client request reply other (ByOwn refusal asks told own so) = differ (sym other ∙ ap is_refused so)
   brought_so took client request reply other (ByClock so) = differ (sym other ∙ ap is_refused so)
   brought_so took client request reply other (ByStranger so) = differ (sym other ∙ ap is_refused so)
@@ -185,7 +185,7 @@ module _ {D : Type 0} (seen : D → List ℕ) (failures : D → ℕ) where
 
   by_memory : (took : List Entry) (client : Option ClientId) (request : Request) (reply : Reply) → may_change request ≡ true → reply ≡ replies.Refused refusals.Memory → Told took client request reply → UnsureOf client took
   by_memory took client request reply may is (ByMessage told) = UnsureOf.NoMemory request may (subst (λ r. IsTold took client request r) is told)
-  by_memory took client request reply may is (ByCopy came told lacks) = UnsureOf.NoCopy request came may told
+  by_memory took client request reply may is (ByCopy came told takes lacks) = UnsureOf.NoCopy request came may told takes
   by_memory took client request reply may is (ByOwn refusal asks told own so) =
       UnsureOf.NoRoom request may asks (told ∙ ap (λ (f : Refusal). Err f) (refused_is (sym so ∙ is)))
   by_memory took client request reply may is (ByClock so) = apart (refused_is (sym so ∙ is))

@@ -18,7 +18,7 @@ use Rattle.gs_client.specs.Trees.{Call}
 use Rattle.gs_client.specs.declared.link.Reply.{Reply}
 use Rattle.gs_client.specs.declared.link.Reply.TheVariants as replies
 use Rattle.gs_cluster.specs.Answered.{IsBrought, brought, client_of}
-use Rattle.gs_cluster.specs.Calling.{asking}
+use Rattle.gs_cluster.specs.Calling.{asking, takes_memory}
 use Rattle.gs_cluster_core.specs.declared.role.Role.{Role}
 use Rattle.gs_cluster_history.specs.Histories.{Among, Entry, Kept}
 use Rattle.gs_cluster_history.specs.declared.took.Took.TheVariants.{Heard, Did}
@@ -56,7 +56,7 @@ pub data UnsureOf (client : Option ClientId) (took : List Entry) : Type 0 where
   -- memory of its own is wanting for such a request, which its history tells
   NoRoom : (request : Request) → may_change request ≡ true → (asks : IsAsked took request) → asks.question.outcome ≡ Err refusals.Memory → UnsureOf client took
   -- or for the copy of the reply that a message brings to it
-  NoCopy : (request : Request) (came : Reply) → may_change request ≡ true → IsTold took client request came → UnsureOf client took
+  NoCopy : (request : Request) (came : Reply) → may_change request ≡ true → IsTold took client request came → takes_memory came ≡ true → UnsureOf client took
 
 -- The history grows by what it takes in a call, and the cause is in that.
 pub record InHistory {D : Type 0} (Cause : Option ClientId → List Entry → Type 0) (old new : Kept (Role D)) : Type 0 where

@@ -20,7 +20,7 @@ use std::time::Clock;
 ///
 /// A 28 is from a message that brings that refusal, or the location of a chunk without members. A 29 is from a message that brings that refusal, or that
 /// memory or a disk was wanting for a request that may change something; or memory of the caller's own was wanting for such a request, or for the copy of
-/// its reply. Neither is from a clock or a number at its last value.
+/// its reply, where that isn't an edit's outcome. Neither is from a clock or a number at its last value.
 pub fn an_unsure_caller_has_a_cause<N: Plan, D: Disk + Drop, R: Wait + Clock + Drop>()
     ensures calls { OfEachCall (Tells (Sends (carried {N = N} {R = R} D.seen D.failures)) (λ (s : Client × Caller N D R). s.1.node)) }
     ensures edits { OfEachCall (Tells (Edits (carried {N = N} {R = R} D.seen D.failures)) (λ (s : Client × ℕ × Caller N D R). s.2.node)) }
