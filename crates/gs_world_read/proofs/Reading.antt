@@ -168,7 +168,7 @@ module _ {D : Type 0} (seen : D → List ℕ) (failures : D → ℕ) (stays : St
 
     -- ---- a request with its reply
 
-    -- behind it, where so many steps are left
+    -- behind it
     record Behind (before : Pairs) (pair : Request × Reply) (next : History D) : Type 0 where
       is : IsOf file pair.0 pair.1
       c : Account
