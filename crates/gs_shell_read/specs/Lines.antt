@@ -19,7 +19,7 @@ use Rattle.gs_shell_listed.specs.Lines.{commits_prepare, commits_rollback}
 use Rattle.gs_shell_script.specs.Run.{Runs}
 use Rattle.gs_world_laws.specs.Meeting.{IsClientOf}
 use Rattle.gs_world_laws.specs.Within.{IsReachedWithin}
-use Rattle.gs_world_read.specs.Read.{AreAmongAnyhow, Reading, ReadsTwice, all_steps}
+use Rattle.gs_world_read.specs.Read.{AreAmongThen, Reading, ReadsTwice}
 use Rattle.gs_world_read.specs.Read as readings
 
 -- what a line reads of a file: so many bytes from an offset on, or the digest of a block of one of its chunks
@@ -66,8 +66,8 @@ module _ {D : Type 0} (seen : D → List ℕ) (failures : D → ℕ) (config : C
     pub last : Desk D
     pub again : Comes seen failures (line_of path asks) back (Ok (answer_of asks has)) last
 
-  -- So it goes in a run of a store that has begun over these disks, and ends as this desk has left it: at the path that the line names, in that epoch, it reads what was answered. And both answers are the same, if there is a run that goes so on whose steps different blocks that
-  -- servers may have have different digests.
+  -- So it goes in a run of a store that has begun over these disks, and ends as this desk has left it: at the path that the line names, in that epoch, it reads what was answered. And both answers are the same, if there is a run that goes so in which different blocks that servers
+  -- have on the way have different digests.
   pub record AreTheSameWhereToldApart (text : List ℕ) (asks : Asks) (epoch : ℕ) (had has : List ℕ) (last : Desk D) : Type 0 where
     pub number : IsNumber epoch
     pub client : ClientId
@@ -76,7 +76,7 @@ module _ {D : Type 0} (seen : D → List ℕ) (failures : D → ℕ) (config : C
     pub run : ReadsTwice seen failures config 1 disks client path (reading_of config.chunk asks) epoch had has
     pub ends : run.last.nodes ≡ (way_of last.wire).nodes
     pub same : (r : ReadsTwice seen failures config 1 disks client path (reading_of config.chunk asks) epoch had has) (among : List ℕ → Bool) → among [] ≡ true → TellsApart among
-        → AreAmongAnyhow seen failures among (all_steps seen failures config 1 disks client path (reading_of config.chunk asks) epoch had has r) r.begun → has ≡ had
+        → AreAmongThen seen failures config 1 disks among client path (reading_of config.chunk asks) epoch had has r → has ≡ had
 
   -- ---- what is to hold
 

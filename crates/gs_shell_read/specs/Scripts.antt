@@ -25,7 +25,7 @@ use Rattle.gs_shell_listed.specs.Scripts.{AsksFor, IsAccepted}
 use Rattle.gs_shell_read.specs.Lines.{Asks, answer_of, Bytes, line_of, reading_of}
 use Rattle.gs_shell_script.specs.Run.{AnswersLine, Runs, StopsWriting, WritesAnswers, lines_of}
 use Rattle.gs_shell_script.specs.declared.RunFault.TheVariants as fault
-use Rattle.gs_world_read.specs.Read.{AreAmongAnyhow, ReadsTwice, all_steps}
+use Rattle.gs_world_read.specs.Read.{AreAmongThen, ReadsTwice}
 
 -- Of the lines of a script, and of their answers: `rollingUpgrade prepare`, or `prepare-commit`, is answered by an epoch, and right behind it something is read of a file, and accepted. Behind any lines `rollingUpgrade rollback`, or `rollback-commit`, is answered by the next epoch, and
 -- right behind it the same is read, and accepted.
@@ -58,7 +58,7 @@ pub record AreReadTwice (all texts : List (List ℕ)) (path : List ℕ) (asks : 
 
 module _ {D : Type 0} (seen : D → List ℕ) (failures : D → ℕ) (config : Config) (disks : D × D) where
   -- So it goes in a run of a store that has begun over these disks, and ends as the desk has left it which the lines up to the second reading have led to: at the path that these lines name, in that epoch, it reads twice what their texts tell. And both texts are the same, if
-  -- there is a run that goes so on whose steps different blocks that servers may have have different digests.
+  -- there is a run that goes so in which different blocks that servers have on the way have different digests.
   pub record TextsAreTheSameWhereToldApart (all texts : List (List ℕ)) (text : List ℕ) (asks : Asks) (epoch : ℕ) (had has : List ℕ) (q : AreReadTwice all texts text asks epoch had has) (begun ended : Desk D) : Type 0 where
     pub client : ClientId
     pub path : Path
@@ -73,7 +73,7 @@ module _ {D : Type 0} (seen : D → List ℕ) (failures : D → ℕ) (config : C
     pub run : ReadsTwice seen failures config 1 disks client path (reading_of config.chunk asks) epoch first second
     pub ends : run.last.nodes ≡ (way_of last.wire).nodes
     pub same : (r : ReadsTwice seen failures config 1 disks client path (reading_of config.chunk asks) epoch first second) (among : List ℕ → Bool) → among [] ≡ true → TellsApart among
-        → AreAmongAnyhow seen failures among (all_steps seen failures config 1 disks client path (reading_of config.chunk asks) epoch first second r) r.begun → has ≡ had
+        → AreAmongThen seen failures config 1 disks among client path (reading_of config.chunk asks) epoch first second r → has ≡ had
 
 -- ---- what is to hold
 

@@ -37,11 +37,11 @@ use Rattle.gs_nodes.specs.declared.place.MasterPlace.TheVariants.{Standing}
 use Rattle.gs_world.specs.Histories.{Happens, History}
 use Rattle.gs_world.specs.Runs.{Comes, RunsTo, StaySent, Step}
 use Rattle.gs_world.proofs.Sending.{run_stays}
-use Rattle.gs_world_asked.specs.Answered.{AnswersNow, WasAnswered}
+use Rattle.gs_world_asked.specs.Answered.{AnswersNow, GoesBy, Passes, WasAnswered}
 use Rattle.gs_world_asked.specs.Asked.{AreAsked, HasAsked, SaysOf}
 use Rattle.gs_world_asked.specs.Behind.{HasAnswer, IsOnly, asks_call, is_halt}
 use Rattle.gs_world_asked.specs.Resting.{IsLooking, IsOldOrLooks, IsStill, StandsStillAt}
-use Rattle.gs_world_asked.proofs.Answered.{answers_are_made}
+use Rattle.gs_world_asked.proofs.Answered.{answers_are_made_on_the_way}
 use Rattle.gs_world_asked.proofs.Asked.{stays_unarmed}
 use Rattle.gs_world_asked.proofs.Behind.{MadeThere, all_back, all_front, all_one_more, all_spare, halt_at_once, halt_commits, made_there, run_more, turn_is}
 use Rattle.gs_world_asked.proofs.Resting.{stays_still}
@@ -140,8 +140,15 @@ module _ {D : Type 0} (seen : D → List ℕ) (failures : D → ℕ) (armed : Di
 
   module _ (client : ClientId) (old mid : History D) (call : Call) (answer : Answer) (are : AreAsked seen old) (keeps : KeepsTypes old) (lasts : LastsThrough seen old.nodes.master) (halt : is_halt call ≡ true) (c : HasAnswer seen failures armed client old call answer mid)
       (only : IsOnly client mid) where
+    was : (made : WasAnswered seen failures armed c.steps c.asked mid c.req call answer) × GoesBy seen failures armed (λ h. Passes seen failures armed h c.steps c.asked mid c.runs) c.steps c.asked mid c.req call answer made
+    was = answers_are_made_on_the_way seen failures armed old c.asked mid c.moment c.req call c.steps c.node answer are c.asks (halt_at_once call halt) c.runs (all_spare client c.steps c.looking) (subst (λ k. client_in mid.nodes.clients k ≡ Some c.node) (sym c.own) c.there) c.last c.reply
+
     made : WasAnswered seen failures armed c.steps c.asked mid c.req call answer
-    made = answers_are_made seen failures armed old c.asked mid c.moment c.req call c.steps c.node answer are c.asks (halt_at_once call halt) c.runs (all_spare client c.steps c.looking) (subst (λ k. client_in mid.nodes.clients k ≡ Some c.node) (sym c.own) c.there) c.last c.reply
+    made = was.0
+
+    goes_by : GoesBy seen failures armed (λ h. Passes seen failures armed h c.steps c.asked mid c.runs) c.steps c.asked mid c.req call answer made
+    unfolding made
+    goes_by = was.1
 
     abbrev ask : Step
     ask = asks_call c.moment c.req call
@@ -244,6 +251,7 @@ module _ {D : Type 0} (seen : D → List ℕ) (failures : D → ℕ) (armed : Di
     pub halts : HaltsBy seen failures armed client old call answer mid c
     halts = record {
       made = made;
+      by = goes_by;
       durable = d;
       stands = record { master = its_there.after; stands = its_there.stands; sound = sound_behind made.now made.next made.event made.said made.happens c.req call answer halt here_within.0 types_now lasts_now made.answers; keeps = refl };
       begun = record { still = still_next; quiet = quiet_next; named = named_next; asked = are_next; types = types_next; lasts = lasts_at_next };

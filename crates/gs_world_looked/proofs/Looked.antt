@@ -29,10 +29,10 @@ use Rattle.gs_nodes.specs.declared.place.MasterPlace.{MasterPlace}
 use Rattle.gs_path.specs.Path.{Path}
 use Rattle.gs_world.specs.Histories.{Happens, History}
 use Rattle.gs_world.specs.Runs.{Comes, Step}
-use Rattle.gs_world_asked.specs.Answered.{AnswersNow, WasAnswered}
+use Rattle.gs_world_asked.specs.Answered.{AnswersNow, GoesBy, Passes, WasAnswered}
 use Rattle.gs_world_asked.specs.Behind.{HasAnswer, asks_call}
 use Rattle.gs_world_asked.specs.Resting.{IsLooking, IsStill, StandsStill, StandsStillAt}
-use Rattle.gs_world_asked.proofs.Answered.{answers_are_made}
+use Rattle.gs_world_asked.proofs.Answered.{answers_are_made_on_the_way}
 use Rattle.gs_world_asked.proofs.Behind.{MadeThere, all_front, all_spare, made_there}
 use Rattle.gs_world_laws.specs.Saying.{IsStepWithin}
 use Rattle.gs_world_laws.specs.Through.{LastsThrough}
@@ -143,8 +143,15 @@ module _ {D : Type 0} (seen : D → List ℕ) (failures : D → ℕ) (armed : Di
   -- ---- a client that has the answer
 
   module _ (leaves : IsUnarmed armed) (d : Durable) (client : ClientId) (number : ℕ) (start new : History D) (call : Call) (answer : Answer) (look : is_file_look call ≡ true) (h : IsHalted seen d client number start) (l : HasAnswer seen failures armed client start call answer new) where
+    was : (made : WasAnswered seen failures armed l.steps l.asked new l.req call answer) × GoesBy seen failures armed (λ h. Passes seen failures armed h l.steps l.asked new l.runs) l.steps l.asked new l.req call answer made
+    was = answers_are_made_on_the_way seen failures armed start l.asked new l.moment l.req call l.steps l.node answer h.asked l.asks (file_at_once call look) l.runs (all_spare client l.steps l.looking) (subst (λ k. client_in new.nodes.clients k ≡ Some l.node) (sym l.own) l.there) l.last l.reply
+
     made : WasAnswered seen failures armed l.steps l.asked new l.req call answer
-    made = answers_are_made seen failures armed start l.asked new l.moment l.req call l.steps l.node answer h.asked l.asks (file_at_once call look) l.runs (all_spare client l.steps l.looking) (subst (λ k. client_in new.nodes.clients k ≡ Some l.node) (sym l.own) l.there) l.last l.reply
+    made = was.0
+
+    goes_by : GoesBy seen failures armed (λ h. Passes seen failures armed h l.steps l.asked new l.runs) l.steps l.asked new l.req call answer made
+    unfolding made
+    goes_by = was.1
 
     abbrev ask : Step
     ask = asks_call l.moment l.req call
@@ -164,6 +171,7 @@ module _ {D : Type 0} (seen : D → List ℕ) (failures : D → ℕ) (armed : Di
     pub looks_halted : LooksHalted seen failures armed d client number start call answer new l
     looks_halted = record {
       made = made;
+      by = goes_by;
       met = met;
       looks = looks_by d client number made.now made.next made.event made.said made.happens l.req met.lasts met.still met.quiet call answer look made.answers;
       halted = run_halted seen failures d client number armed leaves (ask ∷ l.steps) start new (l.asked, (Ok tt, l.asks.happens), l.runs) l.within (asks_look, l.looking) h;

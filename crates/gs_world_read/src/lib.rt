@@ -13,7 +13,7 @@ use gs_world_chunks::{
 };
 
 /// A client has the answer to its commit of a prepare, and reads bytes of a file, or the digest of a block of it; later it has the answer to its commit of a rollback, in the next epoch, and reads the same of the file again. It gets the same bytes, whatever has happened
-/// between, damage, losses and restarts among it, whatever messages come, how often, and in which order, and whatever disks fail: where neither read is refused, and different blocks that servers may have on the way have different digests.
+/// between, damage, losses and restarts among it, whatever messages come, how often, and in which order, and whatever disks fail: where neither read is refused, and different blocks that servers have on the way have different digests.
 pub fn what_is_read_behind_a_rollback_is_what_was_read_behind_its_prepare<D>()
     ensures { (seen : D → List ℕ) (failures : D → ℕ) (config : Config) (clients : ℕ) (disks : D × D) → ReadsComeBack seen failures config clients disks }
 {
