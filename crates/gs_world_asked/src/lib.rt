@@ -25,6 +25,7 @@ pub fn of_each_reply_its_client_has_asked<D>()
 
 /// An answer that a client gets to a call that is answered at once was made for this very call, since the client asked: at one event, at which the call came to a standing master as new to it, and that answered so. So
 /// no answer is older than its call, whatever messages come, how often, and in which order. And each world on the way to that event, and from it on, is one that the run passes.
+/// The master isn't started again meanwhile, and no failure of a disk is arranged.
 pub fn an_answer_is_made_for_its_call<D>()
     ensures on_the_way { (seen : D → List ℕ) (failures : D → ℕ) (armed : DiskId → ℕ → MasterPlace D → MasterPlace D) → AnswersAreMadeOnTheWay seen failures armed }
     ensures made { (seen : D → List ℕ) (failures : D → ℕ) (armed : DiskId → ℕ → MasterPlace D → MasterPlace D) → AnswersAreMade seen failures armed }

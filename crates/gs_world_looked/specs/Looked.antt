@@ -25,7 +25,7 @@ use Rattle.gs_world_asked.specs.Resting.{IsStill}
 use Rattle.gs_world_laws.specs.Through.{LastsThrough}
 use Rattle.gs_world_looked.specs.Unled.{IsHalted, IsUnarmed, StaysQuiet}
 
--- the master stands on these names, in this epoch, and no rollback is begun
+-- the master stands on these names, in this epoch, in whose phase no rollback is begun
 pub record StandsBy {D : Type 0} (d : Durable) (place : MasterPlace D) : Type 0 where
   pub durable : Durable
   pub stands : StandsOn place durable
@@ -67,7 +67,7 @@ module _ {D : Type 0} (seen : D → List ℕ) (failures : D → ℕ) (armed : Di
   LooksAreByNames = (d : Durable) (client : ClientId) (number : ℕ) (now next : History D) (event : Event) (said : Result (Unit {0}) Refusal) (h : Happens seen failures armed event now said next) (req : ReqId) (call : Call) (answer : Answer) → is_file_look call ≡ true →
       LastsThrough seen now.nodes.master → IsStill d client number now → StaysQuiet seen now → AnswersNow now event h.outcome req call answer → LooksBy d now.nodes.master call answer
 
-  -- Its look-up was answered at an event of this run by these names; and where it has the answer the store is halted still.
+  -- Its look-up was answered at an event between worlds of this run, by these names; and where it has the answer the store is halted still.
   pub record LooksHalted (d : Durable) (client : ClientId) (number : ℕ) (start : History D) (call : Call) (answer : Answer) (new : History D) (l : HasAnswer seen failures armed client start call answer new) : Type 0 where
     pub made : WasAnswered seen failures armed l.steps l.asked new l.req call answer
     pub by : GoesBy seen failures armed (λ h. Passes seen failures armed h l.steps l.asked new l.runs) l.steps l.asked new l.req call answer made
