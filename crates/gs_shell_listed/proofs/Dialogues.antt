@@ -1,5 +1,5 @@
 -- Which calls are behind a line that is answered by an epoch, or by names.
-use Rattle.std.proofs.Common.{◌≡◌, ◌∙◌, inl, inr, ℕ, Bool, true, false, List, Result, Ok, Err, refl, sym, ap, subst, if◌then◌else◌}
+use Rattle.std.proofs.Common.{◌≡◌, ◌∙◌, ◌⊎◌, inl, inr, ℕ, Bool, true, false, List, Result, Ok, Err, refl, sym, ap, subst, if◌then◌else◌}
 use Rattle.gs_base.specs.declared.refusal.Refusal.{Refusal}
 use Rattle.gs_base.specs.declared.refusal.Refusal.TheVariants as refusals
 use Rattle.gs_client.specs.Replies.{changed, epoch_in, looked, names_in}
@@ -51,11 +51,10 @@ names_are : {a b : List ListedName} → ◌≡◌ {A = Result LineAnswer Refusal
 names_are is = cc
 
 module _ {S : Type 0} (carries : S → Request → Reply → S → Type 0) where
-  -- a call is carried, whatever is replied; and then the commit, to this epoch
+  -- a call is carried, whatever is replied, or none is; and then the commit, to this epoch
   pub record BeginsAndCommits (begin commit : Request) (old : S) (epoch : ℕ) (new : S) : Type 0 where
-    pub reply : Reply
     pub mid : S
-    pub begins : carries old begin reply mid
+    pub begins : ((reply : Reply) × carries old begin reply mid) ⊎ (mid ≡ old)
     pub commits : carries mid commit (replies.Answer (said.Epoch epoch)) new
 
   -- ---- a prepare
@@ -73,7 +72,7 @@ module _ {S : Type 0} (carries : S → Request → Reply → S → Type 0) where
 
   prepare_begun : (old mid new : S) (reply : Reply) (epoch : ℕ) (r : Result ℕ Refusal) → carries old (requests.Call calls.PrepareBegin) reply mid → FollowsDialogue carries (onward (λ _. upon prepare_commit_call unless_quiet) r) mid (Ok (answers.Number epoch)) new
       → BeginsAndCommits (requests.Call calls.PrepareBegin) (requests.Call calls.PrepareCommit) old epoch new
-  prepare_begun old mid new reply epoch (Ok other) begun (second, next, carried, rest) = record { reply = reply; mid = mid; begins = begun; commits = prepare_committed mid next new second epoch (and_then epoch_in (changed second)) refl carried rest }
+  prepare_begun old mid new reply epoch (Ok other) begun (second, next, carried, rest) = record { mid = mid; begins = inl (reply, begun); commits = prepare_committed mid next new second epoch (and_then epoch_in (changed second)) refl carried rest }
   prepare_begun old mid new reply epoch (Err refusal) begun (is, same) = never refusal (answers.Number epoch) is
 
   pub prepare_asks : (old new : S) (epoch : ℕ) → FollowsDialogue carries prepare_line old (Ok (answers.Number epoch)) new → BeginsAndCommits (requests.Call calls.PrepareBegin) (requests.Call calls.PrepareCommit) old epoch new
@@ -81,20 +80,27 @@ module _ {S : Type 0} (carries : S → Request → Reply → S → Type 0) where
 
   -- ---- a rollback
 
-  rollback_committed : (old mid new : S) (reply : Reply) (epoch : ℕ) (r : Result ℕ Refusal) → and_then epoch_in (changed reply) ≡ r → carries old (requests.Call calls.RollbackCommit) reply mid
-      → FollowsDialogue carries (onward (λ x. Say (Ok (answers.Number x))) r) mid (Ok (answers.Number epoch)) new → carries old (requests.Call calls.RollbackCommit) (replies.Answer (said.Epoch epoch)) new
-  rollback_committed old mid new reply epoch (Ok other) says carried (is, same) =
-      subst (λ s. carries old (requests.Call calls.RollbackCommit) (replies.Answer (said.Epoch epoch)) s) (sym same)
-      (subst (λ r. carries old (requests.Call calls.RollbackCommit) r mid) (epoch_said reply epoch (says ∙ ap (λ k. Ok k) (sym (number_is is)))) carried)
-  rollback_committed old mid new reply epoch (Err refusal) says carried (is, same) = never refusal (answers.Number epoch) is
+  committed : (commit : Request) (old mid new : S) (reply : Reply) (epoch : ℕ) (r : Result ℕ Refusal) → and_then epoch_in (changed reply) ≡ r → carries old commit reply mid → FollowsDialogue carries (onward (λ x. Say (Ok (answers.Number x))) r) mid (Ok (answers.Number epoch)) new
+      → carries old commit (replies.Answer (said.Epoch epoch)) new
+  committed commit old mid new reply epoch (Ok other) says carried (is, same) =
+      subst (λ s. carries old commit (replies.Answer (said.Epoch epoch)) s) (sym same) (subst (λ r. carries old commit r mid) (epoch_said reply epoch (says ∙ ap (λ k. Ok k) (sym (number_is is)))) carried)
+  committed commit old mid new reply epoch (Err refusal) says carried (is, same) = never refusal (answers.Number epoch) is
 
   rollback_begun : (old mid new : S) (reply : Reply) (epoch : ℕ) (r : Result ℕ Refusal) → carries old (requests.Call calls.RollbackBegin) reply mid → FollowsDialogue carries (onward (λ _. plain rollback_commit_call answers.Number) r) mid (Ok (answers.Number epoch)) new
       → BeginsAndCommits (requests.Call calls.RollbackBegin) (requests.Call calls.RollbackCommit) old epoch new
-  rollback_begun old mid new reply epoch (Ok other) begun (second, next, carried, rest) = record { reply = reply; mid = mid; begins = begun; commits = rollback_committed mid next new second epoch (and_then epoch_in (changed second)) refl carried rest }
+  rollback_begun old mid new reply epoch (Ok other) begun (second, next, carried, rest) = record { mid = mid; begins = inl (reply, begun); commits = committed (requests.Call calls.RollbackCommit) mid next new second epoch (and_then epoch_in (changed second)) refl carried rest }
   rollback_begun old mid new reply epoch (Err refusal) begun (is, same) = never refusal (answers.Number epoch) is
 
   pub rollback_asks : (old new : S) (epoch : ℕ) → FollowsDialogue carries rollback_line old (Ok (answers.Number epoch)) new → BeginsAndCommits (requests.Call calls.RollbackBegin) (requests.Call calls.RollbackCommit) old epoch new
   rollback_asks old new epoch (reply, mid, carried, rest) = rollback_begun old mid new reply epoch (and_then epoch_in (changed reply)) carried rest
+
+  -- ---- a commit by itself
+
+  pub prepare_commit_asks : (old new : S) (epoch : ℕ) → FollowsDialogue carries (plain prepare_commit_call answers.Number) old (Ok (answers.Number epoch)) new → BeginsAndCommits (requests.Call calls.PrepareBegin) (requests.Call calls.PrepareCommit) old epoch new
+  prepare_commit_asks old new epoch (reply, mid, carried, rest) = record { mid = old; begins = inr refl; commits = committed (requests.Call calls.PrepareCommit) old mid new reply epoch (and_then epoch_in (changed reply)) refl carried rest }
+
+  pub rollback_commit_asks : (old new : S) (epoch : ℕ) → FollowsDialogue carries (plain rollback_commit_call answers.Number) old (Ok (answers.Number epoch)) new → BeginsAndCommits (requests.Call calls.RollbackBegin) (requests.Call calls.RollbackCommit) old epoch new
+  rollback_commit_asks old new epoch (reply, mid, carried, rest) = record { mid = old; begins = inr refl; commits = committed (requests.Call calls.RollbackCommit) old mid new reply epoch (and_then epoch_in (changed reply)) refl carried rest }
 
   -- ---- a list
 

@@ -1,6 +1,7 @@
 -- What lines list behind a prepare, and behind its rollback.
-use Rattle.std.proofs.Common.{◌≡◌, ◌∙◌, inl, inr, ◌++◌, ◌+◌, ◌-◌, ◌==◌, ◌<◌, ℕ, zero, suc, Bool, true, false, List, [], ◌∷◌, Some, None, Result, Ok, length, nat_le, refl, sym, ap, subst, arith, slice_get, if◌then◌else◌}
+use Rattle.std.proofs.Common.{◌≡◌, ◌∙◌, ◌⊎◌, inl, inr, ◌++◌, ◌+◌, ◌-◌, ◌==◌, ◌<◌, ℕ, zero, suc, Bool, true, false, List, [], ◌∷◌, Some, None, Result, Ok, length, nat_le, refl, sym, ap, subst, arith, slice_get, if◌then◌else◌}
 use Rattle.std.specs.List.{AllByRecursion}
+use Rattle.std.proofs.lemmas.Bool.{false≢true}
 use Rattle.std.proofs.lemmas.Bool.Decides.{nat_tests}
 use Rattle.gs_base.specs.Told.{IsNumber}
 use Rattle.gs_base.specs.declared.config.Config.{Config}
@@ -28,8 +29,10 @@ use Rattle.gs_shell_desk.specs.Lines.{Comes, carried}
 use Rattle.gs_shell_desk.specs.Ways.{way_of}
 use Rattle.gs_shell_desk.specs.declared.desk.Desk.{Desk}
 use Rattle.gs_shell_desk.specs.declared.wire.Wire.{Wire}
+use Rattle.gs_shell_grammar.specs.Grammar.{Request as LineRequest}
 use Rattle.gs_shell_grammar.specs.Grammar as lines
 use Rattle.gs_shell_grammar.specs.declared.command.Upgrade.TheVariants as upgrades
+use Rattle.gs_shell_grammar.specs.declared.command.UpgradeStep.TheVariants as steps
 use Rattle.gs_shell_line.specs.Line.{content, longest_line}
 use Rattle.gs_shell_script.specs.Run as script
 use Rattle.gs_world.proofs.Staying.{run_same}
@@ -47,22 +50,22 @@ use Rattle.gs_world_laws.specs.Reached.{Covers, history, unarmed}
 use Rattle.gs_world_laws.specs.Saying.{IsStepWithin}
 use Rattle.gs_world_laws.specs.Within.{IsReachedWithin}
 use Rattle.gs_world_listed.specs.Listed.{EpochsAreNumbers, ListsComeBack, ListsTwice}
-use Rattle.gs_shell_listed.proofs.Dialogues.{BeginsAndCommits, Lists, list_asks, prepare_asks, rollback_asks}
-use Rattle.gs_shell_listed.specs.Lines.{ListTheSame, ListTwice}
+use Rattle.gs_shell_listed.proofs.Dialogues.{BeginsAndCommits, Lists, list_asks, prepare_asks, prepare_commit_asks, rollback_asks, rollback_commit_asks}
+use Rattle.gs_shell_listed.specs.Lines.{ListTheSame, ListTwice, commits_prepare, commits_rollback}
 
 -- a number below the last is one of 64 bits, and so is the next
-next_small : (number : ℕ) → number < last_number → IsNumber (number + 1)
+pub next_small : (number : ℕ) → number < last_number → IsNumber (number + 1)
 next_small number below = omega arith
 
-all_join : {A : Type 0} (S : A → Type 0) (xs ys : List A) → AllByRecursion S xs → AllByRecursion S ys → AllByRecursion S (xs ++ ys)
+pub all_join : {A : Type 0} (S : A → Type 0) (xs ys : List A) → AllByRecursion S xs → AllByRecursion S ys → AllByRecursion S (xs ++ ys)
 all_join S [] ys first second = second
 all_join S (x ∷ xs) ys first second = (first.0, all_join S xs ys first.1 second)
 
-abbrev the_client : ClientId
+abbrev pub the_client : ClientId
 the_client = record { 0 = 1 }
 
 -- there is one client, of this number
-only_one : (clients : List Node) → length clients ≡ 1 → (other : ClientId) (n : Node) → client_in clients other ≡ Some n → other ≡ the_client
+pub only_one : (clients : List Node) → length clients ≡ 1 → (other : ClientId) (n : Node) → client_in clients other ≡ Some n → other ≡ the_client
 only_one clients one other n there = (let is = by_test (other.0 == 0) refl there in (λ i. record { 0 = is i }))
   where
     in_one : (xs : List Node) (k : ℕ) → length xs ≡ 1 → slice_get xs k ≡ Some n → k ≡ 0
@@ -79,16 +82,16 @@ only_one clients one other n there = (let is = by_test (other.0 == 0) refl there
     by_test false is there = number other.0 is (in_one clients (other.0 - 1) one there)
 
 module _ {D : Type 0} (seen : D → List ℕ) (failures : D → ℕ) where
-  abbrev Carries_at : Client × Wire D → Request → Reply → Client × Wire D → Type 0
+  abbrev pub Carries_at : Client × Wire D → Request → Reply → Client × Wire D → Type 0
   Carries_at old request reply new = Asks (carried seen failures) old request reply new
 
   -- a request that is carried leads on, whatever is replied
-  leads_on : (old new : Client × Wire D) (request : Request) (reply : Reply) → MayBeAsked request → Carries_at old request reply new → Leads seen failures true (way_of old.1) (way_of new.1)
+  pub leads_on : (old new : Client × Wire D) (request : Request) (reply : Reply) → MayBeAsked request → Carries_at old request reply new → Leads seen failures true (way_of old.1) (way_of new.1)
   leads_on old new request reply may (inl (below, is, c)) = carries seen failures true (next_request old.0) request (way_of old.1) reply (way_of new.1) (next_small old.0.last.number below, may) c
   leads_on old new request reply may (inr (last, is, same)) = nothing seen failures true (way_of old.1) (way_of new.1) (ap (λ (s : Client × Wire D). way_of s.1) same)
 
   -- a call that is answered is carried
-  answered_on : (sent : Sent) (old new : Client × Wire D) (call : Call) (answer : Answer) → Covers sent (way_of old.1) → IsNumber old.1.moment.0 → MayBeAsked (requests.Call call) → Carries_at old (requests.Call call) (replies.Answer answer) new
+  pub answered_on : (sent : Sent) (old new : Client × Wire D) (call : Call) (answer : Answer) → Covers sent (way_of old.1) → IsNumber old.1.moment.0 → MayBeAsked (requests.Call call) → Carries_at old (requests.Call call) (replies.Answer answer) new
       → IsCarried seen failures (next_request old.0).client (way_of old.1) sent call answer (way_of new.1)
   answered_on sent old new call answer covers small may (inl (below, is, c)) = calls_are_carried seen failures sent (way_of old.1) (way_of new.1) (next_request old.0) call answer covers small (next_small old.0.last.number below, may) c
   answered_on sent old new call answer covers small may (inr (last, is, same)) = absurd cc
@@ -103,7 +106,7 @@ module _ {D : Type 0} (seen : D → List ℕ) (failures : D → ℕ) where
   one_leads old new line text (inl (is, same)) = nothing seen failures true (way_of old.wire) (way_of new.wire) (ap (λ (d : Desk D). way_of d.wire) same)
   one_leads old new line text (inr a) = whole_leads (nat_le (length (content line)) longest_line) old new (content line) text a
 
-  lines_lead : (input texts : List (List ℕ)) (old new : Desk D) → script.Runs (AnswersText seen failures) old input texts new → Leads seen failures true (way_of old.wire) (way_of new.wire)
+  pub lines_lead : (input texts : List (List ℕ)) (old new : Desk D) → script.Runs (AnswersText seen failures) old input texts new → Leads seen failures true (way_of old.wire) (way_of new.wire)
   lines_lead [] [] old new same = nothing seen failures true (way_of old.wire) (way_of new.wire) (ap (λ (d : Desk D). way_of d.wire) same)
   lines_lead (line ∷ input) (text ∷ texts) old new (mid, first, rest) = chain seen failures true (way_of old.wire) (way_of mid.wire) (way_of new.wire) (one_leads old mid line text first) (lines_lead input texts mid new rest)
   lines_lead [] (text ∷ texts) old new never = absurd never
@@ -114,13 +117,22 @@ module _ {D : Type 0} (seen : D → List ℕ) (failures : D → ℕ) where
   abbrev at : Desk D → Client × Wire D
   at d = (d.caller.client, d.wire)
 
-  prepares_asks : (old new : Desk D) (epoch : ℕ) → Comes seen failures (lines.RollingUpgrade upgrades.Prepare) old (Ok (answers.Number epoch)) new → BeginsAndCommits Carries_at (requests.Call calls.PrepareBegin) (requests.Call calls.PrepareCommit) (at old) epoch (at new)
+  pub prepares_asks : (by : LineRequest) → commits_prepare by ≡ true → (old new : Desk D) (epoch : ℕ) → Comes seen failures by old (Ok (answers.Number epoch)) new → BeginsAndCommits Carries_at (requests.Call calls.PrepareBegin) (requests.Call calls.PrepareCommit) (at old) epoch (at new)
   unfolding Comes
-  prepares_asks old new epoch c = prepare_asks Carries_at (at old) (at new) epoch c
+  prepares_asks (lines.RollingUpgrade upgrades.Prepare) is old new epoch c = prepare_asks Carries_at (at old) (at new) epoch c
+  prepares_asks (lines.Step steps.PrepareCommit) is old new epoch c = prepare_commit_asks Carries_at (at old) (at new) epoch c
+  prepares_asks by is old new epoch c = absurd (false≢true is)
 
-  rolls_asks : (old new : Desk D) (epoch : ℕ) → Comes seen failures (lines.RollingUpgrade upgrades.Rollback) old (Ok (answers.Number epoch)) new → BeginsAndCommits Carries_at (requests.Call calls.RollbackBegin) (requests.Call calls.RollbackCommit) (at old) epoch (at new)
+  pub rolls_asks : (by : LineRequest) → commits_rollback by ≡ true → (old new : Desk D) (epoch : ℕ) → Comes seen failures by old (Ok (answers.Number epoch)) new → BeginsAndCommits Carries_at (requests.Call calls.RollbackBegin) (requests.Call calls.RollbackCommit) (at old) epoch (at new)
   unfolding Comes
-  rolls_asks old new epoch c = rollback_asks Carries_at (at old) (at new) epoch c
+  rolls_asks (lines.RollingUpgrade upgrades.Rollback) is old new epoch c = rollback_asks Carries_at (at old) (at new) epoch c
+  rolls_asks (lines.Step steps.RollbackCommit) is old new epoch c = rollback_commit_asks Carries_at (at old) (at new) epoch c
+  rolls_asks by is old new epoch c = absurd (false≢true is)
+
+  -- what is begun before a commit, if something is, leads on
+  pub begun_leads : (old mid : Client × Wire D) (begin : Request) → MayBeAsked begin → ((reply : Reply) × Carries_at old begin reply mid) ⊎ (mid ≡ old) → Leads seen failures true (way_of old.1) (way_of mid.1)
+  begun_leads old mid begin may (inl (reply, c)) = leads_on old mid begin reply may c
+  begun_leads old mid begin may (inr same) = nothing seen failures true (way_of old.1) (way_of mid.1) (ap (λ (s : Client × Wire D). way_of s.1) same)
 
   lists_asks : (path : List ℕ) (old new : Desk D) (names : List ListedName) → Comes seen failures (lines.Ls path) old (Ok (answers.Names names)) new → Lists Carries_at path (at old) names (at new)
   unfolding Comes
@@ -134,10 +146,10 @@ module _ {D : Type 0} (seen : D → List ℕ) (failures : D → ℕ) where
     r = l.reached
 
     one : BeginsAndCommits Carries_at (requests.Call calls.PrepareBegin) (requests.Call calls.PrepareCommit) (at l.begun) epoch (at l.prepared)
-    one = prepares_asks l.begun l.prepared epoch l.prepares
+    one = prepares_asks l.prepare_by l.is_prepare l.begun l.prepared epoch l.prepares
 
     first : StepsSo seen failures true (way_of l.begun.wire) (way_of one.mid.1) r.sent
-    first = leads_on (at l.begun) one.mid (requests.Call calls.PrepareBegin) one.reply (record { named = tt; met = λ names. tt }) one.begins r.sent r.covers r.moment
+    first = begun_leads (at l.begun) one.mid (requests.Call calls.PrepareBegin) (record { named = tt; met = λ names. tt }) one.begins r.sent r.covers r.moment
 
     prepared : IsCarried seen failures (next_request one.mid.0).client (way_of one.mid.1) first.after calls.PrepareCommit (said.Epoch epoch) (way_of l.prepared.wire)
     prepared = answered_on first.after one.mid (at l.prepared) calls.PrepareCommit (said.Epoch epoch) first.covers first.moment (record { named = tt; met = λ names. tt }) one.commits
@@ -158,10 +170,10 @@ module _ {D : Type 0} (seen : D → List ℕ) (failures : D → ℕ) where
     lines_on = lines_lead l.between l.texts l.listed l.later l.passes listed.after listed.covers small_two
 
     two : BeginsAndCommits Carries_at (requests.Call calls.RollbackBegin) (requests.Call calls.RollbackCommit) (at l.later) next (at l.back)
-    two = rolls_asks l.later l.back next l.rolls
+    two = rolls_asks l.roll_by l.is_rollback l.later l.back next l.rolls
 
     second : StepsSo seen failures true (way_of l.later.wire) (way_of two.mid.1) lines_on.after
-    second = leads_on (at l.later) two.mid (requests.Call calls.RollbackBegin) two.reply (record { named = tt; met = λ names. tt }) two.begins lines_on.after lines_on.covers lines_on.moment
+    second = begun_leads (at l.later) two.mid (requests.Call calls.RollbackBegin) (record { named = tt; met = λ names. tt }) two.begins lines_on.after lines_on.covers lines_on.moment
 
     back : IsCarried seen failures (next_request two.mid.0).client (way_of two.mid.1) second.after calls.RollbackCommit (said.Epoch next) (way_of l.back.wire)
     back = answered_on second.after two.mid (at l.back) calls.RollbackCommit (said.Epoch next) second.covers second.moment (record { named = tt; met = λ names. tt }) two.commits

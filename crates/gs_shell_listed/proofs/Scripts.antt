@@ -1,5 +1,6 @@
 -- What a script is answered to `ls` right behind a prepare, and right behind its rollback.
-use Rattle.std.proofs.Common.{◌≡◌, ◌∙◌, inl, inr, ◌++◌, ◌+◌, ℕ, suc, Bool, true, false, List, [], ◌∷◌, Option, Some, None, MatchOption, Result, Ok, Err, length, nat_le, refl, sym, ap, subst, arith}
+use Rattle.std.proofs.Common.{◌≡◌, ◌∙◌, ◌⊎◌, inl, inr, ◌++◌, ◌+◌, ℕ, suc, Bool, true, false, List, [], ◌∷◌, Option, Some, None, MatchOption, Result, Ok, Err, length, nat_le, refl, sym, ap, subst, arith}
+use Rattle.std.proofs.lemmas.Bool.{false≢true}
 use Rattle.std.specs.Prelude.{codes, decimal}
 use Rattle.gs_base.specs.Told.{IsNumber}
 use Rattle.gs_base.specs.declared.config.Config.{Config}
@@ -13,28 +14,31 @@ use Rattle.gs_shell_calls.specs.declared.answer.Answer.{Answer}
 use Rattle.gs_shell_calls.specs.declared.answer.Answer.TheVariants as answers
 use Rattle.gs_shell_desk.specs.Answering.{AnswersText, IsText}
 use Rattle.gs_shell_desk.specs.Lines.{Comes, carried}
+use Rattle.gs_shell_desk.specs.Starting.{Starts}
 use Rattle.gs_shell_desk.specs.declared.desk.Desk.{Desk}
 use Rattle.gs_shell_grammar.specs.Grammar.{Request, line_request}
 use Rattle.gs_shell_grammar.specs.Grammar as lines
 use Rattle.gs_shell_grammar.specs.declared.command.Upgrade.TheVariants as upgrades
+use Rattle.gs_shell_grammar.specs.declared.command.UpgradeStep.TheVariants as steps
 use Rattle.gs_shell_line.specs.Line.{content, longest_line}
 use Rattle.gs_shell_script.specs.Run as script
 use Rattle.gs_shell_script.specs.Run.{lines_of}
 use Rattle.gs_world_laws.proofs.Lines.{line_reaches, start_reaches}
 use Rattle.gs_world_laws.specs.Within.{IsReachedWithin}
-use Rattle.gs_shell_listed.proofs.Texts.{list_comes, names_told, number_told, prepare_comes, refused_never, rollback_comes, same_numbers}
-use Rattle.gs_shell_listed.specs.Lines.{ListTheSame}
-use Rattle.gs_shell_listed.specs.Scripts.{AreListedTwice, AsksFor, IsAccepted, ScriptsListTheSame}
+use Rattle.gs_shell_listed.proofs.Texts.{list_comes, names_told, number_told, prepare_comes, prepare_commit_comes, refused_never, rollback_comes, rollback_commit_comes, same_numbers}
+use Rattle.gs_shell_listed.specs.Lines.{ListTheSame, commits_prepare, commits_rollback}
+use Rattle.gs_shell_listed.specs.Scripts.{AreListedTwice, AsksFor, IsAccepted, ListTheSameUntilAReadFails, ListTheSameUntilAWriteFails, ScriptsListTheSame}
+use Rattle.gs_shell_listed.specs.Scripts as scripts
 
 module _ {D : Type 0} (seen : D → List ℕ) (failures : D → ℕ) where
-  abbrev Lines_run : Desk D → List (List ℕ) → List (List ℕ) → Desk D → Type 0
+  abbrev pub Lines_run : Desk D → List (List ℕ) → List (List ℕ) → Desk D → Type 0
   Lines_run old all texts new = script.Runs (AnswersText seen failures) old all texts new
 
-  abbrev Line_answered : Desk D → List ℕ → List ℕ → Desk D → Type 0
+  abbrev pub Line_answered : Desk D → List ℕ → List ℕ → Desk D → Type 0
   Line_answered old line text new = script.AnswersLine (AnswersText seen failures) old line text new
 
   -- lines before some others
-  split : (first : List (List ℕ)) (texts : List (List ℕ)) (rest more : List (List ℕ)) (old new : Desk D) → length texts ≡ length first → Lines_run old (first ++ rest) (texts ++ more) new → (mid : Desk D) × Lines_run old first texts mid × Lines_run mid rest more new
+  pub split : (first : List (List ℕ)) (texts : List (List ℕ)) (rest more : List (List ℕ)) (old new : Desk D) → length texts ≡ length first → Lines_run old (first ++ rest) (texts ++ more) new → (mid : Desk D) × Lines_run old first texts mid × Lines_run mid rest more new
   split [] [] rest more old new long runs = (old, refl, runs)
   split (line ∷ first) (text ∷ texts) rest more old new long (mid, one, runs) = (let found = split first texts rest more mid new (shorter (length texts) (length first) long) runs in (found.0, (mid, one, found.1), found.2))
     where
@@ -43,12 +47,19 @@ module _ {D : Type 0} (seen : D → List ℕ) (failures : D → ℕ) where
   split [] (text ∷ texts) rest more old new long runs = absurd cc
   split (line ∷ first) [] rest more old new long runs = absurd cc
 
+  -- one more line behind some others
+  pub one_more : (all texts : List (List ℕ)) (line text : List ℕ) (old mid new : Desk D) → Lines_run old all texts mid → Line_answered mid line text new → Lines_run old (all ++ line ∷ []) (texts ++ text ∷ []) new
+  one_more [] [] line text old mid new same a = (new, subst (λ d. Line_answered d line text new) same a, refl)
+  one_more (first ∷ all) (said ∷ texts) line text old mid new (next, one, rest) a = (next, one, one_more all texts line text next mid new rest a)
+  one_more [] (said ∷ texts) line text old mid new never a = absurd never
+  one_more (first ∷ all) [] line text old mid new never a = absurd never
+
   -- ---- a line that is accepted
 
-  record Came (request : Request) (text : List ℕ) (old new : Desk D) : Type 0 where
-    answer : Result Answer Refusal
-    comes : Comes seen failures request old answer new
-    told : IsText answer text
+  pub record Came (request : Request) (text : List ℕ) (old new : Desk D) : Type 0 where
+    pub answer : Result Answer Refusal
+    pub comes : Comes seen failures request old answer new
+    pub told : IsText answer text
 
   asked_came : (request : Request) (o : Option Request) → o ≡ Some request → (text : List ℕ) (old new : Desk D) → IsAccepted text
       → MatchOption o (IsText (Err refusals.BadLine) text × (new ≡ old)) (λ request. (answer : Result Answer Refusal) × Comes seen failures request old answer new × IsText answer text) → Came request text old new
@@ -67,30 +78,41 @@ module _ {D : Type 0} (seen : D → List ℕ) (failures : D → ℕ) where
   short_came true request line text old new asks accepted a = text_came request line text old new asks accepted a
   short_came false request line text old new asks accepted (bad, same) = refused_never refusals.BadLine text bad accepted
 
-  came : (request : Request) (line text : List ℕ) (old new : Desk D) → AsksFor request line → IsAccepted text → Line_answered old line text new → Came request text old new
+  pub came : (request : Request) (line text : List ℕ) (old new : Desk D) → AsksFor request line → IsAccepted text → Line_answered old line text new → Came request text old new
   came request line text old new asks accepted (inl (memory, same)) = refused_never refusals.Memory text memory accepted
   came request line text old new asks accepted (inr a) = short_came (nat_le (length (content line)) longest_line) request (content line) text old new asks accepted a
 
   -- ---- which answer it is
 
-  record Epoch_at (request : Request) (epoch : ℕ) (old new : Desk D) : Type 0 where
-    number : ℕ
-    comes : Comes seen failures request old (Ok (answers.Number number)) new
-    digits : decimal number ≡ decimal epoch
+  pub record Epoch_at (request : Request) (epoch : ℕ) (old new : Desk D) : Type 0 where
+    pub number : ℕ
+    pub comes : Comes seen failures request old (Ok (answers.Number number)) new
+    pub digits : decimal number ≡ decimal epoch
 
-  prepared : (line : List ℕ) (epoch : ℕ) (old new : Desk D) → AsksFor (lines.RollingUpgrade upgrades.Prepare) line → Line_answered old line (codes "ok " ++ decimal epoch) new → Epoch_at (lines.RollingUpgrade upgrades.Prepare) epoch old new
+  prepare_line_comes : (by : Request) → commits_prepare by ≡ true → (old new : Desk D) (result : Result Answer Refusal) → Comes seen failures by old result new → ((k : ℕ) × (result ≡ Ok (answers.Number k))) ⊎ ((refusal : Refusal) × (result ≡ Err refusal))
   unfolding Comes
-  prepared line epoch old new asks a =
-      let c = came (lines.RollingUpgrade upgrades.Prepare) line (codes "ok " ++ decimal epoch) old new asks refl a in
-      let found = number_told c.answer (codes "ok " ++ decimal epoch) epoch (prepare_comes (Asks (carried seen failures)) (old.caller.client, old.wire) (new.caller.client, new.wire) c.answer c.comes) c.told refl in
-      record { number = found.0; comes = subst (λ r. Comes seen failures (lines.RollingUpgrade upgrades.Prepare) old r new) found.1 c.comes; digits = found.2 }
+  prepare_line_comes (lines.RollingUpgrade upgrades.Prepare) is old new result c = prepare_comes (Asks (carried seen failures)) (old.caller.client, old.wire) (new.caller.client, new.wire) result c
+  prepare_line_comes (lines.Step steps.PrepareCommit) is old new result c = prepare_commit_comes (Asks (carried seen failures)) (old.caller.client, old.wire) (new.caller.client, new.wire) result c
+  prepare_line_comes by is old new result c = absurd (false≢true is)
 
-  rolled : (line : List ℕ) (epoch : ℕ) (old new : Desk D) → AsksFor (lines.RollingUpgrade upgrades.Rollback) line → Line_answered old line (codes "ok " ++ decimal epoch) new → Epoch_at (lines.RollingUpgrade upgrades.Rollback) epoch old new
+  rollback_line_comes : (by : Request) → commits_rollback by ≡ true → (old new : Desk D) (result : Result Answer Refusal) → Comes seen failures by old result new → ((k : ℕ) × (result ≡ Ok (answers.Number k))) ⊎ ((refusal : Refusal) × (result ≡ Err refusal))
   unfolding Comes
-  rolled line epoch old new asks a =
-      let c = came (lines.RollingUpgrade upgrades.Rollback) line (codes "ok " ++ decimal epoch) old new asks refl a in
-      let found = number_told c.answer (codes "ok " ++ decimal epoch) epoch (rollback_comes (Asks (carried seen failures)) (old.caller.client, old.wire) (new.caller.client, new.wire) c.answer c.comes) c.told refl in
-      record { number = found.0; comes = subst (λ r. Comes seen failures (lines.RollingUpgrade upgrades.Rollback) old r new) found.1 c.comes; digits = found.2 }
+  rollback_line_comes (lines.RollingUpgrade upgrades.Rollback) is old new result c = rollback_comes (Asks (carried seen failures)) (old.caller.client, old.wire) (new.caller.client, new.wire) result c
+  rollback_line_comes (lines.Step steps.RollbackCommit) is old new result c = rollback_commit_comes (Asks (carried seen failures)) (old.caller.client, old.wire) (new.caller.client, new.wire) result c
+  rollback_line_comes by is old new result c = absurd (false≢true is)
+
+  epoch_of : (by : Request) (line : List ℕ) (epoch : ℕ) (old new : Desk D) → ((result : Result Answer Refusal) → Comes seen failures by old result new → ((k : ℕ) × (result ≡ Ok (answers.Number k))) ⊎ ((refusal : Refusal) × (result ≡ Err refusal))) → AsksFor by line
+      → Line_answered old line (codes "ok " ++ decimal epoch) new → Epoch_at by epoch old new
+  epoch_of by line epoch old new comes asks a =
+      let c = came by line (codes "ok " ++ decimal epoch) old new asks refl a in
+      let found = number_told c.answer (codes "ok " ++ decimal epoch) epoch (comes c.answer c.comes) c.told refl in
+      record { number = found.0; comes = subst (λ r. Comes seen failures by old r new) found.1 c.comes; digits = found.2 }
+
+  pub prepared : (by : Request) → commits_prepare by ≡ true → (line : List ℕ) (epoch : ℕ) (old new : Desk D) → AsksFor by line → Line_answered old line (codes "ok " ++ decimal epoch) new → Epoch_at by epoch old new
+  prepared by is line epoch old new asks a = epoch_of by line epoch old new (prepare_line_comes by is old new) asks a
+
+  pub rolled : (by : Request) → commits_rollback by ≡ true → (line : List ℕ) (epoch : ℕ) (old new : Desk D) → AsksFor by line → Line_answered old line (codes "ok " ++ decimal epoch) new → Epoch_at by epoch old new
+  rolled by is line epoch old new asks a = epoch_of by line epoch old new (rollback_line_comes by is old new) asks a
 
   record Listed (path text : List ℕ) (old new : Desk D) : Type 0 where
     names : List ListedName
@@ -115,7 +137,7 @@ module _ {D : Type 0} (seen : D → List ℕ) (failures : D → ℕ) where
     line_reached old new line text (inl (memory, same)) r = subst (λ d. IsReachedWithin seen failures config disks d) (sym same) r
     line_reached old new line text (inr a) r = one_reached (nat_le (length (content line)) longest_line) old new (content line) text a r
 
-    reached : (all texts : List (List ℕ)) (old new : Desk D) → Lines_run old all texts new → IsReachedWithin seen failures config disks old → IsReachedWithin seen failures config disks new
+    pub reached : (all texts : List (List ℕ)) (old new : Desk D) → Lines_run old all texts new → IsReachedWithin seen failures config disks old → IsReachedWithin seen failures config disks new
     reached [] [] old new same r = subst (λ d. IsReachedWithin seen failures config disks d) (sym same) r
     reached (line ∷ all) (text ∷ texts) old new (mid, one, rest) r = reached all texts mid new rest (line_reached old mid line text one r)
     reached [] (text ∷ texts) old new never r = absurd never
@@ -137,8 +159,8 @@ module _ {D : Type 0} (seen : D → List ℕ) (failures : D → ℕ) where
         by_second start mid listed_at later reached_there a b lines_between (back, c, (last, e, rest)) =
             let one = listed path q.list had mid listed_at q.lists q.was b in
             let two = listed path q.again has back last q.repeats q.is e in
-            let first = prepared q.prepare epoch start mid q.prepares a in
-            let next = rolled q.rollback (epoch + 1) later back q.rolls c in
+            let first = prepared q.prepare_by q.is_prepare q.prepare epoch start mid q.prepares a in
+            let next = rolled q.roll_by q.is_rollback q.rollback (epoch + 1) later back q.rolls c in
             two.is
             ∙ ap (λ names. answer_text (Ok (answers.Names names)))
             (law path first.number next.number one.names two.names (record {
@@ -146,6 +168,8 @@ module _ {D : Type 0} (seen : D → List ℕ) (failures : D → ℕ) where
               follows = λ small high. same_numbers next.number (epoch + 1) high q.small next.digits ∙ ap (λ k. k + 1) (sym (same_numbers first.number epoch small (lower epoch q.small) first.digits));
               begun = start;
               reached = reached_there;
+              prepare_by = q.prepare_by;
+              is_prepare = q.is_prepare;
               prepared = mid;
               prepares = first.comes;
               listed = listed_at;
@@ -155,6 +179,8 @@ module _ {D : Type 0} (seen : D → List ℕ) (failures : D → ℕ) where
               later = later;
               passes = lines_between;
               back = back;
+              roll_by = q.roll_by;
+              is_rollback = q.is_rollback;
               rolls = next.comes;
               last = last;
               again = two.comes;
@@ -166,6 +192,24 @@ module _ {D : Type 0} (seen : D → List ℕ) (failures : D → ℕ) where
         by_first start reached_there (mid, a, (listed_at, b, rest)) =
             let second = split q.between q.texts_between (q.rollback ∷ q.again ∷ q.behind) ((codes "ok " ++ decimal (epoch + 1)) ∷ has ∷ q.texts_behind) listed_at ended q.long_between rest in by_second start mid listed_at second.0 reached_there a b second.1 second.2
 
-pub scripts_list_the_same : {D : Type 0} → ((seen : D → List ℕ) (failures : D → ℕ) (config : Config) (disks : D × D) → ListTheSame seen failures config disks) → ScriptsListTheSame D
-scripts_list_the_same law seen failures config disks input old new s standing_new path epoch had has q =
-    same_texts seen failures config disks (law seen failures config disks) standing_new s.begun s.ended (start_reaches seen failures config disks s.begun s.starts) (lines_of input) s.writes.texts path epoch had has q s.writes.runs
+module _ {D : Type 0} (law : (seen : D → List ℕ) (failures : D → ℕ) (config : Config) (disks : D × D) → ListTheSame seen failures config disks) where
+  -- lines that are answered one after the other from a store's beginning on
+  from_start : (seen : D → List ℕ) (failures : D → ℕ) (config : Config) (disks : D × D) → standing (seen disks.0) (seen disks.1) ≡ fresh → (begun ended : Desk D) → Starts seen failures config disks begun → (all texts : List (List ℕ)) → Lines_run seen failures begun all texts ended
+      → scripts.ListTheSame all texts
+  from_start seen failures config disks standing_new begun ended starts all texts runs path epoch had has q =
+      same_texts seen failures config disks (law seen failures config disks) standing_new begun ended (start_reaches seen failures config disks begun starts) all texts path epoch had has q runs
+
+  pub scripts_list_the_same : ScriptsListTheSame D
+  scripts_list_the_same seen failures config disks input old new s standing_new =
+      from_start seen failures config disks standing_new s.begun s.ended s.starts (lines_of input) s.writes.texts s.writes.runs
+
+  pub list_the_same_until_a_read_fails : ListTheSameUntilAReadFails D
+  list_the_same_until_a_read_fails seen failures config disks input left old new s standing_new =
+      from_start seen failures config disks standing_new s.begun s.ended s.starts s.fails.lines s.fails.written.texts s.fails.written.runs
+
+  pub list_the_same_until_a_write_fails : ListTheSameUntilAWriteFails D
+  list_the_same_until_a_write_fails seen failures config disks input left old new s standing_new = (
+    from_start seen failures config disks standing_new s.begun s.fails.before s.starts s.fails.lines s.fails.written.texts s.fails.written.runs,
+    from_start seen failures config disks standing_new s.begun s.ended s.starts (s.fails.lines ++ s.fails.line ∷ []) (s.fails.written.texts ++ s.fails.text ∷ [])
+        (one_more seen failures s.fails.lines s.fails.written.texts s.fails.line s.fails.text s.begun s.fails.before s.ended s.fails.written.runs s.fails.answers),
+  )

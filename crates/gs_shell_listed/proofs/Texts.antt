@@ -107,6 +107,12 @@ module _ {S : Type 0} (carries : S → Request → Reply → S → Type 0) where
   pub rollback_comes : (old new : S) (result : Result Answer Refusal) → FollowsDialogue carries rollback_line old result new → IsNumber_or result
   rollback_comes old new result (reply, mid, carried, rest) = roll_comes (and_then epoch_in (changed reply)) mid new result rest
 
+  pub prepare_commit_comes : (old new : S) (result : Result Answer Refusal) → FollowsDialogue carries (plain prepare_commit_call answers.Number) old result new → IsNumber_or result
+  prepare_commit_comes old new result (reply, mid, carried, rest) = rolled_comes (and_then epoch_in (changed reply)) mid new result rest
+
+  pub rollback_commit_comes : (old new : S) (result : Result Answer Refusal) → FollowsDialogue carries (plain rollback_commit_call answers.Number) old result new → IsNumber_or result
+  rollback_commit_comes old new result (reply, mid, carried, rest) = rolled_comes (and_then epoch_in (changed reply)) mid new result rest
+
   named_comes : (r : Result (List ListedName) Refusal) (old new : S) (result : Result Answer Refusal) → FollowsDialogue carries (onward (λ x. Say (Ok (answers.Names x))) r) old result new → AreNames_or result
   named_comes (Ok names) old new result (is, same) = inl (names, is)
   named_comes (Err refusal) old new result (is, same) = inr (refusal, is)

@@ -1,18 +1,21 @@
 -- What a script is answered to `ls` right behind a prepare, and right behind its rollback.
-use Rattle.std.specs.Prelude.{◌+◌, ◌++◌, ◌∷◌, ◌≡◌, List, Option, Some, codes, decimal, length, take, ℕ, [], get_or, refl}
+use Rattle.std.specs.Prelude.{◌+◌, ◌++◌, ◌∷◌, ◌≡◌, ◌≢◌, List, Option, Some, codes, decimal, length, take, true, ℕ, [], get_or, refl}
 use Rattle.std.proofs.Common.{ap, arith}
+use Rattle.std.proofs.lemmas.List.Elements.{All-cons, All-nil}
 use Rattle.std.specs.Char.{encode_utf8}
 use Rattle.std.specs.Fmt.{digits}
 use Rattle.std.specs.Str.{chars, is_utf8}
 use Rattle.gs_base.specs.Told.{IsNumber}
 use Rattle.gs_base.specs.declared.config.Config.{Config}
 use Rattle.gs_journal.specs.Records.{fresh, standing}
-use Rattle.gs_shell.specs.Serving.{Serves}
+use Rattle.gs_shell.specs.Serving.{Serves, StopsServing}
 use Rattle.gs_shell_grammar.specs.Grammar.{Request, line_request, two_words, upgrade_line}
 use Rattle.gs_shell_grammar.specs.Grammar as lines
 use Rattle.gs_shell_grammar.specs.declared.command.Upgrade.TheVariants as upgrades
 use Rattle.gs_shell_line.specs.Line.{content}
-use Rattle.gs_shell_script.specs.Run.{lines_of}
+use Rattle.gs_shell_script.specs.Run.{StopsReading, WritesAnswers, lines_of}
+use Rattle.gs_shell_script.specs.declared.RunFault.TheVariants as fault
+use Rattle.gs_shell_listed.specs.Lines.{commits_prepare, commits_rollback}
 
 -- an answer that isn't a refusal
 abbrev pub IsAccepted : List ℕ → Type 0
@@ -22,7 +25,8 @@ IsAccepted text = take 2 text ≡ codes "ok"
 abbrev pub AsksFor : Request → List ℕ → Type 0
 AsksFor request line = line_request (content line) ≡ Some request
 
--- Of the lines of a script, and of their answers: `rollingUpgrade prepare` is answered by an epoch, and `ls` of a path right behind it by a list. Behind any lines `rollingUpgrade rollback` is answered by the next epoch, and the same `ls` right behind it by a list.
+-- Of the lines of a script, and of their answers: `rollingUpgrade prepare`, or `prepare-commit`, is answered by an epoch, and `ls` of a path right behind it by a list. Behind any lines `rollingUpgrade rollback`, or `rollback-commit`, is answered by the next epoch, and the same `ls` right
+-- behind it by a list.
 pub record AreListedTwice (all texts : List (List ℕ)) (path : List ℕ) (epoch : ℕ) (had has : List ℕ) : Type 0 where
   pub before : List (List ℕ)
   pub prepare : List ℕ
@@ -39,19 +43,37 @@ pub record AreListedTwice (all texts : List (List ℕ)) (path : List ℕ) (epoch
   pub small : IsNumber (epoch + 1)
   pub long_before : length texts_before ≡ length before
   pub long_between : length texts_between ≡ length between
-  pub prepares : AsksFor (lines.RollingUpgrade upgrades.Prepare) prepare
+  pub prepare_by : Request
+  pub is_prepare : commits_prepare prepare_by ≡ true
+  pub prepares : AsksFor prepare_by prepare
   pub lists : AsksFor (lines.Ls path) list
-  pub rolls : AsksFor (lines.RollingUpgrade upgrades.Rollback) rollback
+  pub roll_by : Request
+  pub is_rollback : commits_rollback roll_by ≡ true
+  pub rolls : AsksFor roll_by rollback
   pub repeats : AsksFor (lines.Ls path) again
   pub was : IsAccepted had
   pub is : IsAccepted has
 
 -- ---- what is to hold
 
--- Then both lists are the same: whatever lines come before, between and behind, lines that damage blocks among them, and whatever disks fail.
+-- Then both lists are the same.
+abbrev pub ListTheSame : List (List ℕ) → List (List ℕ) → Type 0
+ListTheSame all texts = (path : List ℕ) (epoch : ℕ) (had has : List ℕ) → AreListedTwice all texts path epoch had has → has ≡ had
+
+-- So it is of each script: whatever lines come before, between and behind, lines that damage blocks among them, and whatever disks fail.
 abbrev pub ScriptsListTheSame : Type 0 → Type 0
-ScriptsListTheSame D = (seen : D → List ℕ) (failures : D → ℕ) (config : Config) (disks : D × D) (input : List ℕ) (old new : Option (List ℕ)) (s : Serves seen failures config disks input old new) → standing (seen disks.0) (seen disks.1) ≡ fresh →
-    (path : List ℕ) (epoch : ℕ) (had has : List ℕ) → AreListedTwice (lines_of input) s.writes.texts path epoch had has → has ≡ had
+ScriptsListTheSame D = (seen : D → List ℕ) (failures : D → ℕ) (config : Config) (disks : D × D) (input : List ℕ) (old new : Option (List ℕ)) (s : Serves seen failures config disks input old new) → standing (seen disks.0) (seen disks.1) ≡ fresh
+    → ListTheSame (lines_of input) s.writes.texts
+
+-- So it is where a read of the script fails, in those of its lines that were read and answered before.
+abbrev pub ListTheSameUntilAReadFails : Type 0 → Type 0
+ListTheSameUntilAReadFails D = (seen : D → List ℕ) (failures : D → ℕ) (config : Config) (disks : D × D) (input : List ℕ) (left old new : Option (List ℕ)) (s : StopsServing seen failures config disks fault.Read (Some input) left old new)
+    → standing (seen disks.0) (seen disks.1) ≡ fresh → ListTheSame s.fails.lines s.fails.written.texts
+
+-- And where a write of an answer fails, in the lines whose answers were written before, and in these with the line of that answer, which is made though no more than a beginning of it is written.
+abbrev pub ListTheSameUntilAWriteFails : Type 0 → Type 0
+ListTheSameUntilAWriteFails D = (seen : D → List ℕ) (failures : D → ℕ) (config : Config) (disks : D × D) (input : List ℕ) (left old new : Option (List ℕ)) (s : StopsServing seen failures config disks fault.Write (Some input) left old new)
+    → standing (seen disks.0) (seen disks.1) ≡ fresh → ListTheSame s.fails.lines s.fails.written.texts × ListTheSame (s.fails.lines ++ s.fails.line ∷ []) (s.fails.written.texts ++ s.fails.text ∷ [])
 
 -- ---- examples: a script of four lines that is answered so
 
@@ -83,13 +105,25 @@ it_is_such_a_script had has was is = record {
   small = omega arith;
   long_before = refl;
   long_between = refl;
+  prepare_by = lines.RollingUpgrade upgrades.Prepare;
+  is_prepare = refl;
   prepares = refl;
   lists = refl;
+  roll_by = lines.RollingUpgrade upgrades.Rollback;
+  is_rollback = refl;
   rolls = refl;
   repeats = refl;
   was = was;
   is = is;
 }
+
+-- a read may fail in a fifth line behind it, and lose a byte of that: then these four were answered
+a_read_fails_behind_it : {S : Type 0} (A : S → List ℕ → List ℕ → S → Type 0) (begun ended : S) (old new : Option (List ℕ)) → WritesAnswers A begun some_lines old new ended
+    → StopsReading A begun (codes "rollingUpgrade prepare" ++ 10 ∷ codes "ls /" ++ 10 ∷ codes "rollingUpgrade rollback" ++ 10 ∷ codes "ls /" ++ 10 ∷ codes "ls /d") (Some (codes "s /d")) old new ended
+a_read_fails_behind_it A begun ended old new written = record { lines = some_lines; rest = codes "ls /d"; parts = refl; left_in_rest = (codes "l", refl, All-cons (λ (x : ℕ). x ≢ 10) 108 [] other (All-nil (λ (x : ℕ). x ≢ 10))); written = written }
+  where
+    other : ◌≢◌ {A = ℕ} 108 10
+    other is = omega arith
 
 a_list_that_is_refused_is_no_answer : IsAccepted (codes "refused 1 BadPath") → ⊥
 a_list_that_is_refused_is_no_answer is = apart (ap (λ (t : List ℕ). get_or t 0 0) is)

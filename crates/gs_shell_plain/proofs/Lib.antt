@@ -7,3 +7,4 @@ mod Lines
 mod Upgrades
 mod Beginning
 mod Answering
+pub mod Stopping

@@ -1,11 +1,15 @@
 -- What scripts of lines of the tree and of an upgrade are answered.
-use Rattle.std.specs.Prelude.{◌≡◌, ◌≢◌, List, Option, take, true, ℕ}
+use Rattle.std.specs.Prelude.{[], ◌+◌, ◌++◌, ◌∷◌, ◌≡◌, ◌≢◌, List, Option, Some, false, take, true, ℕ}
 use Rattle.std.specs.List.{AllByRecursion}
 use Rattle.gs_base.specs.Refusals.{refusal_text}
 use Rattle.gs_base.specs.declared.config.Config.{Config}
 use Rattle.gs_base.specs.declared.refusal.Refusal.TheVariants as refusals
-use Rattle.gs_shell.specs.Serving.{Serves}
-use Rattle.gs_shell_script.specs.Run.{lines_of}
+use Rattle.gs_shell.specs.Serving.{Serves, StopsServing}
+use Rattle.gs_shell_desk.specs.Ways.{way_of}
+use Rattle.gs_shell_desk.specs.declared.desk.Desk.{Desk}
+use Rattle.gs_shell_script.specs.Run.{lines_of, memory_text}
+use Rattle.gs_shell_script.specs.declared.RunFault.TheVariants as fault
+use Rattle.gs_world.specs.Lasting.{failures_at}
 use Rattle.gs_world_laws.specs.Meeting.{RunsWell}
 use Rattle.gs_shell_plain.specs.Machines.{is_plain_line, machine_answers, new_machine}
 
@@ -13,9 +17,27 @@ use Rattle.gs_shell_plain.specs.Machines.{is_plain_line, machine_answers, new_ma
 abbrev pub HasRoom : List ℕ → Type 0
 HasRoom text = (text ≢ refusal_text refusals.Full) × (text ≢ refusal_text refusals.Exhausted)
 
--- What so many lines are answered, if they are all of the tree and of an upgrade and each answer has room: what the plain machine answers, by the program over empty disks, and where memory isn't
--- wanting and no disk fails. What the lines behind them are, and are answered, is nothing to it; and where there are no more lines it is all that is written.
+-- What so many of these lines are answered, if they are all of the tree and of an upgrade and each answer has room: what the plain machine answers. What the lines behind them are, and are answered, is nothing to it.
+abbrev pub ArePlain : List (List ℕ) → List (List ℕ) → Type 0
+ArePlain all texts = (many : ℕ) → AllByRecursion (λ whole. is_plain_line whole ≡ true) (take many all) → AllByRecursion HasRoom (take many texts) → take many texts ≡ machine_answers (take many all) new_machine
+
+-- Lines that have led to this desk were answered over empty disks, and memory wasn't wanting: the desk has noted no want of it, and no line is answered by one. No disk has failed more often than at the start.
+pub record WentWell {D : Type 0} (seen : D → List ℕ) (failures : D → ℕ) (disks : D × D) (texts : List (List ℕ)) (desk : Desk D) : Type 0 where
+  pub empty : (seen disks.0 ≡ []) × (seen disks.1 ≡ [])
+  pub enough : (way_of desk.wire).is_short ≡ false
+  pub answered : AllByRecursion (λ text. text ≢ memory_text) texts
+  pub sound : failures_at failures desk.wire.nodes.master ≡ failures disks.0 + failures disks.1
+
+-- So the program answers a script over empty disks, where memory isn't wanting and no disk fails; and where there are no more lines, that is all that is written.
 abbrev pub ScriptsArePlain : {D : Type 0} → (D → List ℕ) → (D → ℕ) → Config → D × D → Type 0
-ScriptsArePlain seen failures config disks = (input : List ℕ) (old new : Option (List ℕ)) (s : Serves seen failures config disks input old new) → RunsWell seen failures config disks input old new s →
-    (many : ℕ) → AllByRecursion (λ whole. is_plain_line whole ≡ true) (take many (lines_of input)) → AllByRecursion HasRoom (take many s.writes.texts) →
-    take many s.writes.texts ≡ machine_answers (take many (lines_of input)) new_machine
+ScriptsArePlain seen failures config disks = (input : List ℕ) (old new : Option (List ℕ)) (s : Serves seen failures config disks input old new) → RunsWell seen failures config disks input old new s → ArePlain (lines_of input) s.writes.texts
+
+-- And so it answers where a read of the script fails, those of its lines that were read before.
+abbrev pub ArePlainUntilAReadFails : {D : Type 0} → (D → List ℕ) → (D → ℕ) → Config → D × D → Type 0
+ArePlainUntilAReadFails seen failures config disks = (input : List ℕ) (left old new : Option (List ℕ)) (s : StopsServing seen failures config disks fault.Read (Some input) left old new) → WentWell seen failures disks s.fails.written.texts s.ended
+    → ArePlain s.fails.lines s.fails.written.texts
+
+-- Where a write of an answer fails, so it answers the lines whose answers were written before, and these with the line of that answer, which is made though no more than a beginning of it is written.
+abbrev pub ArePlainUntilAWriteFails : {D : Type 0} → (D → List ℕ) → (D → ℕ) → Config → D × D → Type 0
+ArePlainUntilAWriteFails seen failures config disks = (input : List ℕ) (left old new : Option (List ℕ)) (s : StopsServing seen failures config disks fault.Write (Some input) left old new) → (WentWell seen failures disks s.fails.written.texts s.fails.before → ArePlain s.fails.lines s.fails.written.texts)
+    × (WentWell seen failures disks (s.fails.written.texts ++ s.fails.text ∷ []) s.ended → ArePlain (s.fails.lines ++ s.fails.line ∷ []) (s.fails.written.texts ++ s.fails.text ∷ []))

@@ -5,8 +5,8 @@ use Rattle.gs_base.specs.declared.config.Config.{Config}
 use Rattle.gs_base.specs.declared.numbers.ClientId.{ClientId}
 use Rattle.gs_block.specs.Written.{TellsApart}
 use Rattle.gs_journal.specs.Records.{fresh, standing}
-use Rattle.gs_nodes.specs.Nodes.{Nodes}
 use Rattle.gs_path.specs.Path.{Path}
+use Rattle.gs_path.specs.Rules.{parse_hidden}
 use Rattle.gs_shell_calls.specs.declared.answer.Answer.{Answer}
 use Rattle.gs_shell_calls.specs.declared.answer.Answer.TheVariants as answers
 use Rattle.gs_shell_desk.specs.Answering.{AnswersText}
@@ -15,11 +15,11 @@ use Rattle.gs_shell_desk.specs.Ways.{way_of}
 use Rattle.gs_shell_desk.specs.declared.desk.Desk.{Desk}
 use Rattle.gs_shell_grammar.specs.Grammar.{Request}
 use Rattle.gs_shell_grammar.specs.Grammar as lines
-use Rattle.gs_shell_grammar.specs.declared.command.Upgrade.TheVariants as upgrades
+use Rattle.gs_shell_listed.specs.Lines.{commits_prepare, commits_rollback}
 use Rattle.gs_shell_script.specs.Run.{Runs}
 use Rattle.gs_world_laws.specs.Meeting.{IsClientOf}
 use Rattle.gs_world_laws.specs.Within.{IsReachedWithin}
-use Rattle.gs_world_read.specs.Read.{AreAmongAnyhow, Reading, ReadsTwice, all_steps}
+use Rattle.gs_world_read.specs.Read.{AreAmongThen, Reading, ReadsTwice}
 use Rattle.gs_world_read.specs.Read as readings
 
 -- what a line reads of a file: so many bytes from an offset on, or the digest of a block of one of its chunks
@@ -41,7 +41,7 @@ reading_of size (Bytes offset many) = readings.Bytes size offset many
 reading_of size (Digest chunk block) = readings.Digest chunk block
 
 module _ {D : Type 0} (seen : D → List ℕ) (failures : D → ℕ) (config : Config) (disks : D × D) where
-  -- Behind some lines the desk of a store's one client is asked to prepare, and answers an epoch; right behind that what is read of a file is answered. Then come any lines; then it is asked to roll back, and answers the next epoch, as numbers of 64 bits; and right behind
+  -- Behind some lines the desk of a store's one client is asked to commit a prepare, with its beginning or without, and answers an epoch; right behind that what is read of a file is answered. Then come any lines; then it is asked to commit a rollback, and answers the next epoch, as numbers of 64 bits; and right behind
   -- that the same line is answered again.
   pub record ReadTwice (path : List ℕ) (asks : Asks) (epoch next : ℕ) (had has : List ℕ) : Type 0 where
     pub new : standing (seen disks.0) (seen disks.1) ≡ fresh
@@ -50,7 +50,9 @@ module _ {D : Type 0} (seen : D → List ℕ) (failures : D → ℕ) (config : C
     pub reached : IsReachedWithin seen failures config disks begun
     pub client : IsClientOf config begun.caller.client
     pub prepared : Desk D
-    pub prepares : Comes seen failures (lines.RollingUpgrade upgrades.Prepare) begun (Ok (answers.Number epoch)) prepared
+    pub prepare_by : Request
+    pub is_prepare : commits_prepare prepare_by ≡ true
+    pub prepares : Comes seen failures prepare_by begun (Ok (answers.Number epoch)) prepared
     pub read : Desk D
     pub reads : Comes seen failures (line_of path asks) prepared (Ok (answer_of asks had)) read
     pub between : List (List ℕ)
@@ -58,23 +60,28 @@ module _ {D : Type 0} (seen : D → List ℕ) (failures : D → ℕ) (config : C
     pub later : Desk D
     pub passes : Runs (AnswersText seen failures) read between texts later
     pub back : Desk D
-    pub rolls : Comes seen failures (lines.RollingUpgrade upgrades.Rollback) later (Ok (answers.Number next)) back
+    pub roll_by : Request
+    pub is_rollback : commits_rollback roll_by ≡ true
+    pub rolls : Comes seen failures roll_by later (Ok (answers.Number next)) back
     pub last : Desk D
     pub again : Comes seen failures (line_of path asks) back (Ok (answer_of asks has)) last
 
-  -- So it goes in a run of a store that has begun over these disks, and ends as this desk has left it. Where different blocks that its servers may have on its steps have different digests, both answers are the same.
-  pub record AreTheSame (asks : Asks) (had has : List ℕ) (last : Desk D) : Type 0 where
+  -- So it goes in a run of a store that has begun over these disks, and ends as this desk has left it: at the path that the line names, in that epoch, it reads what was answered. And both answers are the same, if there is a run that goes so in which different blocks that servers
+  -- have on the way have different digests.
+  pub record AreTheSameWhereToldApart (text : List ℕ) (asks : Asks) (epoch : ℕ) (had has : List ℕ) (last : Desk D) : Type 0 where
+    pub number : IsNumber epoch
     pub client : ClientId
     pub path : Path
-    pub epoch : ℕ
+    pub parsed : parse_hidden text ≡ Ok path
     pub run : ReadsTwice seen failures config 1 disks client path (reading_of config.chunk asks) epoch had has
     pub ends : run.last.nodes ≡ (way_of last.wire).nodes
-    pub same : (among : List ℕ → Bool) → among [] ≡ true → TellsApart among → AreAmongAnyhow seen failures among (all_steps seen failures config 1 disks client path (reading_of config.chunk asks) epoch had has run) run.begun → has ≡ had
+    pub same : (r : ReadsTwice seen failures config 1 disks client path (reading_of config.chunk asks) epoch had has) (among : List ℕ → Bool) → among [] ≡ true → TellsApart among
+        → AreAmongThen seen failures config 1 disks among client path (reading_of config.chunk asks) epoch had has r → has ≡ had
 
   -- ---- what is to hold
 
-  abbrev pub ReadTheSame : Type 0
-  ReadTheSame = (path : List ℕ) (asks : Asks) (epoch next : ℕ) (had has : List ℕ) (r : ReadTwice path asks epoch next had has) → AreTheSame asks had has r.last
+  abbrev pub ReadTheSameWhereToldApart : Type 0
+  ReadTheSameWhereToldApart = (path : List ℕ) (asks : Asks) (epoch next : ℕ) (had has : List ℕ) (r : ReadTwice path asks epoch next had has) → AreTheSameWhereToldApart path asks epoch had has r.last
 
 -- ---- Worked
 a_line_reads : line_of (codes "/f") (Bytes 3 10) ≡ lines.Read (codes "/f") 3 10

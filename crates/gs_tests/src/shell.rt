@@ -260,10 +260,10 @@ const UPGRADES: [Row<'static>; 4] = [
         "ok 1\nok\nok upgrade 1\nok 2\nrefused 13 NotUpgrading\nok a/\n",
     ),
     // A file is written to, moved, deleted, and removed by a scan, and servers drop its replicas. A rollback brings it back
-    // with its bytes.
+    // with its bytes: what is read right behind the prepare is read right behind the rollback.
     (
-        b"create /f\nwrite /f 0 61626364\nmkdir /d\nrollingUpgrade prepare\nwrite /f 0 7a\nappend /f 7979\nmv /f /d\nrm -r /d\nat 300000\nscan\nbeat 0\nbeat 1\nls /\nrollingUpgrade rollback\nls /\nread /f 0 9\nls /d\n",
-        "ok\nok\nok\nok 1\nok\nok 4\nok\nok /.deleted.00000000000000000000.00000000000000000001.d\nok\nok 1 1\nok 1\nok 1\nok\nok 2\nok d/ f\nok 61626364\nok\n",
+        b"create /f\nwrite /f 0 61626364\nmkdir /d\nrollingUpgrade prepare\nread /f 0 9\nwrite /f 0 7a\nappend /f 7979\nmv /f /d\nrm -r /d\nat 300000\nscan\nbeat 0\nbeat 1\nls /\nrollingUpgrade rollback\nread /f 0 9\nls /\nls /d\n",
+        "ok\nok\nok\nok 1\nok 61626364\nok\nok 4\nok\nok /.deleted.00000000000000000000.00000000000000000001.d\nok\nok 1 1\nok 1\nok 1\nok\nok 2\nok 61626364\nok d/ f\nok\n",
     ),
     // The halves of a prepare, in their order and out of it.
     (

@@ -60,7 +60,7 @@ use Rattle.gs_world.specs.Runs.{Comes, Goes, RunsTo, Step, Takes}
 use Rattle.gs_world.specs.Sent.{Sent}
 use Rattle.gs_world_lift.proofs.Posting.{posted_all, sent_then}
 use Rattle.gs_world_lift.specs.Going.{AllSent, Posts}
-use Rattle.gs_world_asked.specs.Answered.{AnswersAreMade, AnswersNow, AsksFresh, WasAnswered, sent_by, spares_master}
+use Rattle.gs_world_asked.specs.Answered.{AnswersAreMade, AnswersAreMadeOnTheWay, AnswersNow, AsksFresh, GoesBy, Passes, WasAnswered, sent_by, spares_master}
 use Rattle.gs_world_asked.specs.Asked.{AreAsked, HasAsked, KeepsOfAt, SaysOf}
 use Rattle.gs_client.specs.Nodes.{pushes, with_bytes}
 use Rattle.gs_world_asked.proofs.Asked.{AllSaid, Numbered_all, found_now, Waits, hearing_same, hears_left, lacking_only, own_id, request_said, servers_said, still_numbered, ticks_left}
@@ -821,46 +821,63 @@ module _ (req : ReqId) (call : Call) where
 
     -- ---- a run
 
-    abbrev Answered_by : List Step → History D → History D → Answer → Type 0
-    Answered_by steps old new answer = WasAnswered seen failures armed steps old new req call answer
-
     then_step : (steps : List Step) (step : Step) (old mid new : History D) → RunsTo seen failures armed steps old mid → Goes seen failures armed step mid new → RunsTo seen failures armed (steps ++ step ∷ []) old new
     then_step [] step old mid new same goes = (new, subst (λ (h : History D). Goes seen failures armed step h new) same goes, refl)
     then_step (one ∷ steps) step old mid new (h, first, rest) goes = (h, first, then_step steps step h mid new rest goes)
-
-    further : (steps : List Step) (step : Step) (old mid new : History D) → Goes seen failures armed step mid new → (answer : Answer) → Answered_by steps old mid answer → Answered_by (steps ++ step ∷ []) old new answer
-    further steps step old mid new goes answer was = record {
-      before = was.before;
-      now = was.now;
-      event = was.event;
-      said = was.said;
-      next = was.next;
-      after = was.after ++ step ∷ [];
-      parts = ap (λ xs. xs ++ step ∷ []) was.parts ∙ append_assoc was.before (Comes was.event ∷ was.after) (step ∷ []);
-      first = was.first;
-      happens = was.happens;
-      rest = then_step was.after step was.next mid new was.rest goes;
-      answers = was.answers;
-    }
-
-    step_follows : (steps : List Step) (step : Step) (old mid new : History D) → RunsTo seen failures armed steps old mid → Goes seen failures armed step mid new → spares_master step ≡ true → Follows (Answered_by steps old mid) mid → Follows (Answered_by (steps ++ step ∷ []) old new) new
-    step_follows steps (Comes event) old mid new runs (said, h) spares f =
-        event_follows (Answered_by steps old mid) (Answered_by (steps ++ Comes event ∷ []) old new) (further steps (Comes event) old mid new (said, h)) event mid new said h spares
-        (λ answer is. record { before = steps; now = mid; event = event; said = said; next = new; after = []; parts = refl; first = runs; happens = h; rest = refl; answers = is }) f
-    step_follows steps (Takes client) old mid new runs goes spares f =
-        takes_follows (Answered_by steps old mid) (Answered_by (steps ++ Takes client ∷ []) old new) (further steps (Takes client) old mid new goes) client mid new goes f
 
     none_behind : (xs : List Step) → xs ++ [] ≡ xs
     none_behind [] = refl
     none_behind (x ∷ xs) = ap (λ (ys : List Step). x ∷ ys) (none_behind xs)
 
-    run_follows : (steps others : List Step) (old mid new : History D) → RunsTo seen failures armed steps old mid → RunsTo seen failures armed others mid new → AllByRecursion (λ step. spares_master step ≡ true) others → Follows (Answered_by steps old mid) mid
-        → Follows (Answered_by (steps ++ others) old new) new
-    run_follows steps [] old mid new runs same spares f =
-        subst (λ xs. Follows (Answered_by xs old new) new) (sym (none_behind steps)) (subst (λ (h : History D). Follows (Answered_by steps old h) h) (sym same) f)
-    run_follows steps (step ∷ others) old mid new runs (h, goes, rest) spares f =
-        subst (λ xs. Follows (Answered_by xs old new) new) (append_assoc steps (step ∷ []) others)
-        (run_follows (steps ++ step ∷ []) others old h new (then_step steps step old mid h runs goes) rest spares.1 (step_follows steps step old mid h runs goes spares.0 f))
+    -- with each world on the way such
+    module _ (Such : History D → Type 0) where
+      abbrev Answered_by : List Step → History D → History D → Answer → Type 0
+      Answered_by steps old new answer = (made : WasAnswered seen failures armed steps old new req call answer) × GoesBy seen failures armed Such steps old new req call answer made
+
+      abbrev All_such : (steps : List Step) (old new : History D) → RunsTo seen failures armed steps old new → Type 0
+      All_such steps old new runs = (h : History D) → Passes seen failures armed h steps old new runs → Such h
+
+      such_then : (steps : List Step) (step : Step) (old mid new : History D) (runs : RunsTo seen failures armed steps old mid) (goes : Goes seen failures armed step mid new) → All_such steps old mid runs → Such new → All_such (steps ++ step ∷ []) old new (then_step steps step old mid new runs goes)
+      unfolding then_step
+      such_then [] step old mid new same goes all is h (inl here) = subst Such (sym here) is
+      such_then [] step old mid new same goes all is h (inr behind) = absurd behind
+      such_then (one ∷ steps) step old mid new (k, first, rest) goes all is h (inl here) = all h (inl here)
+      such_then (one ∷ steps) step old mid new (k, first, rest) goes all is h (inr there) = such_then steps step k mid new rest goes (λ j on. all j (inr on)) is h there
+
+      further : (steps : List Step) (step : Step) (old mid new : History D) → Goes seen failures armed step mid new → Such new → (answer : Answer) → Answered_by steps old mid answer → Answered_by (steps ++ step ∷ []) old new answer
+      further steps step old mid new goes is answer (was, by) = (
+        record {
+          before = was.before;
+          now = was.now;
+          event = was.event;
+          said = was.said;
+          next = was.next;
+          after = was.after ++ step ∷ [];
+          parts = ap (λ xs. xs ++ step ∷ []) was.parts ∙ append_assoc was.before (Comes was.event ∷ was.after) (step ∷ []);
+          first = was.first;
+          happens = was.happens;
+          rest = then_step was.after step was.next mid new was.rest goes;
+          answers = was.answers;
+        },
+        record { first = by.first; next = by.next; rest = such_then was.after step was.next mid new was.rest goes by.rest is },
+      )
+
+      step_follows : (steps : List Step) (step : Step) (old mid new : History D) (runs : RunsTo seen failures armed steps old mid) → All_such steps old mid runs → Goes seen failures armed step mid new → Such new → spares_master step ≡ true → Follows (Answered_by steps old mid) mid
+          → Follows (Answered_by (steps ++ step ∷ []) old new) new
+      step_follows steps (Comes event) old mid new runs all (said, h) is spares f =
+          event_follows (Answered_by steps old mid) (Answered_by (steps ++ Comes event ∷ []) old new) (further steps (Comes event) old mid new (said, h) is) event mid new said h spares
+          (λ answer says. (record { before = steps; now = mid; event = event; said = said; next = new; after = []; parts = refl; first = runs; happens = h; rest = refl; answers = says }, record { first = all; next = is; rest = λ k never. absurd never })) f
+      step_follows steps (Takes client) old mid new runs all goes is spares f =
+          takes_follows (Answered_by steps old mid) (Answered_by (steps ++ Takes client ∷ []) old new) (further steps (Takes client) old mid new goes is) client mid new goes f
+
+      run_follows : (steps others : List Step) (old mid new : History D) (runs : RunsTo seen failures armed steps old mid) → All_such steps old mid runs → (rest : RunsTo seen failures armed others mid new) → All_such others mid new rest → AllByRecursion (λ step. spares_master step ≡ true) others
+          → Follows (Answered_by steps old mid) mid → Follows (Answered_by (steps ++ others) old new) new
+      run_follows steps [] old mid new runs all same none spares f =
+          subst (λ xs. Follows (Answered_by xs old new) new) (sym (none_behind steps)) (subst (λ (h : History D). Follows (Answered_by steps old h) h) (sym same) f)
+      run_follows steps (step ∷ others) old mid new runs all (h, goes, rest) on spares f =
+          subst (λ xs. Follows (Answered_by xs old new) new) (append_assoc steps (step ∷ []) others)
+          (run_follows (steps ++ step ∷ []) others old h new (then_step steps step old mid h runs goes) (such_then steps step old mid h runs goes all (on h (inl refl))) rest (λ k there. on k (inr there)) spares.1
+          (step_follows steps step old mid h runs all goes (on h (inl refl)) spares.0 f))
 
     -- ---- what it begins with
 
@@ -952,7 +969,11 @@ module _ (req : ReqId) (call : Call) where
     pub asked_follows : (Made : Answer → Type 0) (old asked : History D) (moment : Moment) → AreAsked seen old → AsksFresh seen failures armed old moment req call asked → Follows Made asked
     asked_follows Made old asked moment are x = happens_so Made old moment are x.node x.there x.fresh asked.nodes asked.sent x.happens.by x.happens.outcome x.happens.at.1 x.happens.tells
 
+pub answers_are_made_on_the_way : {D : Type 0} (seen : D → List ℕ) (failures : D → ℕ) (armed : DiskId → ℕ → MasterPlace D → MasterPlace D) → AnswersAreMadeOnTheWay seen failures armed
+answers_are_made_on_the_way {D} seen failures armed old asked new moment req call steps node answer are fresh once runs spares there last reply =
+    let begun = asked_follows req call seen failures armed once (Answered_by req call seen failures armed once (λ h. Passes seen failures armed h steps asked new runs) [] asked asked) old asked moment are fresh in
+    (run_follows req call seen failures armed once (λ h. Passes seen failures armed h steps asked new runs) [] steps asked asked new refl (λ h never. absurd never) runs (λ h on. on) spares begun).client node there answer last reply
+
 pub answers_are_made : {D : Type 0} (seen : D → List ℕ) (failures : D → ℕ) (armed : DiskId → ℕ → MasterPlace D → MasterPlace D) → AnswersAreMade seen failures armed
-answers_are_made {D} seen failures armed old asked new moment req call steps node answer are fresh once runs spares there last reply =
-    let begun = asked_follows req call seen failures armed once (Answered_by req call seen failures armed once [] asked asked) old asked moment are fresh in
-    (run_follows req call seen failures armed once [] steps asked asked new refl runs spares begun).client node there answer last reply
+answers_are_made seen failures armed old asked new moment req call steps node answer are fresh once runs spares there last reply =
+    (answers_are_made_on_the_way seen failures armed old asked new moment req call steps node answer are fresh once runs spares there last reply).0

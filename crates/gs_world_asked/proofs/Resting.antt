@@ -79,9 +79,9 @@ module _ (d : Durable) (client : ClientId) (number : ℕ) where
 
   -- ---- turns
 
-  record TurnStill (s : State) (t : Turn) : Type 0 where
-    after : Still t.after
-    cuts : (place : ℕ) → place < length t.records → Still (cut s t.records place)
+  pub record TurnStill (s : State) (t : Turn) : Type 0 where
+    pub after : Still t.after
+    pub cuts : (place : ℕ) → place < length t.records → Still (cut s t.records place)
 
   quiet : (s : State) (messages : List Message) (said : Option Refusal) → Still s → TurnStill s (record { after = s; records = []; sent = messages; said = said })
   quiet s messages said so = record { after = so; cuts = λ place within. absurd (omega arith) }
@@ -96,7 +96,7 @@ module _ (d : Durable) (client : ClientId) (number : ℕ) where
       record { names = rests.0.names ∙ so.names; phase = rests.0.phase ∙ so.phase; epoch = rests.0.epoch ∙ so.epoch; none = none; had = had_same s u rests.0.replies rests.1 so.had }
 
   -- nobody is concerned
-  nobody_still : (s : State) (t : Turn) → AnswersOnly (IsConcerned s None) s t → Still s → TurnStill s t
+  pub nobody_still : (s : State) (t : Turn) → AnswersOnly (IsConcerned s None) s t → Still s → TurnStill s t
   nobody_still s t only so = record {
     after = rests_still s t.after (only.rests none) (λ req there. none req (only.waits req there)) so;
     cuts = λ place within. rests_still s (cut s t.records place) (only.cut_rests none place within) (λ req there. so.none req (subst (λ (v : Volatile). is_pending v.pending req ≡ true) (volatile_still (take place t.records) s) there)) so;
@@ -192,7 +192,7 @@ module _ (d : Durable) (client : ClientId) (number : ℕ) where
   other_still : (config : Config) (s : State) (message : Message) (moment : Moment) → caller_of message.body ≡ None → Still s → TurnStill s (handle config s message moment)
   other_still config s message moment none so = nobody_still s (handle config s message moment) (subst (λ caller. AnswersOnly (IsConcerned s caller) s (handle config s message moment)) none (messages_concerned config s message moment)) so
 
-  heard_still : (config : Config) (s : State) (message : Message) (moment : Moment) (body : Body) → message.body ≡ body → SaysSo body → Still s → TurnStill s (handle config s message moment)
+  pub heard_still : (config : Config) (s : State) (message : Message) (moment : Moment) (body : Body) → message.body ≡ body → SaysSo body → Still s → TurnStill s (handle config s message moment)
   heard_still config s message moment (bodies.Call req call) is says so = call_still config s message moment req call is says so
   heard_still config s message moment (bodies.Reply req result) is says so = other_still config s message moment (ap caller_of is) so
   heard_still config s message moment (bodies.About chunk said) is says so = other_still config s message moment (ap caller_of is) so

@@ -1,5 +1,5 @@
 -- For which call an answer is, and when it was made.
-use Rattle.std.specs.Prelude.{[], ◌++◌, ◌<◌, ◌∷◌, ◌≡◌, Bool, Contains, Err, List, Ok, Result, Some, false, true, ℕ}
+use Rattle.std.specs.Prelude.{[], ◌++◌, ◌<◌, ◌∷◌, ◌≡◌, ◌⊎◌, Bool, Contains, Err, List, Ok, Result, Some, false, true, ℕ}
 use Rattle.std.specs.List.{AllByRecursion}
 use Rattle.gs_base.specs.declared.numbers.Moment.{Moment}
 use Rattle.gs_base.specs.declared.numbers.ReqId.{ReqId}
@@ -80,6 +80,17 @@ module _ {D : Type 0} (seen : D → List ℕ) (failures : D → ℕ) (armed : Di
     pub rest : RunsTo seen failures armed after next new
     pub answers : AnswersNow now event happens.outcome req call answer
 
+  -- a run passes a world where that is the one behind one of its steps
+  abbrev pub Passes : (h : History D) (steps : List Step) (old new : History D) → RunsTo seen failures armed steps old new → Type 0
+  Passes h [] old new is = ⊥
+  Passes h (step ∷ steps) old new (mid, goes, rest) = (h ≡ mid) ⊎ Passes h steps mid new rest
+
+  -- each world on the way to the event of an answer is such, and so is the one behind that event, and each from then on
+  pub record GoesBy (Such : History D → Type 0) (steps : List Step) (old new : History D) (req : ReqId) (call : Call) (answer : Answer) (made : WasAnswered steps old new req call answer) : Type 0 where
+    pub first : (h : History D) → Passes h made.before old made.now made.first → Such h
+    pub next : Such made.next
+    pub rest : (h : History D) → Passes h made.after made.next new made.rest → Such h
+
   -- ---- what is to hold
 
   -- A client asks under a number that is fresh, and is taken.
@@ -94,3 +105,9 @@ module _ {D : Type 0} (seen : D → List ℕ) (failures : D → ℕ) (armed : Di
   AnswersAreMade = (old asked new : History D) (moment : Moment) (req : ReqId) (call : Call) (steps : List Step) (node : Node) (answer : Answer) → AreAsked seen old → AsksFresh old moment req call asked → is_answered_at_once call ≡ true →
       RunsTo seen failures armed steps asked new → AllByRecursion (λ step. spares_master step ≡ true) steps → client_in new.nodes.clients req.client ≡ Some node → node.last ≡ req.number → node.reply ≡ Some (replies.Answer answer) →
       WasAnswered steps asked new req call answer
+
+  -- And so it was in the run that is given: each world on the way is one that this run passes.
+  abbrev pub AnswersAreMadeOnTheWay : Type 0
+  AnswersAreMadeOnTheWay = (old asked new : History D) (moment : Moment) (req : ReqId) (call : Call) (steps : List Step) (node : Node) (answer : Answer) → AreAsked seen old → AsksFresh old moment req call asked → is_answered_at_once call ≡ true →
+      (runs : RunsTo seen failures armed steps asked new) → AllByRecursion (λ step. spares_master step ≡ true) steps → client_in new.nodes.clients req.client ≡ Some node → node.last ≡ req.number → node.reply ≡ Some (replies.Answer answer) →
+      (made : WasAnswered steps asked new req call answer) × GoesBy (λ h. Passes h steps asked new runs) steps asked new req call answer made

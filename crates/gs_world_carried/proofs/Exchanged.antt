@@ -1,7 +1,6 @@
 -- What a desk carries for a client that reads is a request with its reply.
-use Rattle.std.proofs.Common.{if◌then◌else◌, ◌≡◌, ◌∙◌, ◌⊎◌, inl, inr, ◌++◌, ◌-◌, ◌<◌, ℕ, Bool, true, false, List, [], ◌∷◌, Option, Some, None, MatchOption, Result, Ok, Err, Vec, refl, sym, ap, subst, arith, nat_le, slice_set}
+use Rattle.std.proofs.Common.{if◌then◌else◌, ◌≡◌, ◌∙◌, inl, ◌-◌, ◌<◌, ℕ, Bool, true, false, List, [], ◌∷◌, Option, Some, None, MatchOption, Result, Ok, Err, Vec, refl, sym, ap, subst, arith, nat_le, slice_set}
 use Rattle.std.specs.Prelude.{unwrap_or}
-use Rattle.std.specs.List.{AllByRecursion}
 use Rattle.std.specs.declared.alloc.Global.{Global}
 use Rattle.std.proofs.lemmas.Bool.Decides.{nat_tests}
 use Rattle.gs_base.specs.Told.{IsNumber}
@@ -18,17 +17,17 @@ use Rattle.gs_msg.specs.declared.message.Message.{Message}
 use Rattle.gs_msg.specs.declared.node.NodeId.TheVariants as nodes
 use Rattle.gs_nodes.specs.Happenings.{AtClient, ClientAsks, client_in}
 use Rattle.gs_nodes.specs.Nodes.{Nodes, with_clients}
-use Rattle.gs_shell_desk.specs.Ways.{AnswersAsked, Carries, IsAsked, Way, shortened_by, with_nodes}
+use Rattle.gs_shell_desk.specs.Ways.{AnswersAsked, IsAsked, Way, shortened_by, with_nodes}
 use Rattle.gs_world.proofs.Staying.{at_client}
-use Rattle.gs_world.specs.Histories.{Happens, History, asked as asked_out}
-use Rattle.gs_world.specs.Runs.{Comes, Goes, RunsTo, Step, Takes}
+use Rattle.gs_world.specs.Histories.{Happens}
+use Rattle.gs_world.specs.Runs.{Comes, Goes, Step, Takes}
 use Rattle.gs_world.specs.Sent.{Sent}
 use Rattle.gs_world_asked.proofs.Asked.{found_now}
 use Rattle.gs_world_asked.proofs.Parts.{asking}
 use Rattle.gs_world_asked.specs.Resting.{IsLooking}
-use Rattle.gs_world_carried.proofs.Carried.{Calm, LastIs, OneEvent, both, chain, delivers_whole, joined, one_event, waited_if}
+use Rattle.gs_world_carried.proofs.Carried.{Calm, LastIs, OneEvent, chain, delivers_whole, one_event, waited_if}
 use Rattle.gs_world_carried.specs.Exchanged.{HasReply, IsExchanged, Looks, LooksAreCarried, Went, asks_at}
-use Rattle.gs_world_laws.proofs.Ending.{Alike, alike_to, as_it_is, asking_client, shortened_alike}
+use Rattle.gs_world_laws.proofs.Ending.{alike_to, as_it_is, asking_client, shortened_alike}
 use Rattle.gs_world_laws.specs.Asking.{MayBeAsked}
 use Rattle.gs_world_laws.specs.Reached.{Covers, history, unarmed}
 use Rattle.gs_world_laws.specs.Saying.{IsStepWithin}

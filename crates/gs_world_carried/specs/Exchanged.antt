@@ -1,5 +1,5 @@
 -- What a desk carries for a client that reads is a request with its reply, and nothing else is asked of the master meanwhile.
-use Rattle.std.specs.Prelude.{[], ◌<◌, ◌∷◌, ◌≡◌, List, Ok, Some, ℕ}
+use Rattle.std.specs.Prelude.{◌<◌, ◌≡◌, List, Ok, Some, ℕ}
 use Rattle.std.specs.List.{AllByRecursion}
 use Rattle.gs_base.specs.Told.{IsNumber}
 use Rattle.gs_base.specs.declared.numbers.ClientId.{ClientId}
@@ -50,7 +50,7 @@ module _ {D : Type 0} (seen : D → List ℕ) (failures : D → ℕ) where
     pub number : last.last ≡ req.number
     pub has : last.reply ≡ Some reply
 
-  -- what a reader takes of a request: an answer of the master or a part of a chunk that came to it; of what else there is, that nothing but look-ups was asked meanwhile
+  -- what a reader takes of a request: an answer of the master or a part of a chunk that came to it; of what else there is, that nothing but look-ups was asked of the master meanwhile
   abbrev pub Went : ClientId → History D → Request → Reply → History D → Type 0
   Went client old request (replies.Answer answer) new = HasReply client old request (replies.Answer answer) new
   Went client old request (replies.Given given) new = HasReply client old request (replies.Given given) new

@@ -1,36 +1,29 @@
 -- Who asks for a part of a chunk: a client, under a number that it hasn't asked under before.
-use Rattle.std.proofs.Common.{if◌then◌else◌, ◌≡◌, ◌∙◌, ◌⊎◌, inl, inr, ◌++◌, ◌-◌, ◌≤◌, ◌<◌, ℕ, Bool, true, false, List, [], ◌∷◌, Option, Some, None, MatchOption, Result, Ok, Err, refl, sym, ap, subst, arith, nat_le, slice_set}
+use Rattle.std.proofs.Common.{◌≡◌, ◌∙◌, ◌++◌, ◌-◌, ◌≤◌, ℕ, zero, suc, false, List, [], ◌∷◌, Option, Some, None, MatchOption, Result, Ok, Err, refl, sym, ap, subst, arith, nat_le, slice_set}
 use Rattle.std.specs.Prelude.{Contains}
 use Rattle.std.specs.List.{AllByRecursion}
 use Rattle.std.proofs.lemmas.Bool.Decides.{nat_tests}
-use Rattle.gs_base.specs.declared.numbers.ClientId.{ClientId}
 use Rattle.gs_base.specs.declared.numbers.ReqId.{ReqId}
 use Rattle.gs_base.specs.declared.numbers.Stamp.{Stamp}
 use Rattle.gs_base.specs.declared.refusal.Refusal.{Refusal}
 use Rattle.gs_client.specs.Nodes.{Node, given_up, hears, messages_of, pushes, request_of, tell, with_bytes}
-use Rattle.gs_client.specs.declared.link.Reply.{Reply}
 use Rattle.gs_master.specs.declared.turn.Turn.{Turn}
-use Rattle.gs_msg.specs.declared.body.Body.{Body}
 use Rattle.gs_msg.specs.declared.body.Body.TheVariants as bodies
 use Rattle.gs_msg.specs.declared.chunk.Asked.{Asked as Wanted}
-use Rattle.gs_msg.specs.declared.chunk.Chunk.{Chunk}
 use Rattle.gs_msg.specs.declared.chunk.Chunk.TheVariants as chunks
 use Rattle.gs_msg.specs.declared.event.Event.{Event}
 use Rattle.gs_msg.specs.declared.event.Happening.TheVariants as happenings
 use Rattle.gs_msg.specs.declared.event.Request.{Request}
 use Rattle.gs_msg.specs.declared.event.Request.TheVariants as requests
 use Rattle.gs_msg.specs.declared.message.Message.{Message}
-use Rattle.gs_msg.specs.declared.message.MsgId.{MsgId}
 use Rattle.gs_msg.specs.declared.node.NodeId.TheVariants as nodes
 use Rattle.gs_nodes.specs.Happenings.{client_in}
 use Rattle.gs_nodes.specs.Nodes.{Nodes, with_master}
 use Rattle.gs_nodes.specs.declared.place.MasterPlace.{MasterPlace}
-use Rattle.gs_server_member.proofs.Elsewhere.{ByServer}
 use Rattle.gs_server_member.specs.Answering.{IsByServer}
 use Rattle.gs_world.specs.Histories.{Happens, History, Upshot, told}
 use Rattle.gs_world.specs.Lasting.{HearsNamed}
-use Rattle.gs_world.specs.Runs.{Comes, Goes, RunsTo, Step, Takes, TakesReply}
-use Rattle.gs_world.specs.Sent.{message_of}
+use Rattle.gs_world.specs.Runs.{Comes, Goes, RunsTo, Step, Takes}
 use Rattle.gs_world_asked.proofs.Asked.{asked_further, asked_now, hearing_same, own_id, stays_unarmed, begins_asked, Numbered_all}
 use Rattle.gs_world_asked.proofs.Parts.{Armed, Asked, Heard, Opened, Part, Rested, Served, Ticked, Told, asking, hearing, part_of, with_client}
 use Rattle.gs_world_asked.specs.Answered.{sent_by}
@@ -39,7 +32,7 @@ use Rattle.gs_world.proofs.Reaching.{HaveSizes}
 use Rattle.gs_world_chunks.proofs.MasterSays.{master_says}
 use Rattle.gs_world_chunks.proofs.SeeingThrough.{reached_well}
 use Rattle.gs_world_chunks.proofs.Told.{named}
-use Rattle.gs_world_chunks.proofs.Well.{IsWell, begins_well, step_well}
+use Rattle.gs_world_chunks.proofs.Well.{begins_well, step_well}
 use Rattle.gs_world_chunks.specs.Accounts.{Account}
 use Rattle.gs_world_chunks.specs.Reading.{sent_at}
 use Rattle.gs_world_chunks.specs.Running.{IsReached, Moves, Runs, Setup}

@@ -1,5 +1,5 @@
 -- What a client was given came in a message.
-use Rattle.std.proofs.Common.{if◌then◌else◌, ◌≡◌, ◌∙◌, ◌⊎◌, inl, inr, ◌++◌, ◌-◌, ◌==◌, ℕ, Bool, true, false, List, [], ◌∷◌, Option, Some, None, MatchOption, Result, Ok, Err, cond, refl, sym, ap, subst, arith, slice_set}
+use Rattle.std.proofs.Common.{if◌then◌else◌, ◌≡◌, ◌∙◌, ◌⊎◌, inl, inr, ◌-◌, ◌==◌, ℕ, Bool, true, false, List, [], ◌∷◌, Option, Some, None, MatchOption, Result, Ok, Err, cond, refl, sym, ap, subst, arith}
 use Rattle.std.proofs.lemmas.Bool.Decides.{nat_tests}
 use Rattle.gs_base.specs.declared.numbers.ClientId.{ClientId}
 use Rattle.gs_base.specs.declared.numbers.ReqId.{ReqId}
@@ -19,10 +19,9 @@ use Rattle.gs_world.specs.Sent.{IsSent}
 use Rattle.gs_world_asked.proofs.Answered.{set_client}
 use Rattle.gs_world_asked.proofs.Asked.{Numbered_all, Waits, own_id}
 use Rattle.gs_world_asked.proofs.Parts.{Armed, Asked, Heard, Opened, Part, Rested, Served, Ticked, Told, asking, hearing, part_of, with_client}
-use Rattle.gs_world_asked.specs.Asked.{AreAsked}
 use Rattle.gs_world.proofs.Reaching.{HaveSizes}
 use Rattle.gs_world_chunks.specs.Accounts.{Account}
-use Rattle.gs_world_chunks.specs.Running.{IsReached, Moves, Runs, Setup}
+use Rattle.gs_world_chunks.specs.Running.{IsReached, Runs, Setup}
 use Rattle.gs_world_fetched.proofs.Asking.{are_asked}
 use Rattle.gs_world_fetched.proofs.Sending.{reach, stays_sent}
 use Rattle.gs_world_fetched.specs.Fetched.{IsUnarmed}

@@ -1,10 +1,8 @@
 -- A part of a chunk that a client takes was given for its request.
-use Rattle.std.proofs.Common.{if◌then◌else◌, ◌≡◌, ◌∙◌, ◌⊎◌, inl, inr, ◌++◌, ◌-◌, ◌≤◌, ◌<◌, ℕ, Bool, true, false, List, [], ◌∷◌, Option, Some, None, MatchOption, Result, Ok, Err, refl, sym, ap, subst, arith, nat_le}
-use Rattle.std.specs.Prelude.{Contains, Vec}
+use Rattle.std.proofs.Common.{if◌then◌else◌, ◌≡◌, ◌∙◌, ◌⊎◌, inl, inr, ◌≤◌, ◌<◌, ℕ, Bool, true, false, List, [], ◌∷◌, Option, Some, None, MatchOption, Result, Ok, Err, refl, sym, ap, subst, arith, nat_le}
+use Rattle.std.specs.Prelude.{Vec}
 use Rattle.std.specs.declared.alloc.Global.{Global}
-use Rattle.std.proofs.lemmas.Bool.{false≢true}
 use Rattle.std.proofs.lemmas.Bool.Decides.{nat_tests}
-use Rattle.gs_base.specs.declared.numbers.ClientId.{ClientId}
 use Rattle.gs_base.specs.declared.numbers.Moment.{Moment}
 use Rattle.gs_base.specs.declared.numbers.ReqId.{ReqId}
 use Rattle.gs_base.specs.declared.numbers.Stamp.{Stamp}
@@ -31,14 +29,14 @@ use Rattle.gs_world.proofs.Reaching.{HaveSizes}
 use Rattle.gs_world.specs.Histories.{Happens, History, Tells, Upshot, asked as asked_out}
 use Rattle.gs_world.specs.Runs.{Comes, Step}
 use Rattle.gs_world.specs.Sent.{IsSent}
-use Rattle.gs_world_asked.specs.Asked.{AreAsked, HasAsked}
+use Rattle.gs_world_asked.specs.Asked.{HasAsked}
 use Rattle.gs_world_asked.proofs.Asked.{asked_now, found_now, own_id}
 use Rattle.gs_world_asked.proofs.Parts.{asking, with_client}
 use Rattle.gs_world_chunks.specs.Accounts.{Account}
-use Rattle.gs_world_chunks.specs.Reading.{BytesAreFetched, GivesBytes, WasFetched, sent_at}
+use Rattle.gs_world_chunks.specs.Reading.{BytesAreFetched}
 use Rattle.gs_world_chunks.specs.Running.{IsReached, Moves, Runs, Setup}
 use Rattle.gs_world_lift.proofs.Beginning.{begins_none}
-use Rattle.gs_world_fetched.proofs.Asking.{Fetches, IsAsked, IsItsRequest, are_asked, asked_on, asks_then, who_asks}
+use Rattle.gs_world_fetched.proofs.Asking.{Fetches, IsItsRequest, are_asked, asked_on, asks_then, who_asks}
 use Rattle.gs_world_fetched.proofs.Coming.{ClientCame, HasCome, run_came}
 use Rattle.gs_world_fetched.proofs.Sending.{GoesOut, WasSent, reach, sent_before_or_now, sent_when}
 use Rattle.gs_world_fetched.specs.Fetched.{AsksFresh, IsUnarmed, PartsAreGiven, WasGiven, asking_event}
@@ -92,7 +90,7 @@ module _ (sizes : HaveSizes) {D : Type 0} (x : Setup D) (fetched : BytesAreFetch
   fetch_asked now a r m req handle stamp epoch want is sent = by_when (sent_when x r.steps r.begun now r.first a m r.runs sent)
     where
       by_when : IsSent m r.begun.sent ⊎ WasSent x r.steps r.begun r.first now a m → HasAsked now.nodes.clients req
-      by_when (inl before) = absurd (begins_none x.seen x.failures x.armed x.config x.clients x.disks r.begun r.begins.given.new r.begins.begins (λ n. ⊥) before.0 m before.1)
+      by_when (inl before) = absurd (begins_none x.seen x.failures x.armed sizes x.config (λ req. []) x.clients x.disks r.begun r.begins.given.new r.begins.begins (λ (n : Message). ⊥) before.0 m before.1)
       by_when (inr w) =
           let there = reach x w.before r.begun w.now r.first w.c (first_reached now a r) w.first in
           let asked = who_asks m req handle stamp epoch want is x w.now w.next w.c w.d w.event w.said there w.moves w.happens w.sends in
@@ -104,7 +102,7 @@ module _ (sizes : HaveSizes) {D : Type 0} (x : Setup D) (fetched : BytesAreFetch
   given_asked now a r m req given is sent = by_when (sent_when x r.steps r.begun now r.first a m r.runs sent)
     where
       by_when : IsSent m r.begun.sent ⊎ WasSent x r.steps r.begun r.first now a m → HasAsked now.nodes.clients req
-      by_when (inl before) = absurd (begins_none x.seen x.failures x.armed x.config x.clients x.disks r.begun r.begins.given.new r.begins.begins (λ n. ⊥) before.0 m before.1)
+      by_when (inl before) = absurd (begins_none x.seen x.failures x.armed sizes x.config (λ req. []) x.clients x.disks r.begun r.begins.given.new r.begins.begins (λ (n : Message). ⊥) before.0 m before.1)
       by_when (inr w) =
           let there = reach x w.before r.begun w.now r.first w.c (first_reached now a r) w.first in
           let f = fetched w.now w.next w.c w.d w.event w.said req given there w.moves w.happens (m, w.sends, is) in

@@ -1,0 +1,4 @@
+pub mod Named
+pub mod Unled
+pub mod Commits
+pub mod Looked

@@ -1,10 +1,9 @@
 -- What a client that only looks is told of files.
-use Rattle.std.specs.Prelude.{◌≡◌, Bool, List, None, Ok, Result, Some, false, map, true, ℕ}
+use Rattle.std.specs.Prelude.{◌≡◌, Bool, List, None, Ok, Result, Some, false, map, refl, true, ℕ}
 use Rattle.std.specs.FinMap as fin
 use Rattle.gs_base.specs.declared.numbers.ClientId.{ClientId}
 use Rattle.gs_base.specs.declared.numbers.ReqId.{ReqId}
 use Rattle.gs_base.specs.declared.refusal.Refusal.{Refusal}
-use Rattle.gs_lease.specs.declared.view.View.{View}
 use Rattle.gs_tree.specs.Entry.{File}
 use Rattle.gs_msg.specs.declared.answer.Answer.{Answer}
 use Rattle.gs_msg.specs.declared.answer.Answer.TheVariants as answers
@@ -20,13 +19,13 @@ use Rattle.gs_master_spec.specs.Durable.{Durable, is_listed, is_rolling}
 use Rattle.gs_master_looked.specs.Looked.{Locates}
 use Rattle.gs_nodes.specs.declared.place.MasterPlace.{MasterPlace}
 use Rattle.gs_world.specs.Histories.{Happens, History}
-use Rattle.gs_world_asked.specs.Answered.{AnswersNow, WasAnswered}
+use Rattle.gs_world_asked.specs.Answered.{AnswersNow, GoesBy, Passes, WasAnswered}
 use Rattle.gs_world_asked.specs.Behind.{HasAnswer, StandsOn}
 use Rattle.gs_world_asked.specs.Resting.{IsStill}
 use Rattle.gs_world_laws.specs.Through.{LastsThrough}
 use Rattle.gs_world_looked.specs.Unled.{IsHalted, IsUnarmed, StaysQuiet}
 
--- the master stands on these names, in this epoch, and no rollback is begun
+-- the master stands on these names, in this epoch, in whose phase no rollback is begun
 pub record StandsBy {D : Type 0} (d : Durable) (place : MasterPlace D) : Type 0 where
   pub durable : Durable
   pub stands : StandsOn place durable
@@ -68,9 +67,10 @@ module _ {D : Type 0} (seen : D → List ℕ) (failures : D → ℕ) (armed : Di
   LooksAreByNames = (d : Durable) (client : ClientId) (number : ℕ) (now next : History D) (event : Event) (said : Result (Unit {0}) Refusal) (h : Happens seen failures armed event now said next) (req : ReqId) (call : Call) (answer : Answer) → is_file_look call ≡ true →
       LastsThrough seen now.nodes.master → IsStill d client number now → StaysQuiet seen now → AnswersNow now event h.outcome req call answer → LooksBy d now.nodes.master call answer
 
-  -- Its look-up was answered at an event by these names; and where it has the answer the store is halted still.
+  -- Its look-up was answered at an event between worlds of this run, by these names; and where it has the answer the store is halted still.
   pub record LooksHalted (d : Durable) (client : ClientId) (number : ℕ) (start : History D) (call : Call) (answer : Answer) (new : History D) (l : HasAnswer seen failures armed client start call answer new) : Type 0 where
     pub made : WasAnswered seen failures armed l.steps l.asked new l.req call answer
+    pub by : GoesBy seen failures armed (λ h. Passes seen failures armed h l.steps l.asked new l.runs) l.steps l.asked new l.req call answer made
     pub met : IsHalted seen d client number made.now
     pub looks : LooksBy d made.now.nodes.master call answer
     pub halted : IsHalted seen d client number new
@@ -79,3 +79,11 @@ module _ {D : Type 0} (seen : D → List ℕ) (failures : D → ℕ) (armed : Di
   abbrev pub AnswersAreByNames : Type 0
   AnswersAreByNames = IsUnarmed armed → (d : Durable) (client : ClientId) (number : ℕ) (start new : History D) (call : Call) (answer : Answer) → is_file_look call ≡ true → IsHalted seen d client number start → (l : HasAnswer seen failures armed client start call answer new) →
       LooksHalted d client number start call answer new l
+
+-- ---- examples
+
+a_status_looks_at_a_file : (path : Path) → is_file_look (calls.Status path) ≡ true
+a_status_looks_at_a_file path = refl
+
+a_list_does_not : (path : Path) → is_file_look (calls.List path) ≡ false
+a_list_does_not path = refl

@@ -1,5 +1,5 @@
 -- That no chunk of a file has a primary while a client only looks.
-use Rattle.std.specs.Prelude.{◌≡◌, List, Result, true, ℕ}
+use Rattle.std.specs.Prelude.{◌≡◌, List, Result, refl, true, ℕ}
 use Rattle.std.specs.List.{AllByRecursion}
 use Rattle.gs_base.specs.declared.numbers.ClientId.{ClientId}
 use Rattle.gs_base.specs.declared.numbers.ReqId.{ReqId}
@@ -11,10 +11,10 @@ use Rattle.gs_msg.specs.declared.event.Event.{Event}
 use Rattle.gs_master_spec.specs.Durable.{Durable}
 use Rattle.gs_master_looked.specs.Unled.{AreUnled, IsUnled}
 use Rattle.gs_nodes.specs.declared.place.MasterPlace.{MasterPlace}
-use Rattle.gs_nodes.specs.declared.place.MasterPlace.TheVariants.{Standing}
+use Rattle.gs_nodes.specs.declared.place.MasterPlace.TheVariants.{Standing, Away}
 use Rattle.gs_world.specs.Histories.{Happens, History}
 use Rattle.gs_world.specs.Runs.{Comes, RunsTo, Step}
-use Rattle.gs_world_asked.specs.Answered.{AnswersNow, WasAnswered}
+use Rattle.gs_world_asked.specs.Answered.{AnswersNow, GoesBy, Passes, WasAnswered}
 use Rattle.gs_world_asked.specs.Asked.{AreAsked}
 use Rattle.gs_world_asked.specs.Behind.{HasAnswer, IsOnly, StandsOn, is_halt}
 use Rattle.gs_world_asked.specs.Resting.{IsLooking, IsStill}
@@ -29,17 +29,23 @@ IsUnledAt place = Unit {0}
 abbrev pub IsUnarmed : {D : Type 0} → (DiskId → ℕ → MasterPlace D → MasterPlace D) → Type 0
 IsUnarmed {D} armed = (disk : DiskId) (call : ℕ) (place : MasterPlace D) → armed disk call place ≡ place
 
+-- what is told has these names, and this epoch
+pub record HasNames (d e : Durable) : Type 0 where
+  pub names : e.names ≡ d.names
+  pub epoch : e.epoch ≡ d.epoch
+
 module _ {D : Type 0} (seen : D → List ℕ) where
   -- no chunk of a file has a primary at the master, and none gets one by what it has begun; nor by what its disks tell
   pub record StaysQuiet (h : History D) : Type 0 where
     pub master : IsUnledAt h.nodes.master
     pub told : (d : Durable) → TellsAt seen h.nodes.master d → AreUnled d
 
-  -- A store in which a client has halted: the names, the phase and the epoch are these and stand, no call waits, all that was called before has a number that the client has had, and no chunk of a file has a primary. Beside that it keeps to its
-  -- types, lasts through failures, and of each reply in it its client has asked.
+  -- A store in which a client has halted: the names, the phase and the epoch are these and stand, no call waits, all that was called before has a number that the client has had, and no chunk of a file has a primary; the master's disks tell these names, and
+  -- this epoch. Beside that it keeps to its types, lasts through failures, and of each reply in it its client has asked.
   pub record IsHalted (d : Durable) (client : ClientId) (number : ℕ) (h : History D) : Type 0 where
     pub still : IsStill d client number h
     pub quiet : StaysQuiet h
+    pub named : (e : Durable) → TellsAt seen h.nodes.master e → HasNames d e
     pub asked : AreAsked seen h
     pub types : KeepsTypes h
     pub lasts : LastsThrough seen h.nodes.master
@@ -62,14 +68,24 @@ module _ {D : Type 0} (seen : D → List ℕ) (failures : D → ℕ) (armed : Di
   CommitsLeaveUnled = IsUnarmed armed → (now next : History D) (event : Event) (said : Result (Unit {0}) Refusal) (h : Happens seen failures armed event now said next) (req : ReqId) (call : Call) (answer : Answer) → is_halt call ≡ true → IsStepWithin (Comes event) →
       KeepsTypes now → LastsThrough seen now.nodes.master → AnswersNow now event h.outcome req call answer → StaysQuiet seen next
 
-  -- Its commit was answered at an event, behind which a master stood on this; and where it has the answer the store is halted on this.
+  -- Its commit was answered at an event between worlds of this run, behind which a master stood on this; right behind it, and where it has the answer, the store is halted on this.
   pub record HaltsBy (client : ClientId) (old : History D) (call : Call) (answer : Answer) (mid : History D) (c : HasAnswer seen failures armed client old call answer mid) : Type 0 where
     pub made : WasAnswered seen failures armed c.steps c.asked mid c.req call answer
+    pub by : GoesBy seen failures armed (λ h. Passes seen failures armed h c.steps c.asked mid c.runs) c.steps c.asked mid c.req call answer made
     pub durable : Durable
     pub stands : StandsOn made.next.nodes.master durable
+    pub begun : IsHalted seen durable client c.req.number made.next
     pub halted : IsHalted seen durable client c.req.number mid
 
   -- So it is where it is the only client, and asks nothing else but look-ups meanwhile.
   abbrev pub CommitsHalt : Type 0
   CommitsHalt = IsUnarmed armed → (client : ClientId) (old mid : History D) (call : Call) (answer : Answer) → AreAsked seen old → KeepsTypes old → LastsThrough seen old.nodes.master → is_halt call ≡ true → (c : HasAnswer seen failures armed client old call answer mid) →
       IsOnly client mid → HaltsBy client old call answer mid c
+
+-- ---- examples
+
+no_failure_is_arranged : {D : Type 0} → IsUnarmed (λ (disk : DiskId) (call : ℕ) (place : MasterPlace D). place)
+no_failure_is_arranged disk call place = refl
+
+a_master_that_is_away_has_begun_nothing : (D : Type 0) → IsUnledAt {D = D} Away
+a_master_that_is_away_has_begun_nothing D = tt

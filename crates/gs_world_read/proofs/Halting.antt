@@ -1,5 +1,5 @@
 -- In a halted store nobody leads a chunk of a file, whatever views of it are settled.
-use Rattle.std.proofs.Common.{◌≡◌, ◌∙◌, ◌++◌, Bool, true, false, List, [], ◌∷◌, None, Option, Some, ℕ, refl, sym, ap, subst}
+use Rattle.std.proofs.Common.{◌≡◌, ◌∙◌, Bool, true, List, [], ◌∷◌, None, Option, Some, ℕ, refl, sym, ap, subst}
 use Rattle.std.specs.Prelude.{is_some}
 use Rattle.std.specs.FinMap as fin
 use Rattle.std.specs.List.{AllByRecursion}
@@ -12,7 +12,7 @@ use Rattle.gs_master_spec.specs.Durable.{Durable, Settled, is_listed}
 use Rattle.gs_world.specs.Histories.{History}
 use Rattle.gs_world.specs.Runs.{Step}
 use Rattle.gs_world_asked.specs.Resting.{IsLooking}
-use Rattle.gs_world_chunks.specs.Accounts.{Account, view_at}
+use Rattle.gs_world_chunks.specs.Accounts.{Account}
 use Rattle.gs_world_chunks.specs.Running.{IsToldAt, Moves, Runs, Setup}
 use Rattle.gs_world_laws.specs.Reached.{unarmed}
 use Rattle.gs_world_looked.specs.Unled.{IsHalted, StaysHalted}

@@ -1,34 +1,25 @@
 -- What a client that has halted a store reads of a file is of what stood there.
-use Rattle.std.proofs.Common.{◌≡◌, ◌∙◌, ◌⊎◌, inl, inr, ◌++◌, Bool, true, false, List, [], ◌∷◌, None, Option, Some, Result, Ok, Err, ℕ, map, refl, sym, ap, subst, append_assoc, slice_get}
-use Rattle.std.specs.Prelude.{Contains, drop, is_some, length, take}
+use Rattle.std.proofs.Common.{◌≡◌, ◌∙◌, inl, inr, ◌++◌, Bool, true, false, List, [], ◌∷◌, Some, Ok, ℕ, map, refl, sym, ap, subst, slice_get}
+use Rattle.std.specs.Prelude.{is_some}
 use Rattle.std.specs.FinMap as fin
 use Rattle.std.specs.List.{AllByRecursion}
 use Rattle.std.proofs.lemmas.List.Elements.{Contains-push_cases}
-use Rattle.gs_base.specs.Members.{is_member}
 use Rattle.gs_base.specs.declared.config.Config.{Config}
 use Rattle.gs_base.specs.declared.numbers.ClientId.{ClientId}
-use Rattle.gs_base.specs.declared.numbers.Moment.{Moment}
-use Rattle.gs_base.specs.declared.numbers.ReqId.{ReqId}
 use Rattle.gs_base.specs.declared.numbers.Stamp.{Stamp}
 use Rattle.gs_base.specs.declared.refusal.Refusal.{Refusal}
-use Rattle.gs_block.specs.Stored.{digest_at}
 use Rattle.gs_client.specs.declared.link.Reply.{Reply}
 use Rattle.gs_client.specs.declared.link.Reply.TheVariants as replies
 use Rattle.gs_client_part.specs.declared.located.Located.{Located}
 use Rattle.gs_client_plain.specs.Files.{AreOf, IsOf, Stands, TellsChunks, TellsPlace, part_of}
 use Rattle.gs_client_plain.specs.Located.{AskSo, IsUnder, MayAsk, WasTold}
 use Rattle.gs_edit.specs.View.{NamesView}
-use Rattle.gs_lease.specs.declared.view.View.{View}
-use Rattle.gs_master.specs.Masters.{MasterOf}
-use Rattle.gs_master_looked.specs.Looked.{Locates}
 use Rattle.gs_master_spec.specs.Applied.{view_in}
 use Rattle.gs_master_spec.specs.Calls.{chunks_at}
 use Rattle.gs_master_spec.specs.Durable.{Durable, is_listed, is_rolling}
-use Rattle.gs_master_spec.specs.State.{is_failed}
 use Rattle.gs_msg.specs.declared.answer.Answer.{Answer}
 use Rattle.gs_msg.specs.declared.answer.Answer.TheVariants as answers
 use Rattle.gs_msg.specs.declared.answer.ChunkStatus.{ChunkStatus}
-use Rattle.gs_msg.specs.declared.answer.Status.{Status}
 use Rattle.gs_msg.specs.declared.answer.Status.TheVariants as statuses
 use Rattle.gs_msg.specs.declared.body.Body.TheVariants as bodies
 use Rattle.gs_msg.specs.declared.body.Given.{Given}
@@ -39,35 +30,33 @@ use Rattle.gs_msg.specs.declared.chunk.Asked.TheVariants as asks
 use Rattle.gs_msg.specs.declared.chunk.Chunk.TheVariants as chunks
 use Rattle.gs_msg.specs.declared.event.Request.{Request}
 use Rattle.gs_msg.specs.declared.event.Request.TheVariants as requests
-use Rattle.gs_msg.specs.declared.message.Message.{Message}
 use Rattle.gs_nodes.specs.Happenings.{client_in}
 use Rattle.gs_nodes.specs.declared.place.MasterPlace.{MasterPlace}
-use Rattle.gs_nodes.specs.declared.place.MasterPlace.TheVariants.{Standing}
 use Rattle.gs_path.specs.Path.{Path}
 use Rattle.gs_tree.specs.Edits.{chunks_in}
-use Rattle.gs_tree.specs.Entry.{Entry, File}
+use Rattle.gs_tree.specs.Entry.{File}
 use Rattle.gs_world.specs.Histories.{History}
-use Rattle.gs_world.specs.Lasting.{IsToldIn}
 use Rattle.gs_world.specs.Runs.{Comes, RunsTo, Step}
-use Rattle.gs_world_asked.specs.Behind.{HasAnswer, StandsOn}
-use Rattle.gs_world_asked.specs.Resting.{IsLooking, StandsStill, StandsStillAt}
+use Rattle.gs_world_asked.specs.Behind.{HasAnswer}
+use Rattle.gs_world_asked.specs.Resting.{IsLooking, StandsStillAt}
 use Rattle.gs_world_carried.specs.Exchanged.{HasReply, Looks, Went, asks_at}
 use Rattle.gs_world_chunks.proofs.Accounted.{runs_told}
 use Rattle.gs_world_chunks.proofs.Once.{told_at_once}
 use Rattle.gs_world_chunks.proofs.Well.{IsWell}
-use Rattle.gs_world_chunks.specs.Accounts.{Account, settled_edits, text_of, view_at}
+use Rattle.gs_world_chunks.specs.Accounts.{Account, settled_edits, text_of}
 use Rattle.gs_world_chunks.specs.Reading.{IsFetch, IsLookedUp, given_of}
-use Rattle.gs_world_chunks.specs.Running.{IsGiven, IsReached, IsToldAt, Moves, Runs}
+use Rattle.gs_world_chunks.specs.Scripts.{AreEver}
+use Rattle.gs_world_chunks.specs.Running.{IsGiven, IsReached, IsToldAt, Moves, Runs, Setup}
 use Rattle.gs_world_fetched.proofs.Sending.{joined, none_there, reach}
 use Rattle.gs_world_fetched.specs.Fetched.{PartsAreGiven, WasGiven}
 use Rattle.gs_world_laws.specs.Reached.{unarmed}
 use Rattle.gs_world_laws.specs.Saying.{IsStepWithin}
 use Rattle.gs_world_looked.specs.Looked.{AnswersAreByNames, IsPlaceOf, IsStatusOf, LooksHalted}
 use Rattle.gs_world_looked.specs.Unled.{IsHalted, StaysHalted}
-use Rattle.gs_world_unled.specs.Unled.{IsUnledAt, ReadsAreOfUnled, ReadsUnled, RunsUnled}
-use Rattle.gs_world_read.proofs.Halting.{unled_on, unled_there, y}
-use Rattle.gs_world_read.proofs.Stepping.{accounts_on, all_back, all_front, among_front, among_on, bare_so, runs_of, told_stands}
-use Rattle.gs_world_read.specs.Read.{AreAmongAnyhow, Exchanged, steps_in, steps_of}
+use Rattle.gs_world_unled.specs.Unled.{ReadsAreOfUnled, ReadsUnled, RunsUnled}
+use Rattle.gs_world_read.proofs.Halting.{unled_on, unled_there}
+use Rattle.gs_world_read.proofs.Stepping.{accounts_on, all_back, all_front, among_behind, bare_so, ever_after, ever_before, store_of, told_stands}
+use Rattle.gs_world_read.specs.Read.{Exchanged, ExchangedAmong, LooksAmong, ReplyAmong, WentAmong}
 
 abbrev Pairs : Type 0
 Pairs = List (Request × Reply)
@@ -78,13 +67,10 @@ part_is size bytes (asks.Bytes offset many) = refl
 part_is size bytes asks.Length = refl
 part_is size bytes (asks.Digest block) = refl
 
--- what a look says of itself goes into steps that are told apart otherwise
-parts_all : {A : Type 0} (S : A → Type 0) (xs ys : List A) → xs ≡ ys → AllByRecursion S xs → AllByRecursion S ys
-parts_all S xs ys is all = subst (AllByRecursion S) is all
-
 module _ {D : Type 0} (seen : D → List ℕ) (failures : D → ℕ) (stays : StaysHalted seen failures unarmed) (looked : AnswersAreByNames seen failures unarmed) (config : Config) (clients : ℕ) (disks : D × D) (among : List ℕ → Bool)
-    (given_parts : PartsAreGiven (y seen failures stays config clients disks among)) (of_unled : ReadsAreOfUnled (y seen failures stays config clients disks among)) (given : IsGiven (y seen failures stays config clients disks among)) where
-  abbrev x = y seen failures stays config clients disks among
+    (given_parts : PartsAreGiven (store_of seen failures config clients disks among)) (of_unled : ReadsAreOfUnled (store_of seen failures config clients disks among)) (given : IsGiven (store_of seen failures config clients disks among)) where
+  abbrev x : Setup D
+  x = store_of seen failures config clients disks among
 
   module _ (d : Durable) (client : ClientId) (number : ℕ) (path : Path) (h0 : History D) (a0 : Account) (reached : IsReached x h0 a0) (halted0 : IsHalted seen d client number h0) (has : a0.durable ≡ d) (calm : is_rolling d.phase ≡ false) where
     -- the file as it stands there
@@ -149,10 +135,10 @@ module _ {D : Type 0} (seen : D → List ℕ) (failures : D → ℕ) (stays : St
       unled : (chunk : ℕ) → is_listed d chunk ≡ true → Unled chunk steps h b new c
       next : Now before new c
 
-    go_on : (before : Pairs) (h : History D) (b : Account) (now : Now before h b) (steps rest : List Step) (new : History D) → RunsTo seen failures unarmed steps h new → AllByRecursion IsStepWithin steps → AllByRecursion (IsLooking client) steps
-        → AreAmongAnyhow seen failures among (steps ++ rest) h → On before h b now steps new
-    go_on before h b now steps rest new runs within looking all =
-        let acc = accounts_on seen failures config clients disks among given steps h new b (bare_so seen failures config clients disks among steps h new runs within (among_front seen failures among steps rest h all)) (well h now.halted) in
+    go_on : (before : Pairs) (h : History D) (b : Account) (now : Now before h b) (steps : List Step) (new : History D) (runs : RunsTo seen failures unarmed steps h new) → AllByRecursion IsStepWithin steps → AllByRecursion (IsLooking client) steps
+        → AreEver seen failures among steps h new runs → On before h b now steps new
+    go_on before h b now steps new runs within looking all =
+        let acc = accounts_on seen failures config clients disks among given steps h new b (bare_so seen failures config clients disks among steps h new runs within all) (well h now.halted) in
         let on = unled_on seen failures stays config clients disks among d client number steps h new b acc.0 acc.1 looking now.halted in
         record {
           c = acc.0;
@@ -182,7 +168,7 @@ module _ {D : Type 0} (seen : D → List ℕ) (failures : D → ℕ) (stays : St
 
     -- ---- a request with its reply
 
-    -- behind it, where so many steps are left
+    -- behind it
     record Behind (before : Pairs) (pair : Request × Reply) (next : History D) : Type 0 where
       is : IsOf file pair.0 pair.1
       c : Account
@@ -190,27 +176,27 @@ module _ {D : Type 0} (seen : D → List ℕ) (failures : D → ℕ) (stays : St
 
     module _ (before : Pairs) (h : History D) (b : Account) (now : Now before h b) where
       -- nothing is told by it
-      told_none : (request : Request) (reply : Reply) → ((l : Located) (e : Account) (k : History D) → (request, reply) ≡ (requests.Call (calls.FindForReading path l.index), replies.Answer (answers.Location l.handle l.view l.epoch)) → PlaceSo k e l) → IsOf file request reply
-          → (mid next : History D) (went looks : List Step) (rest : List Step) → RunsTo seen failures unarmed went h mid → AllByRecursion IsStepWithin went → AllByRecursion (IsLooking client) went
-          → RunsTo seen failures unarmed looks mid next → AllByRecursion IsStepWithin looks → AllByRecursion (IsLooking client) looks → AreAmongAnyhow seen failures among (went ++ (looks ++ rest)) h → Behind before (request, reply) next
-      told_none request reply none is mid next went looks rest runs within looking runs_then within_then looking_then all =
-          let one = go_on before h b now went (looks ++ rest) mid runs within looking all in
-          let two = go_on before mid one.c one.next looks rest next runs_then within_then looking_then (among_on seen failures among went (looks ++ rest) h mid runs all) in
+      told_none : (request : Request) (reply : Reply) → ((l : Located) (e : Account) (k : History D) → ◌≡◌ {A = Request × Reply} (request, reply) (requests.Call (calls.FindForReading path l.index), replies.Answer (answers.Location l.handle l.view l.epoch)) → PlaceSo k e l) → IsOf file request reply
+          → (mid next : History D) (went looks : List Step) (runs : RunsTo seen failures unarmed went h mid) → AllByRecursion IsStepWithin went → AllByRecursion (IsLooking client) went → AreEver seen failures among went h mid runs
+          → (runs_then : RunsTo seen failures unarmed looks mid next) → AllByRecursion IsStepWithin looks → AllByRecursion (IsLooking client) looks → AreEver seen failures among looks mid next runs_then → Behind before (request, reply) next
+      told_none request reply none is mid next went looks runs within looking all runs_then within_then looking_then all_then =
+          let one = go_on before h b now went mid runs within looking all in
+          let two = go_on before mid one.c one.next looks next runs_then within_then looking_then all_then in
           record { is = is; c = two.c; now = said_on before next two.c (request, reply) (λ l same. none l two.c next same) two.next }
 
       -- ---- it has a reply
 
-      module _ (request : Request) (reply : Reply) (mid : History D) (r : HasReply seen failures client h request reply mid) (may : IsLooking client (Comes (asks_at r.moment r.req request))) (next : History D) (looks : Looks seen failures client mid next) (rest : List Step)
-          (all : AreAmongAnyhow seen failures among ((Comes (asks_at r.moment r.req request) ∷ r.behind.steps) ++ (looks.steps ++ rest)) h) where
+      module _ (request : Request) (reply : Reply) (mid : History D) (r : HasReply seen failures client h request reply mid) (may : IsLooking client (Comes (asks_at r.moment r.req request))) (next : History D) (looks : Looks seen failures client mid next)
+          (all : ReplyAmong seen failures among client h request reply mid r) (all_then : LooksAmong seen failures among client mid next looks) where
         abbrev ask : Step
         ask = Comes (asks_at r.moment r.req request)
 
-        runs_all : RunsTo seen failures unarmed (ask ∷ r.behind.steps) h mid
+        abbrev runs_all : RunsTo seen failures unarmed (ask ∷ r.behind.steps) h mid
         runs_all = (r.asked, (Ok tt, r.happens), r.behind.runs)
 
         -- whatever it is, the client looks on
-        replied : ((l : Located) (e : Account) (k : History D) → (request, reply) ≡ (requests.Call (calls.FindForReading path l.index), replies.Answer (answers.Location l.handle l.view l.epoch)) → PlaceSo k e l) → IsOf file request reply → Behind before (request, reply) next
-        replied none is = told_none request reply none is mid next (ask ∷ r.behind.steps) looks.steps rest runs_all (r.asks, r.behind.within) (may, r.behind.looking) looks.runs looks.within looks.looking all
+        replied : ((l : Located) (e : Account) (k : History D) → ◌≡◌ {A = Request × Reply} (request, reply) (requests.Call (calls.FindForReading path l.index), replies.Answer (answers.Location l.handle l.view l.epoch)) → PlaceSo k e l) → IsOf file request reply → Behind before (request, reply) next
+        replied none is = told_none request reply none is mid next (ask ∷ r.behind.steps) looks.steps runs_all (r.asks, r.behind.within) (may, r.behind.looking) all looks.runs looks.within looks.looking all_then
 
       -- as a call with its answer
       as_answer : (call : Call) (answer : Answer) (mid : History D) → HasReply seen failures client h (requests.Call call) (replies.Answer answer) mid → HasAnswer seen failures unarmed client h call answer mid
@@ -264,16 +250,16 @@ module _ {D : Type 0} (seen : D → List ℕ) (failures : D → ℕ) (stays : St
         listed_there = ap (λ (n : NamesView). is_some (fin.get n.refs p.locates.chunk)) (sym p.by.names) ∙ p.listed
 
         -- it is told of no other
-        location_is : (l : Located) → (requests.Call (calls.FindForReading path index), replies.Answer answer) ≡ (requests.Call (calls.FindForReading path l.index), replies.Answer (answers.Location l.handle l.view l.epoch)) → found_location ≡ l
+        location_is : (l : Located) → ◌≡◌ {A = Request × Reply} (requests.Call (calls.FindForReading path index), replies.Answer answer) (requests.Call (calls.FindForReading path l.index), replies.Answer (answers.Location l.handle l.view l.epoch)) → found_location ≡ l
         location_is l same = (λ i. record { index = indexes same i; handle = handles (sym p.says ∙ answer_is same) i; view = views (sym p.says ∙ answer_is same) i; epoch = epochs (sym p.says ∙ answer_is same) i })
           where
-            indexes : (requests.Call (calls.FindForReading path index), replies.Answer answer) ≡ (requests.Call (calls.FindForReading path l.index), replies.Answer (answers.Location l.handle l.view l.epoch)) → index ≡ l.index
+            indexes : ◌≡◌ {A = Request × Reply} (requests.Call (calls.FindForReading path index), replies.Answer answer) (requests.Call (calls.FindForReading path l.index), replies.Answer (answers.Location l.handle l.view l.epoch)) → index ≡ l.index
             indexes e = index_of (ap (λ (z : Request × Reply). z.0) e)
               where
                 index_of : requests.Call (calls.FindForReading path index) ≡ requests.Call (calls.FindForReading path l.index) → index ≡ l.index
                 index_of e = cc
 
-            answer_is : (requests.Call (calls.FindForReading path index), replies.Answer answer) ≡ (requests.Call (calls.FindForReading path l.index), replies.Answer (answers.Location l.handle l.view l.epoch)) → answer ≡ answers.Location l.handle l.view l.epoch
+            answer_is : ◌≡◌ {A = Request × Reply} (requests.Call (calls.FindForReading path index), replies.Answer answer) (requests.Call (calls.FindForReading path l.index), replies.Answer (answers.Location l.handle l.view l.epoch)) → answer ≡ answers.Location l.handle l.view l.epoch
             answer_is e = answer_of (ap (λ (z : Request × Reply). z.1) e)
               where
                 answer_of : replies.Answer answer ≡ replies.Answer (answers.Location l.handle l.view l.epoch) → answer ≡ answers.Location l.handle l.view l.epoch
@@ -288,8 +274,8 @@ module _ {D : Type 0} (seen : D → List ℕ) (failures : D → ℕ) (stays : St
             epochs : answers.Location p.locates.chunk p.locates.view d.epoch ≡ answers.Location l.handle l.view l.epoch → d.epoch ≡ l.epoch
             epochs e = cc
 
-      module _ (index : ℕ) (answer : Answer) (mid : History D) (r : HasReply seen failures client h (requests.Call (calls.FindForReading path index)) (replies.Answer answer) mid) (next : History D) (looks : Looks seen failures client mid next) (rest : List Step)
-          (all : AreAmongAnyhow seen failures among ((Comes (asks_at r.moment r.req (requests.Call (calls.FindForReading path index))) ∷ r.behind.steps) ++ (looks.steps ++ rest)) h) where
+      module _ (index : ℕ) (answer : Answer) (mid : History D) (r : HasReply seen failures client h (requests.Call (calls.FindForReading path index)) (replies.Answer answer) mid) (next : History D) (looks : Looks seen failures client mid next)
+          (all : ReplyAmong seen failures among client h (requests.Call (calls.FindForReading path index)) (replies.Answer answer) mid r) (all_then : LooksAmong seen failures among client mid next looks) where
         abbrev its_ask : Step
         its_ask = Comes (asks_at r.moment r.req (requests.Call (calls.FindForReading path index)))
 
@@ -306,6 +292,7 @@ module _ {D : Type 0} (seen : D → List ℕ) (failures : D → ℕ) (stays : St
         from_now = Comes l.made.event ∷ l.made.after
 
         steps_are : its_ask ∷ r.behind.steps ≡ to_now ++ from_now
+        unfolding as_answer
         steps_are = ap (λ (ys : List Step). its_ask ∷ ys) l.made.parts
 
         within_all : AllByRecursion IsStepWithin (to_now ++ from_now)
@@ -314,26 +301,29 @@ module _ {D : Type 0} (seen : D → List ℕ) (failures : D → ℕ) (stays : St
         looking_all : AllByRecursion (IsLooking client) (to_now ++ from_now)
         looking_all = subst (AllByRecursion (IsLooking client)) steps_are ((refl, (r.own, refl)), r.behind.looking)
 
-        all_there : AreAmongAnyhow seen failures among (to_now ++ (from_now ++ (looks.steps ++ rest))) h
-        all_there = subst (λ (ys : List Step). AreAmongAnyhow seen failures among ys h) (ap (λ (ys : List Step). ys ++ (looks.steps ++ rest)) steps_are ∙ append_assoc to_now from_now (looks.steps ++ rest)) all
-
         runs_now : RunsTo seen failures unarmed to_now h l.made.now
+        unfolding as_answer
         runs_now = (r.asked, (Ok tt, r.happens), l.made.first)
 
+        all_now : AreEver seen failures among to_now h l.made.now runs_now
+        unfolding as_answer runs_now
+        all_now = (all.0, ever_before seen failures among r.behind.steps r.asked mid r.behind.runs all.1 r.req (calls.FindForReading path index) answer l.made l.by)
+
         one : On before h b now to_now l.made.now
-        one = go_on before h b now to_now (from_now ++ (looks.steps ++ rest)) l.made.now runs_now (all_front IsStepWithin to_now from_now within_all) (all_front (IsLooking client) to_now from_now looking_all) all_there
+        one = go_on before h b now to_now l.made.now runs_now (all_front IsStepWithin to_now from_now within_all) (all_front (IsLooking client) to_now from_now looking_all) all_now
 
-        all_then : AreAmongAnyhow seen failures among (from_now ++ (looks.steps ++ rest)) l.made.now
-        all_then = among_on seen failures among to_now (from_now ++ (looks.steps ++ rest)) h l.made.now runs_now all_there
-
-        runs_mid : RunsTo seen failures unarmed from_now l.made.now mid
+        abbrev runs_mid : RunsTo seen failures unarmed from_now l.made.now mid
         runs_mid = (l.made.next, (l.made.said, l.made.happens), l.made.rest)
 
+        all_mid : AreEver seen failures among from_now l.made.now mid runs_mid
+        unfolding as_answer
+        all_mid = (among_behind seen failures among r.behind.steps r.asked mid r.behind.runs all.1 r.req (calls.FindForReading path index) answer l.made l.by, ever_after seen failures among r.behind.steps r.asked mid r.behind.runs all.1 r.req (calls.FindForReading path index) answer l.made l.by)
+
         two : On before l.made.now one.c one.next from_now mid
-        two = go_on before l.made.now one.c one.next from_now (looks.steps ++ rest) mid runs_mid (all_back IsStepWithin to_now from_now within_all) (all_back (IsLooking client) to_now from_now looking_all) all_then
+        two = go_on before l.made.now one.c one.next from_now mid runs_mid (all_back IsStepWithin to_now from_now within_all) (all_back (IsLooking client) to_now from_now looking_all) all_mid
 
         three : On before mid two.c two.next looks.steps next
-        three = go_on before mid two.c two.next looks.steps rest next looks.runs looks.within looks.looking (among_on seen failures among from_now (looks.steps ++ rest) l.made.now mid runs_mid all_then)
+        three = go_on before mid two.c two.next looks.steps next looks.runs looks.within looks.looking all_then
 
         -- what is told there is what the master keeps
         told_there : IsToldAt seen l.made.now.nodes.master one.c.durable
@@ -354,6 +344,7 @@ module _ {D : Type 0} (seen : D → List ℕ) (failures : D → ℕ) (stays : St
         }
 
         place_so : PlaceSo next three.c (found_location answer l.made.now.nodes.master index p)
+        unfolding go_on one
         place_so = (let listed = listed_there answer l.made.now.nodes.master index p in record {
           listed = listed;
           place = chunk_there answer l.made.now.nodes.master index p;
@@ -376,24 +367,21 @@ module _ {D : Type 0} (seen : D → List ℕ) (failures : D → ℕ) (stays : St
       -- ---- a part of a chunk
 
       module _ (to handle : ℕ) (stamp : Stamp) (epoch : ℕ) (want : Asked) (part : Given) (mid : History D) (r : HasReply seen failures client h (requests.Fetch to handle stamp epoch want) (replies.Given part) mid) (u : IsUnder path before to handle stamp epoch) (next : History D)
-          (looks : Looks seen failures client mid next) (rest : List Step) (all : AreAmongAnyhow seen failures among ((Comes (asks_at r.moment r.req (requests.Fetch to handle stamp epoch want)) ∷ r.behind.steps) ++ (looks.steps ++ rest)) h) where
+          (looks : Looks seen failures client mid next) (all : ReplyAmong seen failures among client h (requests.Fetch to handle stamp epoch want) (replies.Given part) mid r) (all_then : LooksAmong seen failures among client mid next looks) where
         abbrev fetch_ask : Step
         fetch_ask = Comes (asks_at r.moment r.req (requests.Fetch to handle stamp epoch want))
 
-        runs_asked : RunsTo seen failures unarmed (fetch_ask ∷ []) h r.asked
+        abbrev runs_asked : RunsTo seen failures unarmed (fetch_ask ∷ []) h r.asked
         runs_asked = (r.asked, (Ok tt, r.happens), refl)
 
         asked_on : On before h b now (fetch_ask ∷ []) r.asked
-        asked_on = go_on before h b now (fetch_ask ∷ []) (r.behind.steps ++ (looks.steps ++ rest)) r.asked runs_asked (r.asks, tt) ((refl, tt), tt) all
-
-        all_behind : AreAmongAnyhow seen failures among (r.behind.steps ++ (looks.steps ++ rest)) r.asked
-        all_behind = among_on seen failures among (fetch_ask ∷ []) (r.behind.steps ++ (looks.steps ++ rest)) h r.asked runs_asked all
+        asked_on = go_on before h b now (fetch_ask ∷ []) r.asked runs_asked (r.asks, tt) ((refl, tt), tt) (all.0, tt)
 
         replied_on : On before r.asked asked_on.c asked_on.next r.behind.steps mid
-        replied_on = go_on before r.asked asked_on.c asked_on.next r.behind.steps (looks.steps ++ rest) mid r.behind.runs r.behind.within r.behind.looking all_behind
+        replied_on = go_on before r.asked asked_on.c asked_on.next r.behind.steps mid r.behind.runs r.behind.within r.behind.looking all.1
 
         looked_on : On before mid replied_on.c replied_on.next looks.steps next
-        looked_on = go_on before mid replied_on.c replied_on.next looks.steps rest next looks.runs looks.within looks.looking (among_on seen failures among r.behind.steps (looks.steps ++ rest) r.asked mid r.behind.runs all_behind)
+        looked_on = go_on before mid replied_on.c replied_on.next looks.steps next looks.runs looks.within looks.looking all_then
 
         asked_moves : Moves x fetch_ask h b r.asked asked_on.c
         asked_moves = subst (λ (k : History D). Moves x fetch_ask h b k asked_on.c) (sym asked_on.runs.3.0) (subst (λ (e : Account). Moves x fetch_ask h b asked_on.runs.0 e) (sym asked_on.runs.3.1) asked_on.runs.2)
@@ -464,25 +452,25 @@ module _ {D : Type 0} (seen : D → List ℕ) (failures : D → ℕ) (stays : St
 
       -- ---- any
 
-      never_fetch : {Z : Type 0} (to handle : ℕ) (stamp : Stamp) (epoch : ℕ) (want : Asked) (reply : Reply) (l : Located) → (requests.Fetch to handle stamp epoch want, reply) ≡ (requests.Call (calls.FindForReading path l.index), replies.Answer (answers.Location l.handle l.view l.epoch)) → Z
+      never_fetch : {Z : Type 0} (to handle : ℕ) (stamp : Stamp) (epoch : ℕ) (want : Asked) (reply : Reply) (l : Located) → ◌≡◌ {A = Request × Reply} (requests.Fetch to handle stamp epoch want, reply) (requests.Call (calls.FindForReading path l.index), replies.Answer (answers.Location l.handle l.view l.epoch)) → Z
       never_fetch to handle stamp epoch want reply l same = absurd (never (ap (λ (z : Request × Reply). z.0) same))
         where
           never : requests.Fetch to handle stamp epoch want ≡ requests.Call (calls.FindForReading path l.index) → ⊥
           never e = cc
 
-      never_status : {Z : Type 0} (p : Path) (reply : Reply) (l : Located) → (requests.Call (calls.Status p), reply) ≡ (requests.Call (calls.FindForReading path l.index), replies.Answer (answers.Location l.handle l.view l.epoch)) → Z
+      never_status : {Z : Type 0} (p : Path) (reply : Reply) (l : Located) → ◌≡◌ {A = Request × Reply} (requests.Call (calls.Status p), reply) (requests.Call (calls.FindForReading path l.index), replies.Answer (answers.Location l.handle l.view l.epoch)) → Z
       never_status p reply l same = absurd (never (ap (λ (z : Request × Reply). z.0) same))
         where
           never : requests.Call (calls.Status p) ≡ requests.Call (calls.FindForReading path l.index) → ⊥
           never e = cc
 
-      never_reply : {Z : Type 0} (request : Request) (reply : Reply) → ((answer : Answer) → reply ≡ replies.Answer answer → ⊥) → (l : Located) → (request, reply) ≡ (requests.Call (calls.FindForReading path l.index), replies.Answer (answers.Location l.handle l.view l.epoch)) → Z
+      never_reply : {Z : Type 0} (request : Request) (reply : Reply) → ((answer : Answer) → reply ≡ replies.Answer answer → ⊥) → (l : Located) → ◌≡◌ {A = Request × Reply} (request, reply) (requests.Call (calls.FindForReading path l.index), replies.Answer (answers.Location l.handle l.view l.epoch)) → Z
       never_reply request reply none l same = absurd (none (answers.Location l.handle l.view l.epoch) (ap (λ (z : Request × Reply). z.1) same))
 
       -- of such steps alone
-      only_looked : (request : Request) (reply : Reply) → ((answer : Answer) → reply ≡ replies.Answer answer → ⊥) → IsOf file request reply → (mid next : History D) (went : Looks seen failures client h mid) (looks : Looks seen failures client mid next) (rest : List Step)
-          → AreAmongAnyhow seen failures among (went.steps ++ (looks.steps ++ rest)) h → Behind before (request, reply) next
-      only_looked request reply none is mid next went looks rest all = told_none request reply (λ l e k same. never_reply request reply none l same) is mid next went.steps looks.steps rest went.runs went.within went.looking looks.runs looks.within looks.looking all
+      only_looked : (request : Request) (reply : Reply) → ((answer : Answer) → reply ≡ replies.Answer answer → ⊥) → IsOf file request reply → (mid next : History D) (went : Looks seen failures client h mid) (looks : Looks seen failures client mid next)
+          → LooksAmong seen failures among client h mid went → LooksAmong seen failures among client mid next looks → Behind before (request, reply) next
+      only_looked request reply none is mid next went looks all all_then = told_none request reply (λ l e k same. never_reply request reply none l same) is mid next went.steps looks.steps went.runs went.within went.looking all looks.runs looks.within looks.looking all_then
 
       refused_of : (request : Request) (refusal : Refusal) → IsOf file request (replies.Refused refusal)
       refused_of (requests.Call (calls.Status p)) refusal = tt
@@ -496,54 +484,50 @@ module _ {D : Type 0} (seen : D → List ℕ) (failures : D → ℕ) (stays : St
       lost_of (requests.Fetch to handle stamp epoch asked) = tt
       lost_of request = tt
 
-      by_pair : (request : Request) (reply : Reply) (mid next : History D) (went : Went seen failures client h request reply mid) (looks : Looks seen failures client mid next) (rest : List Step) → MayAsk path before request
-          → AreAmongAnyhow seen failures among (steps_of seen failures client h request reply mid went ++ (looks.steps ++ rest)) h → Behind before (request, reply) next
-      by_pair (requests.Call (calls.Status p)) (replies.Answer answer) mid next went looks rest may all =
-          replied (requests.Call (calls.Status p)) (replies.Answer answer) mid went (refl, (went.own, refl)) next looks rest all (λ l e k same. never_status p (replies.Answer answer) l same) (λ same.
+      by_pair : (request : Request) (reply : Reply) (mid next : History D) (went : Went seen failures client h request reply mid) (looks : Looks seen failures client mid next) → MayAsk path before request
+          → WentAmong seen failures among client h request reply mid went → LooksAmong seen failures among client mid next looks → Behind before (request, reply) next
+      by_pair (requests.Call (calls.Status p)) (replies.Answer answer) mid next went looks may all all_then =
+          replied (requests.Call (calls.Status p)) (replies.Answer answer) mid went (refl, (went.own, refl)) next looks all all_then (λ l e k same. never_status p (replies.Answer answer) l same) (λ same.
           let l = looked (λ disk call place. refl) d client number h mid (calls.Status p) answer refl now.halted (as_answer (calls.Status p) answer mid went) in
           status_tells answer l.made.now.nodes.master (subst (λ q. IsStatusOf d l.made.now.nodes.master q answer) may l.looks))
-      by_pair (requests.Call (calls.FindForReading p index)) (replies.Answer answer) mid next went looks rest may all = at_path p (sym may) went all
+      by_pair (requests.Call (calls.FindForReading p index)) (replies.Answer answer) mid next went looks may all all_then = at_path p (sym may) went all
         where
           at_path : (q : Path) → path ≡ q → (went : HasReply seen failures client h (requests.Call (calls.FindForReading q index)) (replies.Answer answer) mid)
-              → AreAmongAnyhow seen failures among ((Comes (asks_at went.moment went.req (requests.Call (calls.FindForReading q index))) ∷ went.behind.steps) ++ (looks.steps ++ rest)) h → Behind before (requests.Call (calls.FindForReading q index), replies.Answer answer) next
+              → ReplyAmong seen failures among client h (requests.Call (calls.FindForReading q index)) (replies.Answer answer) mid went → Behind before (requests.Call (calls.FindForReading q index), replies.Answer answer) next
           at_path q is = subst (λ (q : Path). (went : HasReply seen failures client h (requests.Call (calls.FindForReading q index)) (replies.Answer answer) mid)
-              → AreAmongAnyhow seen failures among ((Comes (asks_at went.moment went.req (requests.Call (calls.FindForReading q index))) ∷ went.behind.steps) ++ (looks.steps ++ rest)) h → Behind before (requests.Call (calls.FindForReading q index), replies.Answer answer) next) is
-              (λ went all. located_so index answer mid went next looks rest all)
-      by_pair (requests.Fetch to handle stamp epoch want) (replies.Given part) mid next went looks rest may all = fetched_so to handle stamp epoch want part mid went may next looks rest all
-      by_pair (requests.Fetch to handle stamp epoch want) (replies.Answer answer) mid next went looks rest may all =
-          replied (requests.Fetch to handle stamp epoch want) (replies.Answer answer) mid went (refl, tt) next looks rest all (λ l e k same. never_fetch to handle stamp epoch want (replies.Answer answer) l same) tt
-      by_pair (requests.Call (calls.Status p)) (replies.Given part) mid next went looks rest may all =
-          replied (requests.Call (calls.Status p)) (replies.Given part) mid went (refl, (went.own, refl)) next looks rest all (λ l e k same. never_status p (replies.Given part) l same) tt
-      by_pair (requests.Call (calls.FindForReading p index)) (replies.Given part) mid next went looks rest may all =
-          replied (requests.Call (calls.FindForReading p index)) (replies.Given part) mid went (refl, (went.own, refl)) next looks rest all (λ l e k same. never_reply (requests.Call (calls.FindForReading p index)) (replies.Given part) (λ answer e. cc) l same) tt
-      by_pair request (replies.Outcome outcome) mid next went looks rest may all = only_looked request (replies.Outcome outcome) (λ answer e. cc) (outcome_of request) mid next went looks rest all
+              → ReplyAmong seen failures among client h (requests.Call (calls.FindForReading q index)) (replies.Answer answer) mid went → Behind before (requests.Call (calls.FindForReading q index), replies.Answer answer) next) is
+              (λ went all. located_so index answer mid went next looks all all_then)
+      by_pair (requests.Fetch to handle stamp epoch want) (replies.Given part) mid next went looks may all all_then = fetched_so to handle stamp epoch want part mid went may next looks all all_then
+      by_pair (requests.Fetch to handle stamp epoch want) (replies.Answer answer) mid next went looks may all all_then =
+          replied (requests.Fetch to handle stamp epoch want) (replies.Answer answer) mid went (refl, tt) next looks all all_then (λ l e k same. never_fetch to handle stamp epoch want (replies.Answer answer) l same) tt
+      by_pair (requests.Call (calls.Status p)) (replies.Given part) mid next went looks may all all_then =
+          replied (requests.Call (calls.Status p)) (replies.Given part) mid went (refl, (went.own, refl)) next looks all all_then (λ l e k same. never_status p (replies.Given part) l same) tt
+      by_pair (requests.Call (calls.FindForReading p index)) (replies.Given part) mid next went looks may all all_then =
+          replied (requests.Call (calls.FindForReading p index)) (replies.Given part) mid went (refl, (went.own, refl)) next looks all all_then (λ l e k same. never_reply (requests.Call (calls.FindForReading p index)) (replies.Given part) (λ answer e. cc) l same) tt
+      by_pair request (replies.Outcome outcome) mid next went looks may all all_then = only_looked request (replies.Outcome outcome) (λ answer e. cc) (outcome_of request) mid next went looks all all_then
         where
           outcome_of : (request : Request) → IsOf file request (replies.Outcome outcome)
           outcome_of (requests.Call (calls.Status p)) = tt
           outcome_of (requests.Call (calls.FindForReading p index)) = tt
           outcome_of (requests.Fetch to handle stamp epoch asked) = tt
           outcome_of request = tt
-      by_pair request (replies.Refused refusal) mid next went looks rest may all = only_looked request (replies.Refused refusal) (λ answer e. cc) (refused_of request refusal) mid next went looks rest all
-      by_pair request replies.Lost mid next went looks rest may all = only_looked request replies.Lost (λ answer e. cc) (lost_of request) mid next went looks rest all
-      by_pair request reply mid next went looks rest may all = absurd may
+      by_pair request (replies.Refused refusal) mid next went looks may all all_then = only_looked request (replies.Refused refusal) (λ answer e. cc) (refused_of request refusal) mid next went looks all all_then
+      by_pair request replies.Lost mid next went looks may all all_then = only_looked request replies.Lost (λ answer e. cc) (lost_of request) mid next went looks all all_then
+      by_pair request reply mid next went looks may all all_then = absurd may
 
     -- ---- all of them
 
-    all_of : (before pairs : Pairs) (h new : History D) (b : Account) (now : Now before h b) (e : Exchanged seen failures client pairs h new) (rest : List Step) → AskSo path before pairs → AreAmongAnyhow seen failures among (steps_in seen failures client pairs h new e ++ rest) h → AreOf file pairs
-    all_of before [] h new b now e rest asks all = tt
-    all_of before (pair ∷ pairs) h new b now (mid, next, went, looks, others) rest asks all =
-        let first = steps_of seen failures client h pair.0 pair.1 mid went in
-        let more = steps_in seen failures client pairs next new others in
-        let shape : AreAmongAnyhow seen failures among (first ++ (looks.steps ++ (more ++ rest))) h =
-        subst (λ (ys : List Step). AreAmongAnyhow seen failures among ys h) (append_assoc first (looks.steps ++ more) rest ∙ ap (λ (ys : List Step). first ++ ys) (append_assoc looks.steps more rest)) all in
-        let one = by_pair before h b now pair.0 pair.1 mid next went looks (more ++ rest) asks.0 shape in
-        (one.is, all_of (before ++ pair ∷ []) pairs next new one.c one.now others rest asks.1 (among_on seen failures among looks.steps (more ++ rest) mid next looks.runs (among_on seen failures among first (looks.steps ++ (more ++ rest)) h mid (runs_of seen failures client h pair.0 pair.1 mid went) shape)))
+    all_of : (before pairs : Pairs) (h new : History D) (b : Account) (now : Now before h b) (e : Exchanged seen failures client pairs h new) → AskSo path before pairs → ExchangedAmong seen failures among client pairs h new e → AreOf file pairs
+    all_of before [] h new b now e asks all = tt
+    all_of before (pair ∷ pairs) h new b now (mid, next, went, looks, others) asks all =
+        let one = by_pair before h b now pair.0 pair.1 mid next went looks asks.0 all.0 all.1 in
+        (one.is, all_of (before ++ pair ∷ []) pairs next new one.c one.now others asks.1 all.2)
 
-    pub are_of : (pairs : Pairs) (steps : List Step) (h new : History D) (b : Account) → Runs x steps h0 a0 h b → AllByRecursion (IsLooking client) steps → (e : Exchanged seen failures client pairs h new) (rest : List Step) → AskSo path [] pairs
-        → AreAmongAnyhow seen failures among (steps_in seen failures client pairs h new e ++ rest) h → AreOf file pairs
-    are_of pairs steps h new b runs looking e rest asks all =
+    pub are_of : (pairs : Pairs) (steps : List Step) (h new : History D) (b : Account) → Runs x steps h0 a0 h b → AllByRecursion (IsLooking client) steps → (e : Exchanged seen failures client pairs h new) → AskSo path [] pairs
+        → ExchangedAmong seen failures among client pairs h new e → AreOf file pairs
+    are_of pairs steps h new b runs looking e asks all =
         let on = unled_on seen failures stays config clients disks among d client number steps h0 h a0 b runs looking halted0 in
-        all_of [] pairs h new b (record { steps = steps; runs = runs; unled = on.0; halted = on.1; places = λ l told. absurd (none_told l told) }) e rest asks all
+        all_of [] pairs h new b (record { steps = steps; runs = runs; unled = on.0; halted = on.1; places = λ l told. absurd (none_told l told) }) e asks all
       where
         none_told : (l : Located) → WasTold path [] l → ⊥
         none_told l told = none_there _ told

@@ -1,24 +1,18 @@
 -- What a client reads behind a rollback is what it read behind its prepare.
-use Rattle.std.proofs.Common.{◌≡◌, ◌∙◌, ◌<◌, ◌+◌, ◌++◌, Bool, true, false, List, [], ◌∷◌, None, Option, Some, Result, Ok, Err, ℕ, refl, sym, ap, subst, append-nil, append_assoc, arith, slice_get}
-use Rattle.std.specs.Prelude.{MatchBool, is_some, length}
+use Rattle.std.proofs.Common.{◌≡◌, ◌∙◌, ◌+◌, ◌++◌, Bool, true, false, List, [], ◌∷◌, None, Option, Some, Ok, ℕ, refl, sym, ap, subst, slice_get}
+use Rattle.std.specs.Prelude.{length}
 use Rattle.std.specs.FinMap as fin
 use Rattle.std.specs.List.{AllByRecursion}
 use Rattle.std.proofs.lemmas.Bool.{and_parts, false≢true}
 use Rattle.gs_base.specs.declared.config.Config.{Config}
 use Rattle.gs_base.specs.declared.numbers.ClientId.{ClientId}
-use Rattle.gs_base.specs.declared.refusal.Refusal.{Refusal}
 use Rattle.gs_block.specs.Stored.{digest_at}
 use Rattle.gs_block.specs.Written.{TellsApart}
-use Rattle.gs_client.specs.declared.link.Reply.{Reply}
-use Rattle.gs_client_dialogue.specs.Heard.{Says}
-use Rattle.gs_client_part.specs.declared.located.Located.{Located}
 use Rattle.gs_client_plain.proofs.Following.{digests_what_stands, reads_what_stands}
 use Rattle.gs_client_plain.proofs.Located.{digesters_ask_so, readers_ask_so}
 use Rattle.gs_client_plain.specs.Files.{AreOf, Stands, read_of, text_at, text_in}
 use Rattle.gs_client_plain.specs.Located.{AskSo}
 use Rattle.gs_edit.specs.View.{NamesView}
-use Rattle.gs_journal.specs.Records.{standing}
-use Rattle.gs_master.specs.Journaled.{text_seen}
 use Rattle.gs_master.specs.Masters.{MasterOf}
 use Rattle.gs_master_record.specs.declared.checkpoint.Phase.{Phase}
 use Rattle.gs_master_record.specs.declared.checkpoint.Phase.TheVariants.{Ordinary, Upgrade, Rolling}
@@ -31,7 +25,6 @@ use Rattle.gs_master_asked.specs.Resting.{Commits}
 use Rattle.gs_msg.specs.declared.answer.Answer.TheVariants as answers
 use Rattle.gs_msg.specs.declared.call.Call.{Call}
 use Rattle.gs_msg.specs.declared.call.Call.TheVariants as calls
-use Rattle.gs_msg.specs.declared.event.Request.{Request}
 use Rattle.gs_nodes.specs.declared.place.MasterPlace.{MasterPlace}
 use Rattle.gs_nodes.specs.declared.place.MasterPlace.TheVariants.{Standing}
 use Rattle.gs_path.specs.Path.{Path}
@@ -39,24 +32,22 @@ use Rattle.gs_tree.specs.Edits.{chunks_in}
 use Rattle.gs_tree.specs.Entry.{Dir, Entry, File}
 use Rattle.gs_world.proofs.Reaching.{HaveSizes}
 use Rattle.gs_world.specs.Histories.{History}
-use Rattle.gs_world.specs.Lasting.{IsToldIn}
 use Rattle.gs_world.specs.Runs.{Comes, RunsTo, Step}
 use Rattle.gs_world_asked.proofs.Asked.{begins_asked, stays_unarmed}
 use Rattle.gs_world_asked.proofs.Behind.{MadeThere}
 use Rattle.gs_world_asked.specs.Asked.{AreAsked}
-use Rattle.gs_world_asked.specs.Behind.{HasAnswer, IsOnly, StandsOn, asks_call, is_halt}
+use Rattle.gs_world_asked.specs.Behind.{HasAnswer, asks_call, is_halt}
 use Rattle.gs_world_asked.specs.Resting.{IsLooking}
 use Rattle.gs_world_back.proofs.Lists.{both_reached}
-use Rattle.gs_world_carried.specs.Exchanged.{Looks}
 use Rattle.gs_world_chunks.proofs.Accounted.{RolledBackSo}
 use Rattle.gs_world_chunks.proofs.Edits.{AreNumbered}
 use Rattle.gs_world_chunks.proofs.ToldBack.{rolled_told}
 use Rattle.gs_world_chunks.proofs.Well.{IsWell, bare_well, begins_well}
 use Rattle.gs_world_chunks.specs.Accounts.{Account, settled_edits, text_of}
-use Rattle.gs_world_chunks.specs.Back.{GivesSettledBack, GoesBackBy, HasRolledBack, ToldNamesBack}
+use Rattle.gs_world_chunks.specs.Back.{GivesSettledBack, GoesBackBy, ToldNamesBack}
 use Rattle.gs_world_chunks.specs.Reading.{BytesAreFetched}
 use Rattle.gs_world_chunks.specs.Rising.{EpochsNeverFall}
-use Rattle.gs_world_chunks.specs.Running.{AreAmong, IsGiven, IsReached, IsToldAt, RunsBare, Runs, Setup, StepsWithin}
+use Rattle.gs_world_chunks.specs.Running.{IsGiven, IsReached, IsToldAt, Runs, RunsBare, Setup, StepsWithin}
 use Rattle.gs_world_fetched.proofs.Fetched.{parts_are_given}
 use Rattle.gs_world_laws.specs.Reached.{unarmed}
 use Rattle.gs_world_laws.specs.Saying.{IsStepWithin}
@@ -65,12 +56,11 @@ use Rattle.gs_world_listed.proofs.Rising.{all_between, same_rising}
 use Rattle.gs_world_looked.proofs.Commits.{commits, commits_halt, fits, there}
 use Rattle.gs_world_looked.proofs.Looked.{answers_are_by_names}
 use Rattle.gs_world_looked.proofs.Unled.{stays_halted}
-use Rattle.gs_world_looked.specs.Unled.{HaltsBy, IsHalted}
+use Rattle.gs_world_looked.specs.Unled.{HaltsBy}
 use Rattle.gs_world_unled.proofs.Reading.{listed_there, reads_are_of_unled}
-use Rattle.gs_world_read.proofs.Halting.{y}
 use Rattle.gs_world_read.proofs.Reading.{are_of, file}
-use Rattle.gs_world_read.proofs.Stepping.{accounts_on, all_back, all_front, all_join, among_front, among_on, bare_so, run_join, runs_in, still, store_of, told_stands, within_in}
-use Rattle.gs_world_read.specs.Read.{AreAmongAnyhow, Bytes, Digest, Exchanged, Reading, Reads, ReadsComeBack, ReadsTwice, all_steps, steps_in, steps_of_answer}
+use Rattle.gs_world_read.proofs.Stepping.{accounts_on, all_back, all_front, all_join, among_behind, bare_in, bare_join, bare_so, ever_after, ever_before, runs_in, step_so, steps_in, still, store_of, told_stands, within_in}
+use Rattle.gs_world_read.specs.Read.{AnswerAmong, AreAmongThen, Bytes, Digest, Reading, Reads, ReadsComeBack, ReadsTwice}
 
 calm_prepared : (phase : Phase) → is_upgrade phase ≡ true → is_rolling phase ≡ false
 calm_prepared Ordinary is = refl
@@ -101,14 +91,11 @@ comes_to f (Digest index block) seen failures client bytes old new r are = diges
 found_there : (o : Option (Entry ℕ)) (index chunk : ℕ) → slice_get (chunks_in o) index ≡ Some chunk → found_chunk o index ≡ Ok chunk
 found_there None index chunk is = absurd cc
 found_there (Some Dir) index chunk is = absurd cc
-found_there (Some (File chunks)) index chunk is = by_place (slice_get chunks index) is
-  where
-    by_place : (o : Option ℕ) → o ≡ Some chunk → found_chunk (Some (File chunks)) index ≡ Ok chunk
-    by_place o is = (rw is refl)
+found_there (Some (File chunks)) index chunk is = (rw (is, found_chunk) refl)
 
 module _ (sizes : HaveSizes) (law : AreNumbered) {D : Type 0} (rises : (x : Setup D) → EpochsNeverFall x) (names_back : (x : Setup D) → ToldNamesBack x) (settled_back : (x : Setup D) → GivesSettledBack x) (fetched : (x : Setup D) → BytesAreFetched x)
     (seen : D → List ℕ) (failures : D → ℕ) (config : Config) (clients : ℕ) (disks : D × D) (client : ClientId) (path : Path) (reading : Reading) (epoch : ℕ) (had has : List ℕ) (r : ReadsTwice seen failures config clients disks client path reading epoch had has)
-    (among : List ℕ → Bool) (empty : among [] ≡ true) (apart : TellsApart among) (all : AreAmongAnyhow seen failures among (all_steps seen failures config clients disks client path reading epoch had has r) r.begun) where
+    (among : List ℕ → Bool) (empty : among [] ≡ true) (apart : TellsApart among) (all : AreAmongThen seen failures config clients disks among client path reading epoch had has r) where
   abbrev x : Setup D
   x = store_of seen failures config clients disks among
 
@@ -120,10 +107,10 @@ module _ (sizes : HaveSizes) (law : AreNumbered) {D : Type 0} (rises : (x : Setu
     are : AreAsked seen h
     well : IsWell x h
 
-  good_on : (steps rest : List Step) (old new : History D) → RunsTo seen failures unarmed steps old new → AllByRecursion IsStepWithin steps → AreAmongAnyhow seen failures among (steps ++ rest) old → Good old → Good new
-  good_on steps rest old new runs within blocks g = record {
+  good_on : (steps : List Step) (old new : History D) → RunsTo seen failures unarmed steps old new → AllByRecursion IsStepWithin steps → RunsBare x steps old new → Good old → Good new
+  good_on steps old new runs within bare g = record {
     are = stays_unarmed seen failures unarmed steps old new (λ disk call place. refl) runs within g.well.types g.well.steady g.are;
-    well = bare_well x given steps old new (bare_so seen failures config clients disks among steps old new runs within (among_front seen failures among steps rest old blocks)) g.well;
+    well = bare_well x given steps old new bare g.well;
   }
 
   begun : Good r.begun
@@ -135,7 +122,7 @@ module _ (sizes : HaveSizes) (law : AreNumbered) {D : Type 0} (rises : (x : Setu
   S1 = r.first
 
   abbrev S2 : List Step
-  S2 = steps_of_answer seen failures client r.old calls.PrepareCommit (answers.Epoch epoch) r.prepared r.prepares
+  S2 = asks_call r.prepares.moment r.prepares.req calls.PrepareCommit ∷ r.prepares.steps
 
   abbrev S3 : List Step
   S3 = r.way.steps
@@ -146,42 +133,30 @@ module _ (sizes : HaveSizes) (law : AreNumbered) {D : Type 0} (rises : (x : Setu
   abbrev S5 : List Step
   S5 = r.between
 
-  abbrev S6 : List Step
-  S6 = steps_of_answer seen failures client r.later calls.RollbackCommit (answers.Epoch (epoch + 1)) r.back r.commits
-
   abbrev S7 : List Step
   S7 = r.way_then.steps
 
-  abbrev S8 : List Step
-  S8 = steps_in seen failures client r.again.pairs r.start_then r.last r.again.exchanged
-
-  abbrev All : List Step → History D → Type 0
-  All steps h = AreAmongAnyhow seen failures among steps h
+  bare_first : RunsBare x S1 r.begun r.old
+  bare_first = bare_so seen failures config clients disks among S1 r.begun r.old r.runs r.within all.first
 
   old : Good r.old
-  old = good_on S1 (S2 ++ (S3 ++ (S4 ++ (S5 ++ (S6 ++ (S7 ++ S8)))))) r.begun r.old r.runs r.within all begun
+  old = good_on S1 r.begun r.old r.runs r.within bare_first begun
 
-  all_old : All (S2 ++ (S3 ++ (S4 ++ (S5 ++ (S6 ++ (S7 ++ S8)))))) r.old
-  all_old = among_on seen failures among S1 (S2 ++ (S3 ++ (S4 ++ (S5 ++ (S6 ++ (S7 ++ S8)))))) r.begun r.old r.runs all
-
-  runs_two : RunsTo seen failures unarmed S2 r.old r.prepared
+  abbrev runs_two : RunsTo seen failures unarmed S2 r.old r.prepared
   runs_two = (r.prepares.asked, (Ok tt, r.prepares.asks.happens), r.prepares.runs)
 
-  all_prepared : All (S3 ++ (S4 ++ (S5 ++ (S6 ++ (S7 ++ S8))))) r.prepared
-  all_prepared = among_on seen failures among S2 (S3 ++ (S4 ++ (S5 ++ (S6 ++ (S7 ++ S8))))) r.old r.prepared runs_two all_old
-
   prepared : Good r.prepared
-  prepared = good_on S2 (S3 ++ (S4 ++ (S5 ++ (S6 ++ (S7 ++ S8))))) r.old r.prepared runs_two r.prepares.within all_old old
+  prepared = good_on S2 r.old r.prepared runs_two r.prepares.within (bare_so seen failures config clients disks among S2 r.old r.prepared runs_two r.prepares.within all.prepares) old
 
-  all_start : All (S4 ++ (S5 ++ (S6 ++ (S7 ++ S8)))) r.start
-  all_start = among_on seen failures among S3 (S4 ++ (S5 ++ (S6 ++ (S7 ++ S8)))) r.prepared r.start r.way.runs all_prepared
+  bare_way : RunsBare x S3 r.prepared r.start
+  bare_way = bare_so seen failures config clients disks among S3 r.prepared r.start r.way.runs r.way.within all.way
 
   start : Good r.start
-  start = good_on S3 (S4 ++ (S5 ++ (S6 ++ (S7 ++ S8)))) r.prepared r.start r.way.runs r.way.within all_prepared prepared
+  start = good_on S3 r.prepared r.start r.way.runs r.way.within bare_way prepared
 
   -- ---- a commit
 
-  module _ (before mid : History D) (call : Call) (number : ℕ) (halt : is_halt call ≡ true) (c : HasAnswer seen failures unarmed client before call (answers.Epoch number) mid) (g : Good before) (rest : List Step) (blocks : All (steps_of_answer seen failures client before call (answers.Epoch number) mid c ++ rest) before)
+  module _ (before mid : History D) (call : Call) (number : ℕ) (halt : is_halt call ≡ true) (c : HasAnswer seen failures unarmed client before call (answers.Epoch number) mid) (g : Good before) (blocks : AnswerAmong seen failures among client before call (answers.Epoch number) mid c)
       (b : HaltsBy seen failures unarmed client before call (answers.Epoch number) mid c) where
     abbrev ask : Step
     ask = asks_call c.moment c.req call
@@ -207,29 +182,23 @@ module _ (sizes : HaveSizes) (law : AreNumbered) {D : Type 0} (rises : (x : Setu
     looking_after : AllByRecursion (IsLooking client) b.made.after
     looking_after = (all_back (IsLooking client) b.made.before (Comes b.made.event ∷ b.made.after) (subst (AllByRecursion (IsLooking client)) b.made.parts c.looking)).1
 
-    blocks_all : All (front ++ (back_part ++ rest)) before
-    blocks_all = subst (λ (ys : List Step). All ys before) (ap (λ (ys : List Step). ys ++ rest) steps_are ∙ append_assoc front back_part rest) blocks
-
-    runs_front : RunsTo seen failures unarmed front before b.made.now
+    abbrev runs_front : RunsTo seen failures unarmed front before b.made.now
     runs_front = (c.asked, (Ok tt, c.asks.happens), b.made.first)
 
+    bare_front : RunsBare x front before b.made.now
+    bare_front = bare_so seen failures config clients disks among front before b.made.now runs_front within_front (blocks.0, ever_before seen failures among c.steps c.asked mid c.runs blocks.1 c.req call (answers.Epoch number) b.made b.by)
+
     good_now : Good b.made.now
-    good_now = good_on front (back_part ++ rest) before b.made.now runs_front within_front blocks_all g
-
-    blocks_now : All (back_part ++ rest) b.made.now
-    blocks_now = among_on seen failures among front (back_part ++ rest) before b.made.now runs_front blocks_all
-
-    runs_event : RunsTo seen failures unarmed (Comes b.made.event ∷ []) b.made.now b.made.next
-    runs_event = (b.made.next, (b.made.said, b.made.happens), refl)
+    good_now = good_on front before b.made.now runs_front within_front bare_front g
 
     one_step : StepsWithin x (Comes b.made.event) b.made.now b.made.next
-    one_step = (bare_so seen failures config clients disks among (Comes b.made.event ∷ []) b.made.now b.made.next runs_event (within_back.0, tt) (among_front seen failures among (Comes b.made.event ∷ []) (b.made.after ++ rest) b.made.now blocks_now)).1
+    one_step = step_so seen failures config clients disks among (Comes b.made.event) b.made.now b.made.next (b.made.said, b.made.happens) within_back.0 (among_behind seen failures among c.steps c.asked mid c.runs blocks.1 c.req call (answers.Epoch number) b.made b.by)
 
     good_next : Good b.made.next
-    good_next = good_on (Comes b.made.event ∷ []) (b.made.after ++ rest) b.made.now b.made.next runs_event (within_back.0, tt) blocks_now good_now
+    good_next = good_on (Comes b.made.event ∷ []) b.made.now b.made.next (b.made.next, (b.made.said, b.made.happens), refl) (within_back.0, tt) (b.made.next, one_step, refl) good_now
 
-    blocks_next : All (b.made.after ++ rest) b.made.next
-    blocks_next = among_on seen failures among (Comes b.made.event ∷ []) (b.made.after ++ rest) b.made.now b.made.next runs_event blocks_now
+    bare_after : RunsBare x b.made.after b.made.next mid
+    bare_after = bare_so seen failures config clients disks among b.made.after b.made.next mid b.made.rest within_back.1 (ever_after seen failures among c.steps c.asked mid c.runs blocks.1 c.req call (answers.Epoch number) b.made b.by)
 
     abbrev s : State
     s = b.made.answers.master.state
@@ -263,9 +232,6 @@ module _ (sizes : HaveSizes) (law : AreNumbered) {D : Type 0} (rises : (x : Setu
 
   -- ---- the two of them
 
-  S_after_two : List Step
-  S_after_two = S3 ++ (S4 ++ (S5 ++ (S6 ++ (S7 ++ S8))))
-
   one : HaltsBy seen failures unarmed client r.old calls.PrepareCommit (answers.Epoch epoch) r.prepared r.prepares
   one = commits_halt seen failures unarmed (λ disk call place. refl) client r.old r.prepared calls.PrepareCommit (answers.Epoch epoch) old.are old.well.types old.well.steady refl r.prepares r.only
 
@@ -275,17 +241,17 @@ module _ (sizes : HaveSizes) (law : AreNumbered) {D : Type 0} (rises : (x : Setu
   within_end : AllByRecursion IsStepWithin S4
   within_end = within_in seen failures client r.reads.pairs r.start r.end r.reads.exchanged
 
-  end : Good r.end
-  end = good_on S4 (S5 ++ (S6 ++ (S7 ++ S8))) r.start r.end runs_end within_end all_start start
+  bare_end : RunsBare x S4 r.start r.end
+  bare_end = bare_in seen failures config clients disks among client r.reads.pairs r.start r.end r.reads.exchanged all.reads
 
-  all_end : All (S5 ++ (S6 ++ (S7 ++ S8))) r.end
-  all_end = among_on seen failures among S4 (S5 ++ (S6 ++ (S7 ++ S8))) r.start r.end runs_end all_start
+  end : Good r.end
+  end = good_on S4 r.start r.end runs_end within_end bare_end start
+
+  bare_later : RunsBare x S5 r.end r.later
+  bare_later = bare_so seen failures config clients disks among S5 r.end r.later r.passes r.within_between all.between
 
   later : Good r.later
-  later = good_on S5 (S6 ++ (S7 ++ S8)) r.end r.later r.passes r.within_between all_end end
-
-  all_later : All (S6 ++ (S7 ++ S8)) r.later
-  all_later = among_on seen failures among S5 (S6 ++ (S7 ++ S8)) r.end r.later r.passes all_end
+  later = good_on S5 r.end r.later r.passes r.within_between bare_later end
 
   two : HaltsBy seen failures unarmed client r.later calls.RollbackCommit (answers.Epoch (epoch + 1)) r.back r.commits
   two = commits_halt seen failures unarmed (λ disk call place. refl) client r.later r.back calls.RollbackCommit (answers.Epoch (epoch + 1)) later.are later.well.types later.well.steady refl r.commits r.only_then
@@ -303,108 +269,69 @@ module _ (sizes : HaveSizes) (law : AreNumbered) {D : Type 0} (rises : (x : Setu
   s2 = two.made.answers.master.state.durable
 
   is_prepared : IsPrepared s1 d1 epoch
-  is_prepared = subst (λ e. IsPrepared s1 e epoch) (after_is r.old r.prepared calls.PrepareCommit epoch refl r.prepares old S_after_two all_old one)
+  is_prepared = subst (λ e. IsPrepared s1 e epoch) (after_is r.old r.prepared calls.PrepareCommit epoch refl r.prepares old all.prepares one)
       (prepare_so one.made.answers.master.config one.made.answers.master.state r.prepares.req one.made.event.moment epoch (refused_before one.made.answers.master.state r.prepares.req calls.PrepareCommit)
-      (its r.old r.prepared calls.PrepareCommit epoch refl r.prepares old S_after_two all_old one).says (its_fits r.old r.prepared calls.PrepareCommit epoch refl r.prepares old S_after_two all_old one))
+      (its r.old r.prepared calls.PrepareCommit epoch refl r.prepares old all.prepares one).says (its_fits r.old r.prepared calls.PrepareCommit epoch refl r.prepares old all.prepares one))
 
   is_rolled : IsRolledBack s2 d2 (epoch + 1)
-  is_rolled = subst (λ e. IsRolledBack s2 e (epoch + 1)) (after_is r.later r.back calls.RollbackCommit (epoch + 1) refl r.commits later (S7 ++ S8) all_later two)
+  is_rolled = subst (λ e. IsRolledBack s2 e (epoch + 1)) (after_is r.later r.back calls.RollbackCommit (epoch + 1) refl r.commits later all.commits two)
       (commit_so two.made.answers.master.config two.made.answers.master.state r.commits.req two.made.event.moment (epoch + 1) (refused_before two.made.answers.master.state r.commits.req calls.RollbackCommit)
-      (its r.later r.back calls.RollbackCommit (epoch + 1) refl r.commits later (S7 ++ S8) all_later two).says (its_fits r.later r.back calls.RollbackCommit (epoch + 1) refl r.commits later (S7 ++ S8) all_later two))
+      (its r.later r.back calls.RollbackCommit (epoch + 1) refl r.commits later all.commits two).says (its_fits r.later r.back calls.RollbackCommit (epoch + 1) refl r.commits later all.commits two))
 
   abbrev front_two : List Step
   front_two = asks_call r.commits.moment r.commits.req calls.RollbackCommit ∷ two.made.before
-
-  abbrev back_two : List Step
-  back_two = Comes two.made.event ∷ two.made.after
 
   -- what comes between
   abbrev between_two : List Step
   between_two = one.made.after ++ (S3 ++ (S4 ++ (S5 ++ front_two)))
 
-  to_rolling : RunsTo seen failures unarmed between_two one.made.next two.made.now
+  to_rolling : RunsBare x between_two one.made.next two.made.now
   to_rolling =
-      run_join seen failures one.made.after (S3 ++ (S4 ++ (S5 ++ front_two))) one.made.next r.prepared two.made.now one.made.rest
-      (run_join seen failures S3 (S4 ++ (S5 ++ front_two)) r.prepared r.start two.made.now r.way.runs
-      (run_join seen failures S4 (S5 ++ front_two) r.start r.end two.made.now runs_end
-      (run_join seen failures S5 front_two r.end r.later two.made.now r.passes (runs_front r.later r.back calls.RollbackCommit (epoch + 1) refl r.commits later (S7 ++ S8) all_later two))))
-
-  between_within : AllByRecursion IsStepWithin between_two
-  between_within =
-      all_join IsStepWithin one.made.after (S3 ++ (S4 ++ (S5 ++ front_two))) (within_back r.old r.prepared calls.PrepareCommit epoch refl r.prepares old S_after_two all_old one).1
-      (all_join IsStepWithin S3 (S4 ++ (S5 ++ front_two)) r.way.within
-      (all_join IsStepWithin S4 (S5 ++ front_two) within_end
-      (all_join IsStepWithin S5 front_two r.within_between (within_front r.later r.back calls.RollbackCommit (epoch + 1) refl r.commits later (S7 ++ S8) all_later two))))
-
-  -- the steps from the prepare on, as they are told apart here
-  abbrev rest_two : List Step
-  rest_two = back_two ++ (S7 ++ S8)
-
-  six_are : S6 ++ (S7 ++ S8) ≡ front_two ++ rest_two
-  six_are = ap (λ (ys : List Step). ys ++ (S7 ++ S8)) (steps_are r.later r.back calls.RollbackCommit (epoch + 1) refl r.commits later (S7 ++ S8) all_later two) ∙ append_assoc front_two back_two (S7 ++ S8)
-
-  all_between_two : All (between_two ++ rest_two) one.made.next
-  all_between_two = subst (λ (ys : List Step). All ys one.made.next) shape (blocks_next r.old r.prepared calls.PrepareCommit epoch refl r.prepares old S_after_two all_old one)
-    where
-      shape : one.made.after ++ S_after_two ≡ between_two ++ rest_two
-      shape =
-          ap (λ (ys : List Step). one.made.after ++ (S3 ++ (S4 ++ (S5 ++ ys)))) six_are
-          ∙ ap (λ (ys : List Step). one.made.after ++ (S3 ++ (S4 ++ ys))) (sym (append_assoc S5 front_two rest_two))
-          ∙ ap (λ (ys : List Step). one.made.after ++ (S3 ++ ys)) (sym (append_assoc S4 (S5 ++ front_two) rest_two))
-          ∙ ap (λ (ys : List Step). one.made.after ++ ys) (sym (append_assoc S3 (S4 ++ (S5 ++ front_two)) rest_two))
-          ∙ sym (append_assoc one.made.after (S3 ++ (S4 ++ (S5 ++ front_two))) rest_two)
+      bare_join seen failures config clients disks among one.made.after (S3 ++ (S4 ++ (S5 ++ front_two))) one.made.next r.prepared two.made.now (bare_after r.old r.prepared calls.PrepareCommit epoch refl r.prepares old all.prepares one)
+      (bare_join seen failures config clients disks among S3 (S4 ++ (S5 ++ front_two)) r.prepared r.start two.made.now bare_way
+      (bare_join seen failures config clients disks among S4 (S5 ++ front_two) r.start r.end two.made.now bare_end
+      (bare_join seen failures config clients disks among S5 front_two r.end r.later two.made.now bare_later (bare_front r.later r.back calls.RollbackCommit (epoch + 1) refl r.commits later all.commits two))))
 
   abbrev head : List Step
   head = asks_call r.prepares.moment r.prepares.req calls.PrepareCommit ∷ one.made.before
-
-  all_first : All ((S1 ++ head) ++ (Comes one.made.event ∷ one.made.after) ++ S_after_two) r.begun
-  all_first = subst (λ (ys : List Step). All ys r.begun) shape all
-    where
-      two_are : S2 ++ S_after_two ≡ head ++ ((Comes one.made.event ∷ one.made.after) ++ S_after_two)
-      two_are = ap (λ (ys : List Step). ys ++ S_after_two) (steps_are r.old r.prepared calls.PrepareCommit epoch refl r.prepares old S_after_two all_old one) ∙ append_assoc head (Comes one.made.event ∷ one.made.after) S_after_two
-
-      shape : S1 ++ (S2 ++ S_after_two) ≡ (S1 ++ head) ++ ((Comes one.made.event ∷ one.made.after) ++ S_after_two)
-      shape = ap (λ (ys : List Step). S1 ++ ys) two_are ∙ sym (append_assoc S1 head ((Comes one.made.event ∷ one.made.after) ++ S_after_two))
 
   goes : GoesBackBy x (IsToldAt seen) one.made.next two.made.next d1 d2
   goes =
       let upgrade = (and_parts (is_ordinary s1.phase) (is_upgrade d1.phase) is_prepared.accepted).1 in
       let rolled = (and_parts (is_rolling s2.phase) (is_ordinary d2.phase) is_rolled.rolls).0 in
       let next : s2.epoch ≡ d1.epoch + 1 = is_rolled.within ∙ ap (λ k. k + 1) (sym is_prepared.begins) in
-      let told = told_next r.old r.prepared calls.PrepareCommit epoch refl r.prepares old S_after_two all_old one in
-      let rolls = told_now r.later r.back calls.RollbackCommit (epoch + 1) refl r.commits later (S7 ++ S8) all_later two in
+      let told = told_next r.old r.prepared calls.PrepareCommit epoch refl r.prepares old all.prepares one in
+      let rolls = told_now r.later r.back calls.RollbackCommit (epoch + 1) refl r.commits later all.commits two in
       record {
         given = given;
         begun = r.begun;
         begins = r.begins;
         first = S1 ++ head;
         old = one.made.now;
-        runs = bare_so seen failures config clients disks among (S1 ++ head) r.begun one.made.now (run_join seen failures S1 head r.begun r.old one.made.now r.runs (runs_front r.old r.prepared calls.PrepareCommit epoch refl r.prepares old S_after_two all_old one))
-            (all_join IsStepWithin S1 head r.within (within_front r.old r.prepared calls.PrepareCommit epoch refl r.prepares old S_after_two all_old one)) (among_front seen failures among (S1 ++ head) ((Comes one.made.event ∷ one.made.after) ++ S_after_two) r.begun all_first);
+        runs = bare_join seen failures config clients disks among S1 head r.begun r.old one.made.now bare_first (bare_front r.old r.prepared calls.PrepareCommit epoch refl r.prepares old all.prepares one);
         ordinary = s1;
-        stood = told_now r.old r.prepared calls.PrepareCommit epoch refl r.prepares old S_after_two all_old one;
+        stood = told_now r.old r.prepared calls.PrepareCommit epoch refl r.prepares old all.prepares one;
         step = Comes one.made.event;
-        steps = one_step r.old r.prepared calls.PrepareCommit epoch refl r.prepares old S_after_two all_old one;
+        steps = one_step r.old r.prepared calls.PrepareCommit epoch refl r.prepares old all.prepares one;
         keeps = told;
         accepted = is_prepared.accepted;
         between = between_two;
         now = two.made.now;
-        rest = all_between x (rises x) given d1 s2 upgrade rolled next between_two one.made.next two.made.now d1
-            (bare_so seen failures config clients disks among between_two one.made.next two.made.now to_rolling between_within (among_front seen failures among between_two rest_two one.made.next all_between_two))
-            (good_next r.old r.prepared calls.PrepareCommit epoch refl r.prepares old S_after_two all_old one).well told (same_rising d1) rolls;
+        rest = all_between x (rises x) given d1 s2 upgrade rolled next between_two one.made.next two.made.now d1 to_rolling
+            (good_next r.old r.prepared calls.PrepareCommit epoch refl r.prepares old all.prepares one).well told (same_rising d1) rolls;
         rolling = s2;
         rolls = rolls;
         commit = Comes two.made.event;
-        commits = one_step r.later r.back calls.RollbackCommit (epoch + 1) refl r.commits later (S7 ++ S8) all_later two;
-        ended = told_next r.later r.back calls.RollbackCommit (epoch + 1) refl r.commits later (S7 ++ S8) all_later two;
+        commits = one_step r.later r.back calls.RollbackCommit (epoch + 1) refl r.commits later all.commits two;
+        ended = told_next r.later r.back calls.RollbackCommit (epoch + 1) refl r.commits later all.commits two;
         done = is_rolled.rolls;
       }
 
-  so : RolledBackSo x one.made.next two.made.next d1 d2 two.made.now
+  so : RolledBackSo x one.made.next two.made.next d1 d2 goes.now
   so = rolled_told x one.made.next two.made.next d1 d2 apart goes
 
   reaches : IsReached x one.made.next so.first × IsReached x two.made.next so.behind
-  reaches = both_reached x one.made.next two.made.now two.made.next so.first so.after so.behind so.rolled
+  reaches = both_reached x one.made.next goes.now two.made.next so.first so.after so.behind so.rolled
 
   names : d2.names ≡ d1.names
   names = names_back x one.made.next two.made.next d1 d2 goes
@@ -420,17 +347,10 @@ module _ (sizes : HaveSizes) (law : AreNumbered) {D : Type 0} (rises : (x : Setu
   abbrev looks_one : List Step
   looks_one = one.made.after ++ S3
 
-  runs_one : RunsTo seen failures unarmed looks_one one.made.next r.start
-  runs_one = run_join seen failures one.made.after S3 one.made.next r.prepared r.start one.made.rest r.way.runs
-
-  all_one : All (looks_one ++ (S4 ++ (S5 ++ (S6 ++ (S7 ++ S8))))) one.made.next
-  all_one = subst (λ (ys : List Step). All ys one.made.next) (sym (append_assoc one.made.after S3 (S4 ++ (S5 ++ (S6 ++ (S7 ++ S8)))))) (blocks_next r.old r.prepared calls.PrepareCommit epoch refl r.prepares old S_after_two all_old one)
-
   accounts_one : (e : Account) × Runs x looks_one one.made.next so.first r.start e × IsWell x r.start
   accounts_one = accounts_on seen failures config clients disks among given looks_one one.made.next r.start so.first
-      (bare_so seen failures config clients disks among looks_one one.made.next r.start runs_one (all_join IsStepWithin one.made.after S3 (within_back r.old r.prepared calls.PrepareCommit epoch refl r.prepares old S_after_two all_old one).1 r.way.within)
-      (among_front seen failures among looks_one (S4 ++ (S5 ++ (S6 ++ (S7 ++ S8)))) one.made.next all_one))
-      (good_next r.old r.prepared calls.PrepareCommit epoch refl r.prepares old S_after_two all_old one).well
+      (bare_join seen failures config clients disks among one.made.after S3 one.made.next r.prepared r.start (bare_after r.old r.prepared calls.PrepareCommit epoch refl r.prepares old all.prepares one) bare_way)
+      (good_next r.old r.prepared calls.PrepareCommit epoch refl r.prepares old all.prepares one).well
 
   abbrev file_one : Stands
   file_one = file seen failures (stays_halted seen failures unarmed) (answers_are_by_names seen failures unarmed) config clients disks among (parts_are_given sizes x (fetched x)) (reads_are_of_unled sizes law x) given d1 client r.prepares.req.number path one.made.next so.first reaches.0 one.begun so.is_first
@@ -438,8 +358,8 @@ module _ (sizes : HaveSizes) (law : AreNumbered) {D : Type 0} (rises : (x : Setu
 
   are_one : AreOf file_one r.reads.pairs
   are_one = are_of seen failures (stays_halted seen failures unarmed) (answers_are_by_names seen failures unarmed) config clients disks among (parts_are_given sizes x (fetched x)) (reads_are_of_unled sizes law x) given d1 client r.prepares.req.number path one.made.next so.first reaches.0 one.begun so.is_first
-      (calm_prepared d1.phase upgrades) r.reads.pairs looks_one r.start r.end accounts_one.0 accounts_one.1 (all_join (IsLooking client) one.made.after S3 (looking_after r.old r.prepared calls.PrepareCommit epoch refl r.prepares old S_after_two all_old one) r.way.looking)
-      r.reads.exchanged (S5 ++ (S6 ++ (S7 ++ S8))) (asks_so path reading seen failures client had r.start r.end r.reads) all_start
+      (calm_prepared d1.phase upgrades) r.reads.pairs looks_one r.start r.end accounts_one.0 accounts_one.1 (all_join (IsLooking client) one.made.after S3 (looking_after r.old r.prepared calls.PrepareCommit epoch refl r.prepares old all.prepares one) r.way.looking)
+      r.reads.exchanged (asks_so path reading seen failures client had r.start r.end r.reads) all.reads
 
   had_is : had ≡ contents reading config.block (text_at file_one) (length file_one.chunks)
   had_is = comes_to file_one reading seen failures client had r.start r.end r.reads are_one
@@ -447,32 +367,20 @@ module _ (sizes : HaveSizes) (law : AreNumbered) {D : Type 0} (rises : (x : Setu
   abbrev looks_two : List Step
   looks_two = two.made.after ++ S7
 
-  runs_two_then : RunsTo seen failures unarmed looks_two two.made.next r.start_then
-  runs_two_then = run_join seen failures two.made.after S7 two.made.next r.back r.start_then two.made.rest r.way_then.runs
-
-  all_two : All (looks_two ++ S8) two.made.next
-  all_two = subst (λ (ys : List Step). All ys two.made.next) (sym (append_assoc two.made.after S7 S8)) (blocks_next r.later r.back calls.RollbackCommit (epoch + 1) refl r.commits later (S7 ++ S8) all_later two)
-
   accounts_two : (e : Account) × Runs x looks_two two.made.next so.behind r.start_then e × IsWell x r.start_then
   accounts_two = accounts_on seen failures config clients disks among given looks_two two.made.next r.start_then so.behind
-      (bare_so seen failures config clients disks among looks_two two.made.next r.start_then runs_two_then (all_join IsStepWithin two.made.after S7 (within_back r.later r.back calls.RollbackCommit (epoch + 1) refl r.commits later (S7 ++ S8) all_later two).1 r.way_then.within)
-      (among_front seen failures among looks_two S8 two.made.next all_two))
-      (good_next r.later r.back calls.RollbackCommit (epoch + 1) refl r.commits later (S7 ++ S8) all_later two).well
+      (bare_join seen failures config clients disks among two.made.after S7 two.made.next r.back r.start_then (bare_after r.later r.back calls.RollbackCommit (epoch + 1) refl r.commits later all.commits two)
+      (bare_so seen failures config clients disks among S7 r.back r.start_then r.way_then.runs r.way_then.within all.way_then))
+      (good_next r.later r.back calls.RollbackCommit (epoch + 1) refl r.commits later all.commits two).well
 
   abbrev file_two : Stands
   file_two = file seen failures (stays_halted seen failures unarmed) (answers_are_by_names seen failures unarmed) config clients disks among (parts_are_given sizes x (fetched x)) (reads_are_of_unled sizes law x) given d2 client r.commits.req.number path two.made.next so.behind reaches.1 two.begun so.is_behind
       (calm_back d2.phase ordinary)
 
-  nothing_behind : S8 ≡ S8 ++ []
-  nothing_behind = sym (append-nil S8)
-
-  all_last : All (S8 ++ []) r.start_then
-  all_last = subst (λ (ys : List Step). All ys r.start_then) nothing_behind (among_on seen failures among looks_two S8 two.made.next r.start_then runs_two_then all_two)
-
   are_two : AreOf file_two r.again.pairs
   are_two = are_of seen failures (stays_halted seen failures unarmed) (answers_are_by_names seen failures unarmed) config clients disks among (parts_are_given sizes x (fetched x)) (reads_are_of_unled sizes law x) given d2 client r.commits.req.number path two.made.next so.behind reaches.1 two.begun so.is_behind
-      (calm_back d2.phase ordinary) r.again.pairs looks_two r.start_then r.last accounts_two.0 accounts_two.1 (all_join (IsLooking client) two.made.after S7 (looking_after r.later r.back calls.RollbackCommit (epoch + 1) refl r.commits later (S7 ++ S8) all_later two) r.way_then.looking)
-      r.again.exchanged [] (asks_so path reading seen failures client has r.start_then r.last r.again) all_last
+      (calm_back d2.phase ordinary) r.again.pairs looks_two r.start_then r.last accounts_two.0 accounts_two.1 (all_join (IsLooking client) two.made.after S7 (looking_after r.later r.back calls.RollbackCommit (epoch + 1) refl r.commits later all.commits two) r.way_then.looking)
+      r.again.exchanged (asks_so path reading seen failures client has r.start_then r.last r.again) all.again
 
   has_is : has ≡ contents reading config.block (text_at file_two) (length file_two.chunks)
   has_is = comes_to file_two reading seen failures client has r.start_then r.last r.again are_two
@@ -490,7 +398,7 @@ module _ (sizes : HaveSizes) (law : AreNumbered) {D : Type 0} (rises : (x : Setu
   chunk_same index (Some chunk) is =
       let found : found_chunk (fin.get so.first.durable.names.tree path) index ≡ Ok chunk = ap (λ (e : Durable). found_chunk (fin.get e.names.tree path) index) so.is_first ∙ found_there (fin.get d1.names.tree path) index chunk is in
       let listed : is_listed so.first.durable chunk ≡ true = listed_there sizes law x one.made.next so.first reaches.0 path index chunk found in
-      ap (text_of config.chunk) (settled_back x one.made.next two.made.now two.made.next so.first so.after so.behind chunk so.rolled listed).1
+      ap (text_of config.chunk) (settled_back x one.made.next goes.now two.made.next so.first so.after so.behind chunk so.rolled listed).1
 
   texts_same : text_at file_two ≡ text_at file_one
   texts_same = λ i. λ index. (ap (λ (n : NamesView). text_in (slice_get (chunks_at n path) index) text_of_two) names ∙ chunk_same index (slice_get (chunks_at d1.names path) index) refl) i

@@ -1,5 +1,5 @@
 -- What a client reads of a file behind a prepare, and behind its rollback.
-use Rattle.std.specs.Prelude.{[], ◌+◌, ◌++◌, ◌<◌, ◌∷◌, ◌≡◌, Bool, List, Ok, Option, true, ℕ}
+use Rattle.std.specs.Prelude.{[], ◌+◌, ◌<◌, ◌∷◌, ◌≡◌, Bool, List, Ok, Option, refl, true, ℕ}
 use Rattle.std.proofs.Common.{◌^◌}
 use Rattle.std.specs.List.{AllByRecursion}
 use Rattle.gs_base.specs.declared.config.Config.{Config}
@@ -20,10 +20,12 @@ use Rattle.gs_msg.specs.declared.call.Call.TheVariants as calls
 use Rattle.gs_msg.specs.declared.event.Request.{Request}
 use Rattle.gs_path.specs.Path.{Path}
 use Rattle.gs_world.specs.Histories.{Begins, History}
-use Rattle.gs_world.specs.Runs.{Comes, RunsTo, Step}
+use Rattle.gs_world.specs.Runs.{Comes, Goes, RunsTo, Step}
 use Rattle.gs_world_asked.specs.Behind.{HasAnswer, IsOnly, asks_call}
 use Rattle.gs_world_carried.specs.Exchanged.{HasReply, Looks, Went, asks_at}
+use Rattle.gs_world_asked.specs.Resting.{IsLooking}
 use Rattle.gs_world_chunks.specs.Running.{AreAmong}
+use Rattle.gs_world_chunks.specs.Scripts.{AreEver}
 use Rattle.gs_world_laws.specs.Reached.{unarmed}
 use Rattle.gs_world_laws.specs.Saying.{IsStepWithin}
 
@@ -51,28 +53,27 @@ module _ {D : Type 0} (seen : D → List ℕ) (failures : D → ℕ) where
     pub says : Says (reading_call path reading) pairs (Ok (bytes, located))
     pub exchanged : Exchanged client pairs old new
 
-  -- ---- the steps of it
+  -- ---- behind each step of it the blocks that servers have are among some
 
-  abbrev pub steps_of_answer : (client : ClientId) (old : History D) (call : Call) (answer : Answer) (new : History D) → HasAnswer seen failures unarmed client old call answer new → List Step
-  steps_of_answer client old call answer new c = asks_call c.moment c.req call ∷ c.steps
+  abbrev pub AnswerAmong : (among : List ℕ → Bool) (client : ClientId) (old : History D) (call : Call) (answer : Answer) (new : History D) → HasAnswer seen failures unarmed client old call answer new → Type 0
+  AnswerAmong among client old call answer new c = AreEver seen failures among (asks_call c.moment c.req call ∷ c.steps) old new (c.asked, (Ok tt, c.asks.happens), c.runs)
 
-  abbrev pub steps_of_reply : (client : ClientId) (old : History D) (request : Request) (reply : Reply) (new : History D) → HasReply seen failures client old request reply new → List Step
-  steps_of_reply client old request reply new h = Comes (asks_at h.moment h.req request) ∷ h.behind.steps
+  abbrev pub ReplyAmong : (among : List ℕ → Bool) (client : ClientId) (old : History D) (request : Request) (reply : Reply) (new : History D) → HasReply seen failures client old request reply new → Type 0
+  ReplyAmong among client old request reply new h = AreEver seen failures among (Comes (asks_at h.moment h.req request) ∷ h.behind.steps) old new (h.asked, (Ok tt, h.happens), h.behind.runs)
 
-  abbrev pub steps_of : (client : ClientId) (old : History D) (request : Request) (reply : Reply) (new : History D) → Went seen failures client old request reply new → List Step
-  steps_of client old request (replies.Answer answer) new went = steps_of_reply client old request (replies.Answer answer) new went
-  steps_of client old request (replies.Given given) new went = steps_of_reply client old request (replies.Given given) new went
-  steps_of client old request (replies.Outcome outcome) new went = went.steps
-  steps_of client old request (replies.Refused refusal) new went = went.steps
-  steps_of client old request replies.Lost new went = went.steps
+  abbrev pub LooksAmong : (among : List ℕ → Bool) (client : ClientId) (old new : History D) → Looks seen failures client old new → Type 0
+  LooksAmong among client old new looks = AreEver seen failures among looks.steps old new looks.runs
 
-  abbrev pub steps_in : (client : ClientId) (pairs : List (Request × Reply)) (old new : History D) → Exchanged client pairs old new → List Step
-  steps_in client [] old new is = []
-  steps_in client (pair ∷ pairs) old new (mid, next, went, looks, rest) = steps_of client old pair.0 pair.1 mid went ++ (looks.steps ++ steps_in client pairs next new rest)
+  abbrev pub WentAmong : (among : List ℕ → Bool) (client : ClientId) (old : History D) (request : Request) (reply : Reply) (new : History D) → Went seen failures client old request reply new → Type 0
+  WentAmong among client old request (replies.Answer answer) new went = ReplyAmong among client old request (replies.Answer answer) new went
+  WentAmong among client old request (replies.Given given) new went = ReplyAmong among client old request (replies.Given given) new went
+  WentAmong among client old request (replies.Outcome outcome) new went = LooksAmong among client old new went
+  WentAmong among client old request (replies.Refused refusal) new went = LooksAmong among client old new went
+  WentAmong among client old request replies.Lost new went = LooksAmong among client old new went
 
-  -- Whatever these steps may come to, as far as they have come the blocks that servers have are among some: also where memory is wanting, or a disk fails, and it is not in the run that is spoken of.
-  abbrev pub AreAmongAnyhow : (List ℕ → Bool) → List Step → History D → Type 0
-  AreAmongAnyhow among steps old = (front behind : List Step) (now : History D) → steps ≡ front ++ behind → RunsTo seen failures unarmed front old now → AreAmong among now.nodes
+  abbrev pub ExchangedAmong : (among : List ℕ → Bool) (client : ClientId) (pairs : List (Request × Reply)) (old new : History D) → Exchanged client pairs old new → Type 0
+  ExchangedAmong among client [] old new is = Unit {0}
+  ExchangedAmong among client (pair ∷ pairs) old new (mid, next, went, looks, rest) = WentAmong among client old pair.0 pair.1 mid went × LooksAmong among client mid next looks × ExchangedAmong among client pairs next new rest
 
   module _ (config : Config) (clients : ℕ) (disks : D × D) where
     -- A store has begun over disks that said nothing. Behind some steps a client, the only one, has the answer to its commit of a prepare, by which an epoch begins, and reads of a file. Then there are any steps; and then it has the answer to its
@@ -106,14 +107,32 @@ module _ {D : Type 0} (seen : D → List ℕ) (failures : D → ℕ) where
       pub last : History D
       pub again : Reads client path reading has start_then last
 
-    -- all its steps, from the beginning on
-    abbrev pub all_steps : (client : ClientId) (path : Path) (reading : Reading) (epoch : ℕ) (had has : List ℕ) → ReadsTwice client path reading epoch had has → List Step
-    all_steps client path reading epoch had has r =
-        r.first ++ (steps_of_answer client r.old calls.PrepareCommit (answers.Epoch epoch) r.prepared r.prepares
-        ++ (r.way.steps ++ (steps_in client r.reads.pairs r.start r.end r.reads.exchanged
-        ++ (r.between ++ (steps_of_answer client r.later calls.RollbackCommit (answers.Epoch (epoch + 1)) r.back r.commits
-        ++ (r.way_then.steps ++ steps_in client r.again.pairs r.start_then r.last r.again.exchanged))))))
+    -- behind each of its steps, from the beginning on, the blocks that servers have are among some
+    pub record AreAmongThen (among : List ℕ → Bool) (client : ClientId) (path : Path) (reading : Reading) (epoch : ℕ) (had has : List ℕ) (r : ReadsTwice client path reading epoch had has) : Type 0 where
+      pub first : AreEver seen failures among r.first r.begun r.old r.runs
+      pub prepares : AnswerAmong among client r.old calls.PrepareCommit (answers.Epoch epoch) r.prepared r.prepares
+      pub way : LooksAmong among client r.prepared r.start r.way
+      pub reads : ExchangedAmong among client r.reads.pairs r.start r.end r.reads.exchanged
+      pub between : AreEver seen failures among r.between r.end r.later r.passes
+      pub commits : AnswerAmong among client r.later calls.RollbackCommit (answers.Epoch (epoch + 1)) r.back r.commits
+      pub way_then : LooksAmong among client r.back r.start_then r.way_then
+      pub again : ExchangedAmong among client r.again.pairs r.start_then r.last r.again.exchanged
 
-    -- Then it reads the same, where different blocks that its servers may have on the way have different digests: the rollback is of that prepare, whatever has come between, and whatever disks fail.
+    -- Then it reads the same, where different blocks that its servers have on the way have different digests: the rollback is of that prepare, whatever has come between, and whatever disks fail.
     abbrev pub ReadsComeBack : Type 0
-    ReadsComeBack = (client : ClientId) (path : Path) (reading : Reading) (epoch : ℕ) (had has : List ℕ) (r : ReadsTwice client path reading epoch had has) (among : List ℕ → Bool) → among [] ≡ true → TellsApart among → AreAmongAnyhow among (all_steps client path reading epoch had has r) r.begun → has ≡ had
+    ReadsComeBack = (client : ClientId) (path : Path) (reading : Reading) (epoch : ℕ) (had has : List ℕ) (r : ReadsTwice client path reading epoch had has) (among : List ℕ → Bool) → among [] ≡ true → TellsApart among → AreAmongThen among client path reading epoch had has r → has ≡ had
+
+-- ---- examples: where nothing is asked nothing is to be among them; and where one step comes while the client looks, just the blocks behind it
+
+nothing_is_asked : {D : Type 0} (seen : D → List ℕ) (failures : D → ℕ) (among : List ℕ → Bool) (client : ClientId) (old : History D) → ExchangedAmong seen failures among client [] old old refl
+nothing_is_asked seen failures among client old = tt
+
+module _ {D : Type 0} (seen : D → List ℕ) (failures : D → ℕ) (among : List ℕ → Bool) (client : ClientId) (step : Step) (old new : History D) (goes : Goes seen failures unarmed step old new) (within : IsStepWithin step) (looking : IsLooking client step) where
+  abbrev one_step : Looks seen failures client old new
+  one_step = record { steps = step ∷ []; runs = (new, goes, refl); within = (within, tt); looking = (looking, tt) }
+
+  behind_it_they_are : AreAmong among new.nodes → LooksAmong seen failures among client old new one_step
+  behind_it_they_are here = (here, tt)
+
+  they_are_behind_it : LooksAmong seen failures among client old new one_step → AreAmong among new.nodes
+  they_are_behind_it all = all.0

@@ -8,12 +8,13 @@ ghost use Rattle.std.specs.Prelude.{List, ℕ};
 use gs_block::promises::configurations_have_sizes;
 use gs_server_laws::a_message_edits_a_replica_by_what_it_says;
 use gs_world_chunks::{
-    a_rollback_gives_back_names_and_bytes, a_rollback_gives_back_what_was_settled, epochs_never_fall,
-    reads_are_legal,
+    a_rollback_gives_back_names_and_bytes, a_rollback_gives_back_what_was_settled,
+    epochs_never_fall, reads_are_legal,
 };
 
-/// A client has the answer to its commit of a prepare, and reads bytes of a file, or the digest of a block of it; later it has the answer to its commit of a rollback, in the next epoch, and reads the same of the file again. It gets the same bytes, whatever has happened
-/// between, damage, losses and restarts among it, whatever messages come, how often, and in which order, and whatever disks fail: where neither read is refused, and different blocks that servers may have on the way have different digests.
+/// A store has begun over disks that said nothing, and all that is asked is within its types. A client, the only one, has the answer to its commit of a prepare, and reads bytes of a file, or the digest of a block of it; later it has the answer to its commit of a
+/// rollback, in the next epoch, and reads the same of the file again. It gets the same bytes, whatever has happened between the first reading and the second commit, damage, losses and restarts among it, whatever messages come, how often, and in which order, and whatever
+/// disks fail: where neither read is refused, and different blocks that servers have on the way have different digests. Between a commit and the end of its reading it asks nothing of the master but look-ups, and the master isn't started again.
 pub fn what_is_read_behind_a_rollback_is_what_was_read_behind_its_prepare<D>()
     ensures { (seen : D → List ℕ) (failures : D → ℕ) (config : Config) (clients : ℕ) (disks : D × D) → ReadsComeBack seen failures config clients disks }
 {
