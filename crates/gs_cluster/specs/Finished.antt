@@ -11,14 +11,14 @@ use Rattle.gs_cluster_core.specs.declared.role.Role.{Role}
 use Rattle.gs_cluster_history.specs.Histories.{Among, Kept}
 use Rattle.gs_cluster_history.specs.Merging.{Place, event_of, places_of}
 use Rattle.gs_cluster_history.specs.Setting.{Setting, all_ids}
-use Rattle.gs_cluster.specs.declared.cluster.Whole.{Whole}
+use Rattle.gs_cluster.specs.declared.gathering.Whole.{Whole}
 
-module _ {D : Type 0} (seen : D → List ℕ) (failures : D → ℕ) (setting : Setting) (callers : List (Kept (Role D))) where
-  -- The histories of all nodes, in the order of their numbers and those of the callers among them, by their clocks, are a run of a store that has begun new; these nodes are
+module _ {D : Type 0} (seen : D → List ℕ) (failures : D → ℕ) (setting : Setting) (given : List (Kept (Role D))) where
+  -- The histories of all nodes, in the order of their numbers and these among them, by their clocks, are a run of a store that has begun new; these nodes are
   -- what it leads to.
   pub record HasRun (nodes : Nodes D) : Type 0 where
     pub kept : List (Kept (Role D))
-    pub among : (k : Kept (Role D)) → Among callers k → Among kept k
+    pub among : (k : Kept (Role D)) → Among given k → Among kept k
     pub numbers : map (λ (k : Kept (Role D)). k.me) kept ≡ all_ids setting
     pub run : (armed : DiskId → ℕ → MasterPlace D → MasterPlace D) → IsStoreRun seen failures armed setting kept (places_of kept)
     pub ends : (armed : DiskId → ℕ → MasterPlace D → MasterPlace D) → (run armed).end.nodes ≡ nodes_of nodes
@@ -27,13 +27,13 @@ module _ {D : Type 0} (seen : D → List ℕ) (failures : D → ℕ) (setting : 
   abbrev pub Finished : Result (Nodes D) Refusal → Type 0
   Finished (Ok nodes) = HasRun nodes
   Finished (Err refusals.Memory) = Unit {0}
-  Finished (Err refusals.Stray) = length callers ≡ setting.clients → ⊥
+  Finished (Err refusals.Stray) = length given ≡ setting.clients → ⊥
   Finished (Err refusal) = ⊥
 
   -- It leads to these nodes and to all that they have ever sent, and these are its events.
   pub record HasWholeRun (whole : Whole D) : Type 0 where
     pub kept : List (Kept (Role D))
-    pub among : (k : Kept (Role D)) → Among callers k → Among kept k
+    pub among : (k : Kept (Role D)) → Among given k → Among kept k
     pub numbers : map (λ (k : Kept (Role D)). k.me) kept ≡ all_ids setting
     pub run : (armed : DiskId → ℕ → MasterPlace D → MasterPlace D) → IsStoreRun seen failures armed setting kept (places_of kept)
     pub ends : (armed : DiskId → ℕ → MasterPlace D → MasterPlace D) → (run armed).end ≡ record { nodes = nodes_of whole.nodes; sent = whole.sent }
@@ -42,5 +42,12 @@ module _ {D : Type 0} (seen : D → List ℕ) (failures : D → ℕ) (setting : 
   abbrev pub FinishedWhole : Result (Whole D) Refusal → Type 0
   FinishedWhole (Ok whole) = HasWholeRun whole
   FinishedWhole (Err refusals.Memory) = Unit {0}
-  FinishedWhole (Err refusals.Stray) = length callers ≡ setting.clients → ⊥
+  FinishedWhole (Err refusals.Stray) = length given ≡ setting.clients → ⊥
   FinishedWhole (Err refusal) = ⊥
+
+  -- So too of all nodes: `Stray` is said only where there aren't as many as the store has.
+  abbrev pub GatheredWhole : Result (Whole D) Refusal → Type 0
+  GatheredWhole (Ok whole) = HasWholeRun whole
+  GatheredWhole (Err refusals.Memory) = Unit {0}
+  GatheredWhole (Err refusals.Stray) = length given ≡ length (all_ids setting) → ⊥
+  GatheredWhole (Err refusal) = ⊥

@@ -3,23 +3,22 @@ ghost use Rattle.gs_cluster.specs.Finished.{Finished, FinishedWhole};
 ghost use Rattle.gs_cluster.specs.Opened.{IsNew, names_of};
 ghost use Rattle.gs_cluster.specs.Calling.{fresh_clients};
 ghost use Rattle.gs_cluster.specs.declared.caller.Caller.{Caller as ACaller};
+ghost use Rattle.gs_cluster_core.specs.Roles.{DoesAs, StartsAs};
 ghost use Rattle.gs_cluster_history.specs.Setting.{all_ids};
+ghost use Rattle.gs_cluster_threads.specs.Gathered as threads;
 
 use crate::caller::Caller;
+use crate::gathering::{Whole, whole_of, with_callers};
 use crate::nodes::nodes_from;
 use crate::opening::Opened;
-use crate::posts::posts_from;
 use gs_base::{Config, Moment, Refusal};
 use gs_cluster_core::Role;
 use gs_cluster_core::promises::matching_histories_are_a_run_of_the_store;
 use gs_cluster_history::Core;
 use gs_cluster_node::{Gate, Node, Plan};
-use gs_cluster_notes::{Told, told_by};
 use gs_cluster_threads::{Gathered, Hosts, wire};
 use gs_journal::Disk;
-use gs_msg::Event;
 use gs_nodes::Nodes;
-use gs_world::Posts;
 use std::alloc::{AllocError, Global};
 use std::sync::Wait;
 use std::thread::Threads;
@@ -36,15 +35,6 @@ where
     pub hosts: Hosts<N, Role<D>>,
     ghost sizes: { config ≡ N.setting.config },
     pub ghost many: { vec_len hosts.handles + N.setting.clients ≡ length (all_ids N.setting) },
-}
-
-/// The nodes of a store, all that they have ever sent, and the events that led to that. With these nodes and what they have sent it goes on on one
-/// thread (`World` of `gs_world`).
-#[derive(Drop)]
-pub struct Whole<D: Disk + Drop> {
-    pub nodes: Nodes<D>,
-    pub sent: Posts,
-    pub events: Vec<Event>,
 }
 
 /// So many first items, and those behind them.
@@ -90,23 +80,21 @@ fn callers_of<N: Plan, D: Disk + Drop, R: Wait + Clock + Copy + Drop>(
     Ok(callers)
 }
 
-fn nodes_of_callers<N: Plan, D: Disk + Drop, R: Wait + Clock + Drop>(
+/// Ends threads, and gives what their nodes and those of these callers have come to.
+fn ended<
+    N: Plan + Send + Sync + 'static,
+    D: Disk + Drop + Send + 'static,
+    R: Threads + Wait + Clock + Drop,
+>(
+    rt: &R,
     alloc: Global,
+    hosts: Hosts<N, Role<D>>,
     callers: Vec<Caller<N, D, R>>,
-) -> Result<Vec<Node<N, Role<D>>>, AllocError>
-    ensures { IfOk result (λ v. v.items ≡ map (λ (c : ACaller N D R). c.node) callers.items) }
+) -> Result<Gathered<Role<D>>, Refusal>
+    ensures { threads.Finished (DoesAs D.seen D.failures) (StartsAs D.seen D.failures N.setting) (all_ids N.setting) (vec_len hosts.handles) (map (λ (c : ACaller N D R). c.node) callers.items) result }
 {
-    let mut nodes = Vec::new(alloc);
-    for caller in callers {
-        let Caller {
-            rt: _,
-            alloc: _,
-            node,
-            moment: _,
-        } = caller;
-        nodes.push(node)?;
-    }
-    Ok(nodes)
+    let of_callers = with_callers(Vec::new(alloc), callers)?;
+    hosts.finish(rt, of_callers)
 }
 
 impl<N: Plan + Send + Sync + 'static, D: Disk + Drop + Send + 'static> Cluster<N, D> {
@@ -158,8 +146,7 @@ impl<N: Plan + Send + Sync + 'static, D: Disk + Drop + Send + 'static> Cluster<N
             config,
             hosts,
         } = self;
-        let of_callers = nodes_of_callers(alloc, callers)?;
-        let gathered = match hosts.finish(rt, of_callers) {
+        let gathered = match ended(rt, alloc, hosts, callers) {
             Ok(gathered) => gathered,
             Err(refusal) => return Err(refusal),
         };
@@ -183,24 +170,10 @@ impl<N: Plan + Send + Sync + 'static, D: Disk + Drop + Send + 'static> Cluster<N
             config,
             hosts,
         } = self;
-        let of_callers = nodes_of_callers(alloc, callers)?;
-        let gathered = match hosts.finish(rt, of_callers) {
+        let gathered = match ended(rt, alloc, hosts, callers) {
             Ok(gathered) => gathered,
             Err(refusal) => return Err(refusal),
         };
-        let Gathered { members, notes } = gathered;
-        matching_histories_are_a_run_of_the_store::<D>();
-        let nodes = nodes_from(alloc, config, members)?;
-        let told = match told_by(alloc, notes) {
-            Ok(told) => told,
-            Err(refusal) => return Err(refusal),
-        };
-        let Told { events, sent } = told;
-        let sent = posts_from(alloc, config.servers as usize, sent)?;
-        Ok(Whole {
-            nodes,
-            sent,
-            events,
-        })
+        whole_of::<N, D>(alloc, config, gathered)
     }
 }

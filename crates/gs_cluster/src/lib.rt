@@ -3,11 +3,13 @@
 
 mod caller;
 mod cluster;
+mod gathering;
 mod nodes;
 mod opening;
 mod posts;
 pub mod promises;
 
 pub use caller::Caller;
-pub use cluster::{Cluster, Whole};
+pub use cluster::Cluster;
+pub use gathering::{Whole, gather};
 pub use opening::Opened;

@@ -1,6 +1,6 @@
 // The nodes of a store as they begin, each with a channel into it.
-ghost use Rattle.std.specs.Prelude.{◌≡◌, ◌⊎◌, ◌≤◌, ◌++◌, ◌∷◌, [], Ok, IfOk, OnOk, vec_len};
-ghost use Rattle.gs_cluster.specs.Opened.{IsNew};
+ghost use Rattle.std.specs.Prelude.{◌≡◌, ◌⊎◌, ◌≤◌, ◌++◌, ◌∷◌, [], Ok, IfErr, IfOk, OnOk, vec_len};
+ghost use Rattle.gs_cluster.specs.Opened.{IsNew, WhyNoMaster, WhyNotOpened};
 ghost use Rattle.gs_cluster.specs.inner.Seeds.{client_rows, row_of, rows_of, server_rows, BeginsSo};
 ghost use Rattle.gs_msg.specs.declared.node.NodeId.TheVariants as ids;
 ghost use Rattle.gs_cluster_core.specs.declared.role.Role.TheVariants as roles;
@@ -54,7 +54,8 @@ fn seed_master<D: Disk + Drop>(
     config: Config,
     disks: (D, D),
 ) -> Result<Seed<Role<D>>, Refusal>
-    ensures { IfOk result (λ s. BeginsSo D.seen D.failures config disks s) }
+    ensures begins { IfOk result (λ s. BeginsSo D.seen D.failures config disks s) }
+    ensures refused { IfErr result (WhyNoMaster D.seen D.failures config disks) }
 {
     let (first, second) = disks;
     let Started { master, sent } = match Master::open(alloc, config, first, second, LIMIT) {
@@ -97,9 +98,25 @@ fn seed_clients<D: Disk + Drop>(
     Ok(())
 }
 
+/// A master, and behind it the servers and the clients.
+fn seeds_behind<D: Disk + Drop>(
+    alloc: Global,
+    config: Config,
+    clients: u32,
+    master: Seed<Role<D>>,
+) -> Result<Vec<Seed<Role<D>>>, AllocError>
+    ensures { IfOk result (λ seeds. rows_of seeds.items ≡ row_of master ∷ (server_rows config config.servers ++ client_rows clients)) }
+{
+    let mut seeds = Vec::new(alloc);
+    seeds.push(master)?;
+    seed_servers(alloc, config, &mut seeds)?;
+    seed_clients(alloc, clients, &mut seeds)?;
+    Ok(seeds)
+}
+
 impl<D: Disk + Drop> Opened<D> {
     /// A store over the disks of a journal, with 1 to 16 clients. New disks are those of a new store. `Config` where there are no
-    /// clients, or more; else it is refused where memory is wanting, or the disks can't be opened.
+    /// clients, or more, whatever the disks are; else it is refused where memory is wanting, or the disks can't be opened.
     pub fn new(
         alloc: Global,
         config: Config,
@@ -108,15 +125,13 @@ impl<D: Disk + Drop> Opened<D> {
     ) -> Result<Opened<D>, Refusal>
         ensures config { IfOk result (λ opened. opened.config ≡ config) }
         ensures new { IfOk result (λ opened. IsNew D.seen D.failures (record { config = config; clients = clients; texts = (D.seen disks.0, D.seen disks.1) }) opened.seeds.items) }
+        ensures refused { IfErr result (WhyNotOpened D.seen D.failures config clients disks) }
     {
         if clients == 0 || clients > CLIENTS {
             return Err(Refusal::Config);
         }
-        let mut seeds = Vec::new(alloc);
         let master = seed_master(alloc, config, disks)?;
-        seeds.push(master)?;
-        seed_servers(alloc, config, &mut seeds)?;
-        seed_clients(alloc, clients, &mut seeds)?;
+        let seeds = seeds_behind(alloc, config, clients, master)?;
         Ok(Opened {
             config,
             seeds,

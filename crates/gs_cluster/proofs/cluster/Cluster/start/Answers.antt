@@ -7,7 +7,6 @@ use Rattle.gs_cluster_core.specs.declared.role.Role.{Role}
 use Rattle.gs_cluster_history.specs.Histories.{Kept}
 use Rattle.gs_cluster_send.proofs.Roles.{role_row}
 use Rattle.gs_cluster_threads.specs.Wired.{fresh}
-use Rattle.gs_cluster_threads.specs.declared.wiring.Seed.{Seed}
 use Rattle.gs_cluster.proofs.Lists.{length_map}
 use Rattle.gs_cluster.proofs.Numbers.{all_long, few_nodes, few_servers}
 use Rattle.gs_cluster.proofs.Seeding.{all_together, are_fresh, enough, may_begin, seeds_long}
