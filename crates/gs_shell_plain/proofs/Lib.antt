@@ -7,4 +7,4 @@ mod Lines
 mod Upgrades
 mod Beginning
 mod Answering
-mod Stopping
+pub mod Stopping

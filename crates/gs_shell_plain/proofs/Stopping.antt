@@ -11,7 +11,7 @@ use Rattle.gs_shell_plain.specs.Scripts.{ArePlain, ArePlainUntilAReadFails, AreP
 
 -- ---- the beginning of an input that has so many of its lines
 
-abbrev front : ℕ → List ℕ → List ℕ
+abbrev pub front : ℕ → List ℕ → List ℕ
 front zero xs = []
 front (suc many) [] = []
 front (suc many) (x ∷ xs) = x ∷ cond (eqb x 10) (front many xs) (front (suc many) xs)
@@ -21,7 +21,7 @@ take_onto x zero [] = refl
 take_onto x (suc many) [] = refl
 take_onto x many (line ∷ lines) = refl
 
-lines_of_front : (many : ℕ) (xs : List ℕ) → lines_of (front many xs) ≡ take many (lines_of xs)
+pub lines_of_front : (many : ℕ) (xs : List ℕ) → lines_of (front many xs) ≡ take many (lines_of xs)
 lines_of_front zero xs = refl
 lines_of_front (suc many) [] = refl
 lines_of_front (suc many) (x ∷ xs) = at (eqb x 10) (lines_of_front many xs) (lines_of_front (suc many) xs)
@@ -31,13 +31,13 @@ lines_of_front (suc many) (x ∷ xs) = at (eqb x 10) (lines_of_front many xs) (l
     at true ends goes_on = ap (λ lines. (x ∷ []) ∷ lines) ends
     at false ends goes_on = ap (onto x) goes_on ∙ take_onto x many (lines_of xs)
 
-take_front : (lines more : List (List ℕ)) → take (length lines) (lines ++ more) ≡ lines
+pub take_front : (lines more : List (List ℕ)) → take (length lines) (lines ++ more) ≡ lines
 take_front [] more = refl
 take_front (line ∷ lines) more = ap (λ others. line ∷ others) (take_front lines more)
 
 -- ---- one more line
 
-one_more : {S : Type 0} (A : S → List ℕ → List ℕ → S → Type 0) (lines texts : List (List ℕ)) (line text : List ℕ) (old mid new : S) → Runs A old lines texts mid → AnswersLine A mid line text new → Runs A old (lines ++ line ∷ []) (texts ++ text ∷ []) new
+pub one_more : {S : Type 0} (A : S → List ℕ → List ℕ → S → Type 0) (lines texts : List (List ℕ)) (line text : List ℕ) (old mid new : S) → Runs A old lines texts mid → AnswersLine A mid line text new → Runs A old (lines ++ line ∷ []) (texts ++ text ∷ []) new
 one_more A [] [] line text old mid new same answers = (new, subst (λ s. AnswersLine A s line text new) same answers, refl)
 one_more A (first ∷ lines) (said ∷ texts) line text old mid new (next, one, rest) answers = (next, one, one_more A lines texts line text next mid new rest answers)
 one_more A [] (said ∷ texts) line text old mid new never answers = absurd never
