@@ -206,13 +206,16 @@ module _ {D : Type 0} (seen : D → List ℕ) (failures : D → ℕ) where
       };
     }
 
-    pub are_the_same : EpochsAreNumbers seen failures config 1 disks → ReadsComeBack seen failures config 1 disks → AreTheSameWhereToldApart seen failures config disks text asks epoch had has r.last
+    pub are_the_same : EpochsAreNumbers seen failures config 1 disks → ReadsComeBack seen failures config 1 disks → AreTheSameWhereToldApart seen failures config disks text asks epoch had has r.prepared r.read r.back r.last
     are_the_same numbers law = record {
       number = epoch_small numbers;
       client = the_client;
       path = read_one.path;
       parsed = read_one.parsed;
       run = twice numbers;
+      begins_to_read = refl;
+      has_read = refl;
+      begins_again = refl;
       ends = refl;
       same = λ run among none apart all. law the_client read_one.path reading epoch had has run among none apart all;
     }

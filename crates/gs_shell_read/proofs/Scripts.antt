@@ -100,16 +100,12 @@ module _ {D : Type 0} (seen : D → List ℕ) (failures : D → ℕ) where
     lower : (k : ℕ) → IsNumber (k + 1) → IsNumber k
     lower k small = omega arith
 
-    abbrev up_to : List (List ℕ)
-    up_to = q.prepare ∷ q.read ∷ (q.between ++ q.rollback ∷ q.again ∷ [])
-
-    abbrev texts_up_to : List (List ℕ)
-    texts_up_to = (codes "ok " ++ decimal epoch) ∷ had ∷ (q.texts_between ++ (codes "ok " ++ decimal (epoch + 1)) ∷ has ∷ [])
-
     -- both texts tell what was read
-    texts_so : (start_of last : Desk D) (one two : List ℕ) → Lines_run seen failures start_of (q.before ++ up_to) (q.texts_before ++ texts_up_to) last → Lines_run seen failures last q.behind q.texts_behind ended → had ≡ answer_text (Ok (answer_of asks one)) → has ≡ answer_text (Ok (answer_of asks two))
-        → AreTheSameWhereToldApart seen failures config disks path asks epoch one two last → TextsAreTheSameWhereToldApart seen failures config disks all texts path asks epoch had has q start_of ended
-    texts_so start_of last one two led rest was is a = record {
+    texts_so : (start_of start mid read_at later back last : Desk D) (one two : List ℕ) → Lines_run seen failures start_of q.before q.texts_before start → Line_answered seen failures start q.prepare (codes "ok " ++ decimal epoch) mid → Line_answered seen failures mid q.read had read_at
+        → Lines_run seen failures read_at q.between q.texts_between later → Line_answered seen failures later q.rollback (codes "ok " ++ decimal (epoch + 1)) back → Line_answered seen failures back q.again has last → Lines_run seen failures last q.behind q.texts_behind ended
+        → had ≡ answer_text (Ok (answer_of asks one)) → has ≡ answer_text (Ok (answer_of asks two)) → AreTheSameWhereToldApart seen failures config disks path asks epoch one two mid read_at back last
+        → TextsAreTheSameWhereToldApart seen failures config disks all texts path asks epoch had has q start_of ended
+    texts_so start_of start mid read_at later back last one two led prepares reads between rolls again rest was is a = record {
       client = a.client;
       path = a.path;
       parsed = a.parsed;
@@ -117,10 +113,19 @@ module _ {D : Type 0} (seen : D → List ℕ) (failures : D → ℕ) where
       was = was;
       second = two;
       is = is;
+      prepared = mid;
+      to_prepared = lines_join q.before q.texts_before (q.prepare ∷ []) ((codes "ok " ++ decimal epoch) ∷ []) start_of start mid led (mid, prepares, refl);
+      read = read_at;
+      to_read = reads;
+      back = back;
+      to_back = lines_join q.between q.texts_between (q.rollback ∷ []) ((codes "ok " ++ decimal (epoch + 1)) ∷ []) read_at later back between (back, rolls, refl);
       last = last;
-      led = led;
+      to_last = again;
       rest = rest;
       run = a.run;
+      begins_to_read = a.begins_to_read;
+      has_read = a.has_read;
+      begins_again = a.begins_again;
       ends = a.ends;
       same = λ run among none apart blocks. is ∙ ap (λ (bytes : List ℕ). answer_text (Ok (answer_of asks bytes))) (a.same run among none apart blocks) ∙ sym was;
     }
@@ -156,9 +161,8 @@ module _ {D : Type 0} (seen : D → List ℕ) (failures : D → ℕ) where
           last = last;
           again = two.comes;
         }) in
-        let all_led = lines_join q.before q.texts_before up_to texts_up_to start_of start last led (mid, a, (read_at, b, lines_join q.between q.texts_between (q.rollback ∷ q.again ∷ []) ((codes "ok " ++ decimal (epoch + 1)) ∷ has ∷ []) read_at later last lines_between (back, c, (last, e, refl)))) in
-        texts_so start_of last one.bytes two.bytes all_led rest one.is two.is
-        (subst (λ k. AreTheSameWhereToldApart seen failures config disks path asks k one.bytes two.bytes last) (same_numbers first.number epoch found.number (lower epoch q.small) first.digits) found)
+        texts_so start_of start mid read_at later back last one.bytes two.bytes led a b lines_between c e rest one.is two.is
+        (subst (λ k. AreTheSameWhereToldApart seen failures config disks path asks k one.bytes two.bytes mid read_at back last) (same_numbers first.number epoch found.number (lower epoch q.small) first.digits) found)
 
     by_first : (start_of start : Desk D) → Lines_run seen failures start_of q.before q.texts_before start → IsReachedWithin seen failures config disks start → IsClientOf config start.caller.client
         → Lines_run seen failures start (q.prepare ∷ q.read ∷ (q.between ++ q.rollback ∷ q.again ∷ q.behind)) ((codes "ok " ++ decimal epoch) ∷ had ∷ (q.texts_between ++ (codes "ok " ++ decimal (epoch + 1)) ∷ has ∷ q.texts_behind)) ended

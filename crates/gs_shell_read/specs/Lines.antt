@@ -66,14 +66,17 @@ module _ {D : Type 0} (seen : D → List ℕ) (failures : D → ℕ) (config : C
     pub last : Desk D
     pub again : Comes seen failures (line_of path asks) back (Ok (answer_of asks has)) last
 
-  -- So it goes in a run of a store that has begun over these disks, and ends as this desk has left it: at the path that the line names, in that epoch, it reads what was answered. And both answers are the same, if there is a run that goes so in which different blocks that servers
-  -- have on the way have different digests.
-  pub record AreTheSameWhereToldApart (text : List ℕ) (asks : Asks) (epoch : ℕ) (had has : List ℕ) (last : Desk D) : Type 0 where
+  -- So it goes in a run of a store that has begun over these disks, by way of these desks: at the path that the line names, in that epoch, it reads what was answered, from what the commit of the prepare has left on, and again from what that of the rollback has left. And both
+  -- answers are the same, if there is a run that goes so in which different blocks that servers have on the way have different digests.
+  pub record AreTheSameWhereToldApart (text : List ℕ) (asks : Asks) (epoch : ℕ) (had has : List ℕ) (prepared read back last : Desk D) : Type 0 where
     pub number : IsNumber epoch
     pub client : ClientId
     pub path : Path
     pub parsed : parse_hidden text ≡ Ok path
     pub run : ReadsTwice seen failures config 1 disks client path (reading_of config.chunk asks) epoch had has
+    pub begins_to_read : run.start.nodes ≡ (way_of prepared.wire).nodes
+    pub has_read : run.end.nodes ≡ (way_of read.wire).nodes
+    pub begins_again : run.start_then.nodes ≡ (way_of back.wire).nodes
     pub ends : run.last.nodes ≡ (way_of last.wire).nodes
     pub same : (r : ReadsTwice seen failures config 1 disks client path (reading_of config.chunk asks) epoch had has) (among : List ℕ → Bool) → among [] ≡ true → TellsApart among
         → AreAmongThen seen failures config 1 disks among client path (reading_of config.chunk asks) epoch had has r → has ≡ had
@@ -81,7 +84,7 @@ module _ {D : Type 0} (seen : D → List ℕ) (failures : D → ℕ) (config : C
   -- ---- what is to hold
 
   abbrev pub ReadTheSameWhereToldApart : Type 0
-  ReadTheSameWhereToldApart = (path : List ℕ) (asks : Asks) (epoch next : ℕ) (had has : List ℕ) (r : ReadTwice path asks epoch next had has) → AreTheSameWhereToldApart path asks epoch had has r.last
+  ReadTheSameWhereToldApart = (path : List ℕ) (asks : Asks) (epoch next : ℕ) (had has : List ℕ) (r : ReadTwice path asks epoch next had has) → AreTheSameWhereToldApart path asks epoch had has r.prepared r.read r.back r.last
 
 -- ---- Worked
 a_line_reads : line_of (codes "/f") (Bytes 3 10) ≡ lines.Read (codes "/f") 3 10

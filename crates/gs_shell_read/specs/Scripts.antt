@@ -57,8 +57,8 @@ pub record AreReadTwice (all texts : List (List ℕ)) (path : List ℕ) (asks : 
   pub is : IsAccepted has
 
 module _ {D : Type 0} (seen : D → List ℕ) (failures : D → ℕ) (config : Config) (disks : D × D) where
-  -- So it goes in a run of a store that has begun over these disks, and ends as the desk has left it which the lines up to the second reading have led to: at the path that these lines name, in that epoch, it reads twice what their texts tell. And both texts are the same, if
-  -- there is a run that goes so in which different blocks that servers have on the way have different digests.
+  -- So it goes in a run of a store that has begun over these disks, by way of the desks to which these lines have led: at the path that they name, in that epoch, it reads twice what their texts tell, from what the commit of the prepare has left on, and again from what that of
+  -- the rollback has left. And both texts are the same, if there is a run that goes so in which different blocks that servers have on the way have different digests.
   pub record TextsAreTheSameWhereToldApart (all texts : List (List ℕ)) (text : List ℕ) (asks : Asks) (epoch : ℕ) (had has : List ℕ) (q : AreReadTwice all texts text asks epoch had has) (begun ended : Desk D) : Type 0 where
     pub client : ClientId
     pub path : Path
@@ -67,10 +67,19 @@ module _ {D : Type 0} (seen : D → List ℕ) (failures : D → ℕ) (config : C
     pub was : had ≡ answer_text (Ok (answer_of asks first))
     pub second : List ℕ
     pub is : has ≡ answer_text (Ok (answer_of asks second))
+    pub prepared : Desk D
+    pub to_prepared : Runs (AnswersText seen failures) begun (q.before ++ q.prepare ∷ []) (q.texts_before ++ (codes "ok " ++ decimal epoch) ∷ []) prepared
+    pub read : Desk D
+    pub to_read : AnswersLine (AnswersText seen failures) prepared q.read had read
+    pub back : Desk D
+    pub to_back : Runs (AnswersText seen failures) read (q.between ++ q.rollback ∷ []) (q.texts_between ++ (codes "ok " ++ decimal (epoch + 1)) ∷ []) back
     pub last : Desk D
-    pub led : Runs (AnswersText seen failures) begun (q.before ++ q.prepare ∷ q.read ∷ (q.between ++ q.rollback ∷ q.again ∷ [])) (q.texts_before ++ (codes "ok " ++ decimal epoch) ∷ had ∷ (q.texts_between ++ (codes "ok " ++ decimal (epoch + 1)) ∷ has ∷ [])) last
+    pub to_last : AnswersLine (AnswersText seen failures) back q.again has last
     pub rest : Runs (AnswersText seen failures) last q.behind q.texts_behind ended
     pub run : ReadsTwice seen failures config 1 disks client path (reading_of config.chunk asks) epoch first second
+    pub begins_to_read : run.start.nodes ≡ (way_of prepared.wire).nodes
+    pub has_read : run.end.nodes ≡ (way_of read.wire).nodes
+    pub begins_again : run.start_then.nodes ≡ (way_of back.wire).nodes
     pub ends : run.last.nodes ≡ (way_of last.wire).nodes
     pub same : (r : ReadsTwice seen failures config 1 disks client path (reading_of config.chunk asks) epoch first second) (among : List ℕ → Bool) → among [] ≡ true → TellsApart among
         → AreAmongThen seen failures config 1 disks among client path (reading_of config.chunk asks) epoch first second r → has ≡ had
