@@ -4,11 +4,12 @@
     bench/wrong_definitions.py [--only WORD] [CRATE ..]
 
 bench/wrong-definitions/CRATE/NAME.edit turns one rule of a definition, as crates/NAME/must-fail/*.edit turn a body: a
-guard of the machine of a chunk, or what an event makes of a world. It works on a copy of the repository, without the
-worked runs of the crate, so that the laws alone judge (those of the plain machine keep their worked examples, which are few: that
-a law refuses each too is seen by the function whose contract isn't proved then), and it lets rt must-fail try the edits there. It prints a line
-for each, and ends with status 1 where one is let through, refused for a name that it takes away alone, or not tried. It
-is no part of the gate: there a definition is judged by the laws that stand over it."""
+guard of the machine of a chunk, what an event makes of a world, or what a law asks of a reading or says of it. It works
+on a copy of the repository, without the worked runs of the machine of a chunk, so that the laws alone judge (the other
+crates keep their worked examples, which are few: that a law refuses each too is seen by the function whose contract
+isn't proved then), and it lets rt must-fail try the edits there. It prints a line for each, and ends with status 1 where
+one is let through, refused for a name that it takes away alone, or not tried. It is no part of the gate: there a
+definition is judged by the laws that stand over it."""
 
 import argparse
 import os
