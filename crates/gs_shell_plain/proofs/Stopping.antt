@@ -7,7 +7,8 @@ use Rattle.gs_shell_desk.specs.Starting.{Starts}
 use Rattle.gs_shell_desk.specs.declared.desk.Desk.{Desk}
 use Rattle.gs_shell_script.specs.Run.{AnswersLine, Runs, lines_of, onto}
 use Rattle.gs_shell_plain.proofs.Answering.{scripts_are_plain}
-use Rattle.gs_shell_plain.specs.Scripts.{ArePlain, ArePlainUntilAReadFails, ArePlainUntilAWriteFails, WentWell}
+use Rattle.gs_shell_plain.specs.Scripts.{ArePlain, ArePlainUntilAReadFails, ArePlainUntilAWriteFails}
+use Rattle.gs_world_laws.specs.Meeting.{WentWell}
 
 -- ---- the beginning of an input that has so many of its lines
 
@@ -48,8 +49,7 @@ one_more A (first ∷ lines) [] line text old mid new never answers = absurd nev
 module _ {D : Type 0} (seen : D → List ℕ) (failures : D → ℕ) (config : Config) (disks : D × D) where
   whole_input : (begun desk : Desk D) → Starts seen failures config disks begun → (input : List ℕ) (texts : List (List ℕ)) → Runs (AnswersText seen failures) begun (lines_of input) texts desk → WentWell seen failures disks texts desk → ArePlain (lines_of input) texts
   whole_input begun desk starts input texts runs well =
-      scripts_are_plain seen failures config disks input None None (record { begun = begun; ended = desk; starts = starts; writes = record { texts = texts; runs = runs; whole = tt } })
-      (record { empty = well.empty; enough = well.enough; answered = well.answered; sound = well.sound })
+      scripts_are_plain seen failures config disks input None None (record { begun = begun; ended = desk; starts = starts; writes = record { texts = texts; runs = runs; whole = tt } }) well
 
   -- lines at the beginning of an input are all lines of a shorter one
   first_lines : (begun desk : Desk D) → Starts seen failures config disks begun → (input : List ℕ) (lines more texts : List (List ℕ)) → lines_of input ≡ lines ++ more → Runs (AnswersText seen failures) begun lines texts desk → WentWell seen failures disks texts desk → ArePlain lines texts

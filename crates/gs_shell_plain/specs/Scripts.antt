@@ -10,7 +10,7 @@ use Rattle.gs_shell_desk.specs.declared.desk.Desk.{Desk}
 use Rattle.gs_shell_script.specs.Run.{lines_of, memory_text}
 use Rattle.gs_shell_script.specs.declared.RunFault.TheVariants as fault
 use Rattle.gs_world.specs.Lasting.{failures_at}
-use Rattle.gs_world_laws.specs.Meeting.{RunsWell}
+use Rattle.gs_world_laws.specs.Meeting.{WentWell}
 use Rattle.gs_shell_plain.specs.Machines.{is_plain_line, machine_answers, new_machine}
 
 -- the store has room for the answer, and its counters have values left
@@ -21,16 +21,9 @@ HasRoom text = (text ≢ refusal_text refusals.Full) × (text ≢ refusal_text r
 abbrev pub ArePlain : List (List ℕ) → List (List ℕ) → Type 0
 ArePlain all texts = (many : ℕ) → AllByRecursion (λ whole. is_plain_line whole ≡ true) (take many all) → AllByRecursion HasRoom (take many texts) → take many texts ≡ machine_answers (take many all) new_machine
 
--- Lines that have led to this desk were answered over empty disks, and memory wasn't wanting: the desk has noted no want of it, and no line is answered by one. No disk has failed more often than at the start.
-pub record WentWell {D : Type 0} (seen : D → List ℕ) (failures : D → ℕ) (disks : D × D) (texts : List (List ℕ)) (desk : Desk D) : Type 0 where
-  pub empty : (seen disks.0 ≡ []) × (seen disks.1 ≡ [])
-  pub enough : (way_of desk.wire).is_short ≡ false
-  pub answered : AllByRecursion (λ text. text ≢ memory_text) texts
-  pub sound : failures_at failures desk.wire.nodes.master ≡ failures disks.0 + failures disks.1
-
 -- So the program answers a script over empty disks, where memory isn't wanting and no disk fails; and where there are no more lines, that is all that is written.
 abbrev pub ScriptsArePlain : {D : Type 0} → (D → List ℕ) → (D → ℕ) → Config → D × D → Type 0
-ScriptsArePlain seen failures config disks = (input : List ℕ) (old new : Option (List ℕ)) (s : Serves seen failures config disks input old new) → RunsWell seen failures config disks input old new s → ArePlain (lines_of input) s.writes.texts
+ScriptsArePlain seen failures config disks = (input : List ℕ) (old new : Option (List ℕ)) (s : Serves seen failures config disks input old new) → WentWell seen failures disks s.writes.texts s.ended → ArePlain (lines_of input) s.writes.texts
 
 -- And so it answers where a read of the script fails, those of its lines that were read before.
 abbrev pub ArePlainUntilAReadFails : {D : Type 0} → (D → List ℕ) → (D → ℕ) → Config → D × D → Type 0

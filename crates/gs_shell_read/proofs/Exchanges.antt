@@ -25,8 +25,8 @@ use Rattle.gs_world.specs.Runs.{Comes}
 use Rattle.gs_world.specs.Sent.{Sent}
 use Rattle.gs_world_asked.specs.Resting.{IsLooking}
 use Rattle.gs_world_carried.proofs.Exchanged.{looks_are_carried}
-use Rattle.gs_world_carried.specs.Exchanged.{IsExchanged, Went, asks_at}
-use Rattle.gs_world_laws.specs.Asking.{MayBeAsked}
+use Rattle.gs_world_carried.specs.Exchanged.{IsExchanged, Went}
+use Rattle.gs_world_laws.specs.Asking.{MayBeAsked, asks_at}
 use Rattle.gs_world_laws.specs.Meeting.{IsClientOf}
 use Rattle.gs_world_laws.specs.Reached.{Covers, history}
 use Rattle.gs_world_read.specs.Read.{Bytes, Digest, Exchanged, Reading, reading_call}

@@ -11,7 +11,8 @@ use Rattle.gs_shell_listed.proofs.Lines.{all_join}
 use Rattle.gs_world.specs.Histories.{History}
 use Rattle.gs_world.specs.Runs.{Comes, RunsTo, Step}
 use Rattle.gs_world_asked.specs.Behind.{HasAnswer, asks_call}
-use Rattle.gs_world_carried.specs.Exchanged.{HasReply, Looks, Went, asks_at}
+use Rattle.gs_world_laws.specs.Asking.{asks_at}
+use Rattle.gs_world_carried.specs.Exchanged.{HasReply, Looks, Went}
 use Rattle.gs_world_laws.proofs.Ways.{joined}
 use Rattle.gs_world_laws.specs.Reached.{unarmed}
 use Rattle.gs_world_laws.specs.Saying.{IsStepWithin}

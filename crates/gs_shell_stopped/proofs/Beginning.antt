@@ -7,8 +7,8 @@ use Rattle.gs_shell_desk.specs.Starting.{Starts}
 use Rattle.gs_shell_desk.specs.declared.desk.Desk.{Desk}
 use Rattle.gs_shell_script.specs.Run.{Runs, lines_of}
 use Rattle.gs_shell_plain.proofs.Stopping.{front, lines_of_front, one_more, take_front}
-use Rattle.gs_shell_plain.specs.Scripts.{WentWell}
 use Rattle.gs_world_laws.proofs.PlainAnswers.{script_is_answered}
+use Rattle.gs_world_laws.specs.Meeting.{WentWell}
 use Rattle.gs_world_laws.specs.Plain.{PlainDesk, answers_all, answers_line, answers_of, begins}
 use Rattle.gs_shell_stopped.specs.Stopped.{AnswerBeginning, AnswersUntilAReadFails, AnswersUntilAWriteFails}
 
@@ -24,8 +24,7 @@ answers_of_front config many input = ap (λ lines. (answers_all lines (begins co
 module _ {D : Type 0} (seen : D → List ℕ) (failures : D → ℕ) (config : Config) (disks : D × D) where
   whole_input : (begun desk : Desk D) → Starts seen failures config disks begun → (input : List ℕ) (texts : List (List ℕ)) → Runs (AnswersText seen failures) begun (lines_of input) texts desk → WentWell seen failures disks texts desk → texts ≡ answers_of config input
   whole_input begun desk starts input texts runs well =
-      (script_is_answered seen failures config disks well.empty.0 well.empty.1 input None None (record { begun = begun; ended = desk; starts = starts; writes = record { texts = texts; runs = runs; whole = tt } })
-      (record { empty = well.empty; enough = well.enough; answered = well.answered; sound = well.sound })).0
+      (script_is_answered seen failures config disks well.empty.0 well.empty.1 input None None (record { begun = begun; ended = desk; starts = starts; writes = record { texts = texts; runs = runs; whole = tt } }) well).0
 
   -- lines at the beginning of an input are all lines of a shorter one
   first_lines : (begun desk : Desk D) → Starts seen failures config disks begun → (input : List ℕ) (lines more texts : List (List ℕ)) → lines_of input ≡ lines ++ more → Runs (AnswersText seen failures) begun lines texts desk → WentWell seen failures disks texts desk → AnswerBeginning config input lines texts

@@ -7,7 +7,7 @@ use Rattle.std.specs.Str.{chars, is_utf8}
 use Rattle.gs_base.specs.declared.config.Config.{Config}
 use Rattle.gs_shell.specs.Serving.{StopsServing}
 use Rattle.gs_shell_grammar.specs.Grammar.{number_line, two_words}
-use Rattle.gs_shell_plain.specs.Scripts.{WentWell}
+use Rattle.gs_world_laws.specs.Meeting.{WentWell}
 use Rattle.gs_shell_script.specs.Run.{StopsReading, WritesAnswers}
 use Rattle.gs_shell_script.specs.declared.RunFault.TheVariants as fault
 use Rattle.gs_world_laws.specs.Plain.{answers_of, delivers}

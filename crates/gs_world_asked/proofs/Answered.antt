@@ -60,7 +60,7 @@ use Rattle.gs_world.specs.Runs.{Comes, Goes, RunsTo, Step, Takes}
 use Rattle.gs_world.specs.Sent.{Sent}
 use Rattle.gs_world_lift.proofs.Posting.{posted_all, sent_then}
 use Rattle.gs_world_lift.specs.Going.{AllSent, Posts}
-use Rattle.gs_world_asked.specs.Answered.{AnswersAreMade, AnswersAreMadeOnTheWay, AnswersNow, AsksFresh, GoesBy, Passes, WasAnswered, sent_by, spares_master}
+use Rattle.gs_world_asked.specs.Answered.{AnswersAreMade, AnswersNow, AsksFresh, GoesBy, Passes, WasAnswered, sent_by, spares_master}
 use Rattle.gs_world_asked.specs.Asked.{AreAsked, HasAsked, KeepsOfAt, SaysOf}
 use Rattle.gs_client.specs.Nodes.{pushes, with_bytes}
 use Rattle.gs_world_asked.proofs.Asked.{AllSaid, Numbered_all, found_now, Waits, hearing_same, hears_left, lacking_only, own_id, request_said, servers_said, still_numbered, ticks_left}
@@ -969,11 +969,7 @@ module _ (req : ReqId) (call : Call) where
     pub asked_follows : (Made : Answer → Type 0) (old asked : History D) (moment : Moment) → AreAsked seen old → AsksFresh seen failures armed old moment req call asked → Follows Made asked
     asked_follows Made old asked moment are x = happens_so Made old moment are x.node x.there x.fresh asked.nodes asked.sent x.happens.by x.happens.outcome x.happens.at.1 x.happens.tells
 
-pub answers_are_made_on_the_way : {D : Type 0} (seen : D → List ℕ) (failures : D → ℕ) (armed : DiskId → ℕ → MasterPlace D → MasterPlace D) → AnswersAreMadeOnTheWay seen failures armed
-answers_are_made_on_the_way {D} seen failures armed old asked new moment req call steps node answer are fresh once runs spares there last reply =
+pub answers_are_made : {D : Type 0} (seen : D → List ℕ) (failures : D → ℕ) (armed : DiskId → ℕ → MasterPlace D → MasterPlace D) → AnswersAreMade seen failures armed
+answers_are_made {D} seen failures armed old asked new moment req call steps node answer are fresh once runs spares there last reply =
     let begun = asked_follows req call seen failures armed once (Answered_by req call seen failures armed once (λ h. Passes seen failures armed h steps asked new runs) [] asked asked) old asked moment are fresh in
     (run_follows req call seen failures armed once (λ h. Passes seen failures armed h steps asked new runs) [] steps asked asked new refl (λ h never. absurd never) runs (λ h on. on) spares begun).client node there answer last reply
-
-pub answers_are_made : {D : Type 0} (seen : D → List ℕ) (failures : D → ℕ) (armed : DiskId → ℕ → MasterPlace D → MasterPlace D) → AnswersAreMade seen failures armed
-answers_are_made seen failures armed old asked new moment req call steps node answer are fresh once runs spares there last reply =
-    (answers_are_made_on_the_way seen failures armed old asked new moment req call steps node answer are fresh once runs spares there last reply).0

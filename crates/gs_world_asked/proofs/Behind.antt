@@ -239,7 +239,7 @@ module _ {D : Type 0} (seen : D → List ℕ) (failures : D → ℕ) (armed : Di
   module _ (client : ClientId) (old mid : History D) (call : Call) (answer : Answer) (are : AreAsked seen old) (keeps : KeepsTypes old) (lasts : LastsThrough seen old.nodes.master) (halt : is_halt call ≡ true) (c : HasAnswer seen failures armed client old call answer mid)
       (only : IsOnly client mid) where
     made : WasAnswered seen failures armed c.steps c.asked mid c.req call answer
-    made = answers_are_made seen failures armed old c.asked mid c.moment c.req call c.steps c.node answer are c.asks (halt_at_once call halt) c.runs (all_spare client c.steps c.looking) (subst (λ k. client_in mid.nodes.clients k ≡ Some c.node) (sym c.own) c.there) c.last c.reply
+    made = (answers_are_made seen failures armed old c.asked mid c.moment c.req call c.steps c.node answer are c.asks (halt_at_once call halt) c.runs (all_spare client c.steps c.looking) (subst (λ k. client_in mid.nodes.clients k ≡ Some c.node) (sym c.own) c.there) c.last c.reply).0
 
     abbrev ask : Step
     ask = asks_call c.moment c.req call
@@ -343,7 +343,7 @@ module _ {D : Type 0} (seen : D → List ℕ) (failures : D → ℕ) (armed : Di
       still_start = stays_still seen failures armed d client c.req.number way mid start leads way_looks still_mid
 
       told : WasAnswered seen failures armed l.steps l.asked new l.req (calls.List path) listed
-      told = answers_are_made seen failures armed start l.asked new l.moment l.req (calls.List path) l.steps l.node listed are_start l.asks refl l.runs (all_spare client l.steps l.looking) (subst (λ k. client_in new.nodes.clients k ≡ Some l.node) (sym l.own) l.there) l.last l.reply
+      told = (answers_are_made seen failures armed start l.asked new l.moment l.req (calls.List path) l.steps l.node listed are_start l.asks refl l.runs (all_spare client l.steps l.looking) (subst (λ k. client_in new.nodes.clients k ≡ Some l.node) (sym l.own) l.there) l.last l.reply).0
 
       looks_before : AllByRecursion (IsLooking client) told.before
       looks_before = all_front (IsLooking client) told.before (Comes told.event ∷ told.after) (subst (AllByRecursion (IsLooking client)) told.parts l.looking)

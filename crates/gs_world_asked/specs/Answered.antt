@@ -29,6 +29,7 @@ use Rattle.gs_nodes.specs.declared.place.MasterPlace.TheVariants.{Standing}
 use Rattle.gs_world.specs.Histories.{Happens, History, Upshot}
 use Rattle.gs_world.specs.Runs.{Comes, RunsTo, Step, Takes}
 use Rattle.gs_world.specs.Sent.{message_of}
+use Rattle.gs_world_laws.specs.Asking.{asks_at}
 use Rattle.gs_world_asked.specs.Asked.{AreAsked}
 
 -- what goes out at an event
@@ -98,16 +99,10 @@ module _ {D : Type 0} (seen : D → List ℕ) (failures : D → ℕ) (armed : Di
     pub node : Node
     pub there : client_in old.nodes.clients req.client ≡ Some node
     pub fresh : node.last < req.number
-    pub happens : Happens seen failures armed (record { moment = moment; happening = happenings.Ask req (requests.Call call) }) old (Ok tt) asked
+    pub happens : Happens seen failures armed (asks_at moment req (requests.Call call)) old (Ok tt) asked
 
-  -- Where it has an answer behind some steps, and has asked nothing else since, that was made in them, for this call: of the calls that are answered at once.
+  -- Where it has an answer behind some steps, and has asked nothing else since, that was made in them, for this call: of the calls that are answered at once. So it was in the run that is given: each world on the way is one that this run passes.
   abbrev pub AnswersAreMade : Type 0
   AnswersAreMade = (old asked new : History D) (moment : Moment) (req : ReqId) (call : Call) (steps : List Step) (node : Node) (answer : Answer) → AreAsked seen old → AsksFresh old moment req call asked → is_answered_at_once call ≡ true →
-      RunsTo seen failures armed steps asked new → AllByRecursion (λ step. spares_master step ≡ true) steps → client_in new.nodes.clients req.client ≡ Some node → node.last ≡ req.number → node.reply ≡ Some (replies.Answer answer) →
-      WasAnswered steps asked new req call answer
-
-  -- And so it was in the run that is given: each world on the way is one that this run passes.
-  abbrev pub AnswersAreMadeOnTheWay : Type 0
-  AnswersAreMadeOnTheWay = (old asked new : History D) (moment : Moment) (req : ReqId) (call : Call) (steps : List Step) (node : Node) (answer : Answer) → AreAsked seen old → AsksFresh old moment req call asked → is_answered_at_once call ≡ true →
       (runs : RunsTo seen failures armed steps asked new) → AllByRecursion (λ step. spares_master step ≡ true) steps → client_in new.nodes.clients req.client ≡ Some node → node.last ≡ req.number → node.reply ≡ Some (replies.Answer answer) →
       (made : WasAnswered steps asked new req call answer) × GoesBy (λ h. Passes h steps asked new runs) steps asked new req call answer made

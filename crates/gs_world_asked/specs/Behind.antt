@@ -15,7 +15,6 @@ use Rattle.gs_msg.specs.declared.answer.Answer.{Answer}
 use Rattle.gs_msg.specs.declared.call.Call.{Call}
 use Rattle.gs_msg.specs.declared.call.Call.TheVariants as calls
 use Rattle.gs_msg.specs.declared.event.DiskId.{DiskId}
-use Rattle.gs_msg.specs.declared.event.Happening.TheVariants as happenings
 use Rattle.gs_msg.specs.declared.event.Request.TheVariants as requests
 use Rattle.gs_nodes.specs.Happenings.{client_in}
 use Rattle.gs_nodes.specs.declared.place.MasterPlace.{MasterPlace}
@@ -26,6 +25,8 @@ use Rattle.gs_world.specs.Runs.{Comes, RunsTo, Step}
 use Rattle.gs_world_asked.specs.Answered.{AsksFresh, WasAnswered}
 use Rattle.gs_world_asked.specs.Asked.{AreAsked}
 use Rattle.gs_world_asked.specs.Resting.{IsLooking}
+use Rattle.gs_world_laws.specs.Asking.{asks_at}
+use Rattle.gs_world_laws.specs.Reached.{IsUnarmed}
 use Rattle.gs_world_laws.specs.Saying.{IsStepWithin, KeepsTypes}
 use Rattle.gs_world_laws.specs.Through.{LastsThrough}
 
@@ -48,7 +49,7 @@ pub record StandsOn {D : Type 0} (place : MasterPlace D) (d : Durable) : Type 0 
 
 -- what a client's asking is
 abbrev pub asks_call : Moment → ReqId → Call → Step
-asks_call moment req call = Comes (record { moment = moment; happening = happenings.Ask req (requests.Call call) })
+asks_call moment req call = Comes (asks_at moment req (requests.Call call))
 
 module _ {D : Type 0} (seen : D → List ℕ) (failures : D → ℕ) (armed : DiskId → ℕ → MasterPlace D → MasterPlace D) where
   -- A client asks a call under a fresh number, and has this answer behind steps at which nothing is asked of the master but look-ups of its own, and the master isn't started again. All that is asked is within its types.
@@ -78,6 +79,6 @@ module _ {D : Type 0} (seen : D → List ℕ) (failures : D → ℕ) (armed : Di
 
   -- So it is where it is the only client, and asks nothing else but look-ups, also between the two.
   abbrev pub ListsAreByCommits : Type 0
-  ListsAreByCommits = ((disk : DiskId) (call : ℕ) (place : MasterPlace D) → armed disk call place ≡ place) → (client : ClientId) (old mid new : History D) (call : Call) (answer listed : Answer) (path : Path) → AreAsked seen old → KeepsTypes old → LastsThrough seen old.nodes.master →
+  ListsAreByCommits = IsUnarmed armed → (client : ClientId) (old mid new : History D) (call : Call) (answer listed : Answer) (path : Path) → AreAsked seen old → KeepsTypes old → LastsThrough seen old.nodes.master →
       is_halt call ≡ true → (c : HasAnswer client old call answer mid) → IsOnly client mid →
       (way : List Step) (start : History D) → RunsTo seen failures armed way mid start → AllByRecursion IsStepWithin way → AllByRecursion (IsLooking client) way → HasAnswer client start (calls.List path) listed new → ListsByCommit client old call answer mid path listed c

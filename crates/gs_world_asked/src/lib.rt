@@ -4,7 +4,7 @@
 ghost use Rattle.std.specs.Prelude.{List, ℕ};
 ghost use Rattle.gs_msg.specs.declared.event.DiskId.{DiskId};
 ghost use Rattle.gs_nodes.specs.declared.place.MasterPlace.{MasterPlace};
-ghost use Rattle.gs_world_asked.specs.Answered.{AnswersAreMade, AnswersAreMadeOnTheWay};
+ghost use Rattle.gs_world_asked.specs.Answered.{AnswersAreMade};
 ghost use Rattle.gs_world_asked.specs.Asked.{BeginsAsked, ScriptsAsked, StaysAsked, StaysAskedUnarmed};
 ghost use Rattle.gs_world_asked.specs.Behind.{ListsAreByCommits};
 ghost use Rattle.gs_world_asked.specs.Resting.{StaysStill};
@@ -27,8 +27,7 @@ pub fn of_each_reply_its_client_has_asked<D>()
 /// no answer is older than its call, whatever messages come, how often, and in which order. And each world on the way to that event, and from it on, is one that the run passes.
 /// The master isn't started again meanwhile, and no failure of a disk is arranged.
 pub fn an_answer_is_made_for_its_call<D>()
-    ensures on_the_way { (seen : D → List ℕ) (failures : D → ℕ) (armed : DiskId → ℕ → MasterPlace D → MasterPlace D) → AnswersAreMadeOnTheWay seen failures armed }
-    ensures made { (seen : D → List ℕ) (failures : D → ℕ) (armed : DiskId → ℕ → MasterPlace D → MasterPlace D) → AnswersAreMade seen failures armed }
+    ensures { (seen : D → List ℕ) (failures : D → ℕ) (armed : DiskId → ℕ → MasterPlace D → MasterPlace D) → AnswersAreMade seen failures armed }
 {}
 
 /// As long as a client only looks, whatever else comes, the names, the phase and the epoch of the master stand where no call waits, and all that was called before has a number that the client has had: nothing of before changes them.

@@ -26,9 +26,9 @@ use Rattle.gs_world_asked.proofs.Asked.{found_now}
 use Rattle.gs_world_asked.proofs.Parts.{asking}
 use Rattle.gs_world_asked.specs.Resting.{IsLooking}
 use Rattle.gs_world_carried.proofs.Carried.{Calm, LastIs, OneEvent, chain, delivers_whole, one_event, waited_if}
-use Rattle.gs_world_carried.specs.Exchanged.{HasReply, IsExchanged, Looks, LooksAreCarried, Went, asks_at}
+use Rattle.gs_world_carried.specs.Exchanged.{HasReply, IsExchanged, Looks, LooksAreCarried, Went}
 use Rattle.gs_world_laws.proofs.Ending.{alike_to, as_it_is, asking_client, shortened_alike}
-use Rattle.gs_world_laws.specs.Asking.{MayBeAsked}
+use Rattle.gs_world_laws.specs.Asking.{MayBeAsked, asks_at}
 use Rattle.gs_world_laws.specs.Reached.{Covers, history, unarmed}
 use Rattle.gs_world_laws.specs.Saying.{IsStepWithin}
 

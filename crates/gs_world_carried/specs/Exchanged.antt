@@ -17,13 +17,9 @@ use Rattle.gs_world.specs.Histories.{Happens, History}
 use Rattle.gs_world.specs.Runs.{Comes, RunsTo, Step}
 use Rattle.gs_world.specs.Sent.{Sent}
 use Rattle.gs_world_asked.specs.Resting.{IsLooking}
-use Rattle.gs_world_laws.specs.Asking.{MayBeAsked}
+use Rattle.gs_world_laws.specs.Asking.{MayBeAsked, asks_at}
 use Rattle.gs_world_laws.specs.Reached.{Covers, history, unarmed}
 use Rattle.gs_world_laws.specs.Saying.{IsStepWithin}
-
--- a client asks, as an event
-abbrev pub asks_at : Moment → ReqId → Request → Event
-asks_at moment req request = record { moment = moment; happening = happenings.Ask req request }
 
 module _ {D : Type 0} (seen : D → List ℕ) (failures : D → ℕ) where
   -- steps at which nothing is asked of the master but look-ups of this client, and it isn't started again

@@ -40,7 +40,7 @@ use Rattle.gs_world_laws.specs.Saying.{IsStepWithin}
 use Rattle.gs_world_lift.specs.Going.{MasterGoes, MasterHeard, MasterOpened, MasterTicked}
 use Rattle.gs_world_lift.specs.Saying.{AreOfMaster, IsOfMaster}
 use Rattle.gs_world_fetched.proofs.Sending.{none_there, one_of, some_of}
-use Rattle.gs_world_fetched.specs.Fetched.{IsUnarmed}
+use Rattle.gs_world_laws.specs.Reached.{IsUnarmed}
 
 same_sent : (o : Upshot) → sent_at o ≡ sent_by o
 same_sent (Ok out) = refl
@@ -155,7 +155,7 @@ module _ (m : Message) (req : ReqId) (handle : ℕ) (stamp : Stamp) (epoch : ℕ
 
 -- ---- what was asked
 
-module _ {D : Type 0} (x : Setup D) (unarmed : IsUnarmed x) where
+module _ {D : Type 0} (x : Setup D) (unarmed : IsUnarmed x.armed) where
   no_less : (a b : ℕ) → b ≡ a → a ≤ b
   no_less a b is = omega arith
 

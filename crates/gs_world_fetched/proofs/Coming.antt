@@ -24,7 +24,7 @@ use Rattle.gs_world_chunks.specs.Accounts.{Account}
 use Rattle.gs_world_chunks.specs.Running.{IsReached, Runs, Setup}
 use Rattle.gs_world_fetched.proofs.Asking.{are_asked}
 use Rattle.gs_world_fetched.proofs.Sending.{reach, stays_sent}
-use Rattle.gs_world_fetched.specs.Fetched.{IsUnarmed}
+use Rattle.gs_world_laws.specs.Reached.{IsUnarmed}
 
 -- a message that was sent gives this for a request
 pub record HasCome {D : Type 0} (h : History D) (client : ClientId) (number : ℕ) (given : Given) : Type 0 where
@@ -155,7 +155,7 @@ module _ {D : Type 0} (x : Setup D) where
           by y (inl mine) = λ given is. absurd (none_yet (sym (ap (λ (z : Node). z.reply) (mine.1 ∙ did.1)) ∙ is))
           by y (inr before_it) = on y (before y before_it)
 
-  pub run_came : HaveSizes → IsUnarmed x → (steps : List Step) (old new : History D) (a b : Account) → IsReached x old a → Runs x steps old a new b → (client : ClientId) → ClientCame old client → ClientCame new client
+  pub run_came : HaveSizes → IsUnarmed x.armed → (steps : List Step) (old new : History D) (a b : Account) → IsReached x old a → Runs x steps old a new b → (client : ClientId) → ClientCame old client → ClientCame new client
   run_came sizes unarmed [] old new a b r runs client before = subst (λ (h : History D). ClientCame h client) (sym runs.0) before
   run_came sizes unarmed (step ∷ steps) old new a b r (mid, c, moves, rest) client before =
       run_came sizes unarmed steps mid new c b (reach x (step ∷ []) old mid a c r (mid, c, moves, (refl, refl))) rest client (step_came step old mid moves.steps.goes (are_asked x unarmed sizes old a r).numbered client before)

@@ -39,7 +39,9 @@ use Rattle.gs_world_lift.proofs.Beginning.{begins_none}
 use Rattle.gs_world_fetched.proofs.Asking.{Fetches, IsItsRequest, are_asked, asked_on, asks_then, who_asks}
 use Rattle.gs_world_fetched.proofs.Coming.{ClientCame, HasCome, run_came}
 use Rattle.gs_world_fetched.proofs.Sending.{GoesOut, WasSent, reach, sent_before_or_now, sent_when}
-use Rattle.gs_world_fetched.specs.Fetched.{AsksFresh, IsUnarmed, PartsAreGiven, WasGiven, asking_event}
+use Rattle.gs_world_laws.specs.Reached.{IsUnarmed}
+use Rattle.gs_world_laws.specs.Asking.{asks_at}
+use Rattle.gs_world_fetched.specs.Fetched.{AsksForAPart, PartsAreGiven, WasGiven}
 
 node_is : {a b : Node} → ◌≡◌ {A = Option Node} (Some a) (Some b) → a ≡ b
 node_is is = cc
@@ -76,12 +78,12 @@ module _ {D : Type 0} (x : Setup D) (old asked : History D) (moment : Moment) (r
       never : ◌≡◌ {A = Result (Unit {0}) Refusal} (Ok tt) (Err refusal) → ⊥
       never is = cc
 
-  asked_so : (happens : Happens x.seen x.failures x.armed (asking_event moment req request) old (Ok tt) asked) → AskedSo
+  asked_so : (happens : Happens x.seen x.failures x.armed (asks_at moment req request) old (Ok tt) asked) → AskedSo
   asked_so happens = (let at = happens.at.1 in asks_all at.0 happens.by at.1 (subst (λ (o : Upshot). Tells x.seen x.failures x.armed moment happens.by o old.sent (Ok tt) asked.sent) at.2 happens.tells))
 
 -- ---- who is given what
 
-module _ (sizes : HaveSizes) {D : Type 0} (x : Setup D) (fetched : BytesAreFetched x) (unarmed : IsUnarmed x) where
+module _ (sizes : HaveSizes) {D : Type 0} (x : Setup D) (fetched : BytesAreFetched x) (unarmed : IsUnarmed x.armed) where
   first_reached : (now : History D) (a : Account) (r : IsReached x now a) → IsReached x r.begun r.first
   first_reached now a r = record { apart = r.apart; begun = r.begun; first = r.first; steps = []; begins = r.begins; runs = (refl, refl) }
 
@@ -110,12 +112,12 @@ module _ (sizes : HaveSizes) {D : Type 0} (x : Setup D) (fetched : BytesAreFetch
 
   -- ---- its request
 
-  module _ (old asked new : History D) (a b c : Account) (moment : Moment) (req : ReqId) (to handle : ℕ) (stamp : Stamp) (epoch : ℕ) (want : Wanted) (r : IsReached x old a) (ask : AsksFresh x old a moment req (requests.Fetch to handle stamp epoch want) asked b) where
+  module _ (old asked new : History D) (a b c : Account) (moment : Moment) (req : ReqId) (to handle : ℕ) (stamp : Stamp) (epoch : ℕ) (want : Wanted) (r : IsReached x old a) (ask : AsksForAPart x old a moment req (requests.Fetch to handle stamp epoch want) asked b) where
     abbrev request : Request
     request = requests.Fetch to handle stamp epoch want
 
     abbrev its_event : Event
-    its_event = asking_event moment req request
+    its_event = asks_at moment req request
 
     none_asked : {Z : Type 0} → HasAsked old.nodes.clients req → Z
     none_asked has = absurd (clash req.number has.node.last ask.node.last has.number ask.fresh (ap (λ (n : Node). n.last) (node_is (sym ask.there ∙ has.there))))

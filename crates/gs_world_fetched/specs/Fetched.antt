@@ -23,26 +23,20 @@ use Rattle.gs_nodes.specs.declared.place.MasterPlace.{MasterPlace}
 use Rattle.gs_world.specs.Histories.{Happens, History}
 use Rattle.gs_world.specs.Runs.{Comes, Step}
 use Rattle.gs_world.specs.Sent.{message_of}
+use Rattle.gs_world_laws.specs.Asking.{asks_at}
+use Rattle.gs_world_laws.specs.Reached.{IsUnarmed}
 use Rattle.gs_world_chunks.specs.Accounts.{Account}
 use Rattle.gs_world_chunks.specs.Reading.{GivesBytes, sent_at}
 use Rattle.gs_world_chunks.specs.Running.{IsReached, Moves, Runs, Setup}
 
--- no failure of a disk is arranged
-abbrev pub IsUnarmed : {D : Type 0} → Setup D → Type 0
-IsUnarmed {D} x = (disk : DiskId) (call : ℕ) (place : MasterPlace D) → x.armed disk call place ≡ place
-
--- what a client's asking is
-abbrev pub asking_event : Moment → ReqId → Request → Event
-asking_event moment req request = record { moment = moment; happening = happenings.Ask req request }
-
 module _ {D : Type 0} (x : Setup D) where
   -- A client asks under a number that is fresh, and is taken.
-  pub record AsksFresh (old : History D) (a : Account) (moment : Moment) (req : ReqId) (request : Request) (asked : History D) (b : Account) : Type 0 where
+  pub record AsksForAPart (old : History D) (a : Account) (moment : Moment) (req : ReqId) (request : Request) (asked : History D) (b : Account) : Type 0 where
     pub node : Node
     pub there : client_in old.nodes.clients req.client ≡ Some node
     pub fresh : node.last < req.number
-    pub moves : Moves x (Comes (asking_event moment req request)) old a asked b
-    pub happens : Happens x.seen x.failures x.armed (asking_event moment req request) old (Ok tt) asked
+    pub moves : Moves x (Comes (asks_at moment req request)) old a asked b
+    pub happens : Happens x.seen x.failures x.armed (asks_at moment req request) old (Ok tt) asked
 
   -- At one of some steps a server is asked for this part of a chunk, under this stamp and in this epoch, for this request; and it gives this.
   pub record WasGiven (steps : List Step) (old : History D) (a : Account) (new : History D) (b : Account) (req : ReqId) (to handle : ℕ) (stamp : Stamp) (epoch : ℕ) (want : Asked) (given : Given) : Type 0 where
@@ -71,6 +65,6 @@ module _ {D : Type 0} (x : Setup D) where
 
   -- Where a client has asked for a part of a chunk, and has been given something behind some steps, and has asked nothing else since, that was given in them, for this very request: no part is older than its request.
   abbrev pub PartsAreGiven : Type 0
-  PartsAreGiven = IsUnarmed x → (old asked new : History D) (a b c : Account) (moment : Moment) (req : ReqId) (to handle : ℕ) (stamp : Stamp) (epoch : ℕ) (want : Asked) (steps : List Step) (node : Node) (given : Given) → IsReached x old a →
-      AsksFresh old a moment req (requests.Fetch to handle stamp epoch want) asked b → Runs x steps asked b new c → client_in new.nodes.clients req.client ≡ Some node → node.last ≡ req.number → node.reply ≡ Some (replies.Given given) →
+  PartsAreGiven = IsUnarmed x.armed → (old asked new : History D) (a b c : Account) (moment : Moment) (req : ReqId) (to handle : ℕ) (stamp : Stamp) (epoch : ℕ) (want : Asked) (steps : List Step) (node : Node) (given : Given) → IsReached x old a →
+      AsksForAPart old a moment req (requests.Fetch to handle stamp epoch want) asked b → Runs x steps asked b new c → client_in new.nodes.clients req.client ≡ Some node → node.last ≡ req.number → node.reply ≡ Some (replies.Given given) →
       WasGiven steps asked b new c req to handle stamp epoch want given

@@ -12,7 +12,7 @@ use Rattle.gs_world.specs.Sent.{Sent}
 use Rattle.gs_shell_script.specs.Run.{AnswersIfShort, AnswersLine, Runs, lines_of, memory_text}
 use Rattle.gs_shell.specs.Serving.{Serves}
 use Rattle.gs_master_laws.proofs.RoomsOfTurns.{messages_counted, ticks_counted}
-use Rattle.gs_world_laws.specs.Meeting.{AllSteady, AllWritten, IsCalm, Reaches, RunsWell}
+use Rattle.gs_world_laws.specs.Meeting.{AllSteady, AllWritten, IsCalm, Reaches, WentWell}
 use Rattle.gs_world_laws.specs.Plain.{PlainDesk, answers_line, answers_of, runs}
 use Rattle.gs_world_laws.specs.Reached.{Covers, history}
 use Rattle.gs_world_laws.proofs.Failing.{begins_at, run_rises}
@@ -91,7 +91,7 @@ module _ {D : Type 0} (seen : D → List ℕ) (failures : D → ℕ) where
         → IsCalm failures (way_of old.wire) (way_of new.wire) → Reaches seen failures config disks old w → (text ≡ (answers_line whole w).0) × Reaches seen failures config disks new (answers_line whole w).1
     line_is_answered old new whole text w answers enough calm at = line_runs seen failures config disks old new whole text w steady answers enough calm (λ restarting. written) at
 
-    pub script_is_answered : (input : List ℕ) (old new : Option (List ℕ)) (s : Serves seen failures config disks input old new) → RunsWell seen failures config disks input old new s
+    pub script_is_answered : (input : List ℕ) (old new : Option (List ℕ)) (s : Serves seen failures config disks input old new) → WentWell seen failures disks s.writes.texts s.ended
         → (s.writes.texts ≡ answers_of config input) × Reaches seen failures config disks s.ended (runs config input).1
     script_is_answered input old new s well =
         let r = start_reaches seen failures config disks s.begun s.starts in

@@ -1,10 +1,14 @@
 -- What a line may ask of a store.
 use Rattle.std.specs.Prelude.{◌≡◌, ℕ, refl}
+use Rattle.gs_base.specs.declared.numbers.Moment.{Moment}
+use Rattle.gs_base.specs.declared.numbers.ReqId.{ReqId}
 use Rattle.gs_client_dialogue.specs.Dialogues.{Ask, Dialogue, Grow, Say}
 use Rattle.gs_edit.specs.View.{NamesView}
 use Rattle.gs_master_laws.specs.Standing.{IsNamedCall}
 use Rattle.gs_master_laws.specs.Written.{IsMet}
 use Rattle.gs_msg.specs.declared.call.Call.{Call}
+use Rattle.gs_msg.specs.declared.event.Event.{Event}
+use Rattle.gs_msg.specs.declared.event.Happening.TheVariants as happenings
 use Rattle.gs_msg.specs.declared.event.Request.{Request}
 use Rattle.gs_msg.specs.declared.event.Request.TheVariants as requests
 
@@ -30,6 +34,10 @@ pub record MayBeCalled (call : Call) : Type 0 where
 abbrev pub MayBeAsked : Request → Type 0
 MayBeAsked (requests.Call call) = MayBeCalled call
 MayBeAsked request = Unit {0}
+
+-- a client asks, as an event
+abbrev pub asks_at : Moment → ReqId → Request → Event
+asks_at moment req request = record { moment = moment; happening = happenings.Ask req request }
 
 -- ---- examples
 

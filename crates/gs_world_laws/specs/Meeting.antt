@@ -165,10 +165,9 @@ module _ {D : Type 0} (seen : D → List ℕ) (failures : D → ℕ) (config : C
     pub plain : IsPlain (way_of desk.wire) w.1
     pub met : IsMetWay (way_of desk.wire)
 
-  -- A whole script over empty disks: the desk has noted no want of memory, no line is answered by one, and in the end no disk has failed more often
-  -- than at the start.
-  pub record RunsWell (input : List ℕ) (old new : Option (List ℕ)) (s : Serves seen failures config disks input old new) : Type 0 where
-    pub empty : (seen disks.0 ≡ []) × (seen disks.1 ≡ [])
-    pub enough : (way_of s.ended.wire).is_short ≡ false
-    pub answered : AllByRecursion (λ text. text ≢ memory_text) s.writes.texts
-    pub sound : failures_at failures s.ended.wire.nodes.master ≡ failures disks.0 + failures disks.1
+-- Lines that have led to this desk were answered over empty disks, and memory wasn't wanting: the desk has noted no want of it, and no line is answered by one. No disk has failed more often than at the start.
+pub record WentWell {D : Type 0} (seen : D → List ℕ) (failures : D → ℕ) (disks : D × D) (texts : List (List ℕ)) (desk : Desk D) : Type 0 where
+  pub empty : (seen disks.0 ≡ []) × (seen disks.1 ≡ [])
+  pub enough : (way_of desk.wire).is_short ≡ false
+  pub answered : AllByRecursion (λ text. text ≢ memory_text) texts
+  pub sound : failures_at failures desk.wire.nodes.master ≡ failures disks.0 + failures disks.1

@@ -15,6 +15,10 @@ use Rattle.gs_world.specs.Sent.{IsSent, Sent}
 abbrev pub unarmed : {D : Type 0} → DiskId → ℕ → MasterPlace D → MasterPlace D
 unarmed disk call place = place
 
+-- where no failure of a disk is arranged
+abbrev pub IsUnarmed : {D : Type 0} → (DiskId → ℕ → MasterPlace D → MasterPlace D) → Type 0
+IsUnarmed {D} armed = (disk : DiskId) (call : ℕ) (place : MasterPlace D) → armed disk call place ≡ place
+
 abbrev pub AllSent : Sent → List Message → Type 0
 AllSent sent messages = AllByRecursion (λ message. IsSent message sent) messages
 

@@ -195,8 +195,8 @@ module _ (sizes : HaveSizes) {D : Type 0} (rises : (x : Setup D) → EpochsNever
 
   module _ (given : IsGiven x) (client : ClientId) (old mid : History D) (call : Call) (epoch : ℕ) (halt : is_halt call ≡ true) (c : HasAnswer seen failures unarmed client old call (answers.Epoch epoch) mid) (g : Good given old) where
     its_made : WasAnswered seen failures unarmed c.steps c.asked mid c.req call (answers.Epoch epoch)
-    its_made = answers_are_made seen failures unarmed old c.asked mid c.moment c.req call c.steps c.node (answers.Epoch epoch) g.are c.asks (halt_at_once call halt) c.runs (all_spare client c.steps c.looking)
-        (subst (λ k. client_in mid.nodes.clients k ≡ Some c.node) (sym c.own) c.there) c.last c.reply
+    its_made = (answers_are_made seen failures unarmed old c.asked mid c.moment c.req call c.steps c.node (answers.Epoch epoch) g.are c.asks (halt_at_once call halt) c.runs (all_spare client c.steps c.looking)
+        (subst (λ k. client_in mid.nodes.clients k ≡ Some c.node) (sym c.own) c.there) c.last c.reply).0
 
     its_there : MadeThere seen failures unarmed its_made.now its_made.event.moment its_made.answers.master c.req call (answers.Epoch epoch) its_made.next.nodes
     its_there = made_there seen failures unarmed its_made.now its_made.event its_made.said its_made.next its_made.happens c.req call (answers.Epoch epoch) its_made.answers

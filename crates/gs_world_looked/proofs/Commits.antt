@@ -41,7 +41,7 @@ use Rattle.gs_world_asked.specs.Answered.{AnswersNow, GoesBy, Passes, WasAnswere
 use Rattle.gs_world_asked.specs.Asked.{AreAsked, HasAsked, SaysOf}
 use Rattle.gs_world_asked.specs.Behind.{HasAnswer, IsOnly, asks_call, is_halt}
 use Rattle.gs_world_asked.specs.Resting.{IsLooking, IsOldOrLooks, IsStill, StandsStillAt}
-use Rattle.gs_world_asked.proofs.Answered.{answers_are_made_on_the_way}
+use Rattle.gs_world_asked.proofs.Answered.{answers_are_made}
 use Rattle.gs_world_asked.proofs.Asked.{stays_unarmed}
 use Rattle.gs_world_asked.proofs.Behind.{MadeThere, all_back, all_front, all_one_more, all_spare, halt_at_once, halt_commits, made_there, run_more, turn_is}
 use Rattle.gs_world_asked.proofs.Resting.{stays_still}
@@ -49,7 +49,8 @@ use Rattle.gs_world_laws.proofs.Keeping.{run_keeps}
 use Rattle.gs_world_laws.proofs.Through.{sound_tells, tells_once}
 use Rattle.gs_world_laws.specs.Saying.{IsStepWithin, KeepsTypes}
 use Rattle.gs_world_laws.specs.Through.{LastsThrough, TellsAt}
-use Rattle.gs_world_looked.specs.Unled.{CommitsHalt, CommitsLeaveUnled, HaltsBy, HasNames, IsUnarmed, IsUnledAt, StaysQuiet}
+use Rattle.gs_world_laws.specs.Reached.{IsUnarmed}
+use Rattle.gs_world_looked.specs.Unled.{CommitsHalt, CommitsLeaveUnled, HaltsBy, HasNames, IsUnledAt, StaysQuiet}
 use Rattle.gs_world_looked.proofs.Named.{firm_at}
 use Rattle.gs_world_looked.proofs.Unled.{lasts_on, run_named, run_quiet}
 
@@ -141,7 +142,7 @@ module _ {D : Type 0} (seen : D → List ℕ) (failures : D → ℕ) (armed : Di
   module _ (client : ClientId) (old mid : History D) (call : Call) (answer : Answer) (are : AreAsked seen old) (keeps : KeepsTypes old) (lasts : LastsThrough seen old.nodes.master) (halt : is_halt call ≡ true) (c : HasAnswer seen failures armed client old call answer mid)
       (only : IsOnly client mid) where
     was : (made : WasAnswered seen failures armed c.steps c.asked mid c.req call answer) × GoesBy seen failures armed (λ h. Passes seen failures armed h c.steps c.asked mid c.runs) c.steps c.asked mid c.req call answer made
-    was = answers_are_made_on_the_way seen failures armed old c.asked mid c.moment c.req call c.steps c.node answer are c.asks (halt_at_once call halt) c.runs (all_spare client c.steps c.looking) (subst (λ k. client_in mid.nodes.clients k ≡ Some c.node) (sym c.own) c.there) c.last c.reply
+    was = answers_are_made seen failures armed old c.asked mid c.moment c.req call c.steps c.node answer are c.asks (halt_at_once call halt) c.runs (all_spare client c.steps c.looking) (subst (λ k. client_in mid.nodes.clients k ≡ Some c.node) (sym c.own) c.there) c.last c.reply
 
     made : WasAnswered seen failures armed c.steps c.asked mid c.req call answer
     made = was.0

@@ -32,12 +32,13 @@ use Rattle.gs_world.specs.Runs.{Comes, Step}
 use Rattle.gs_world_asked.specs.Answered.{AnswersNow, GoesBy, Passes, WasAnswered}
 use Rattle.gs_world_asked.specs.Behind.{HasAnswer, asks_call}
 use Rattle.gs_world_asked.specs.Resting.{IsLooking, IsStill, StandsStill, StandsStillAt}
-use Rattle.gs_world_asked.proofs.Answered.{answers_are_made_on_the_way}
+use Rattle.gs_world_asked.proofs.Answered.{answers_are_made}
 use Rattle.gs_world_asked.proofs.Behind.{MadeThere, all_front, all_spare, made_there}
 use Rattle.gs_world_laws.specs.Saying.{IsStepWithin}
 use Rattle.gs_world_laws.specs.Through.{LastsThrough}
 use Rattle.gs_world_looked.specs.Looked.{AnswersAreByNames, IsPlaceOf, IsStatusOf, LooksAreByNames, LooksBy, LooksHalted, is_file_look}
-use Rattle.gs_world_looked.specs.Unled.{IsHalted, IsUnarmed, IsUnledAt, StaysQuiet}
+use Rattle.gs_world_laws.specs.Reached.{IsUnarmed}
+use Rattle.gs_world_looked.specs.Unled.{IsHalted, IsUnledAt, StaysQuiet}
 use Rattle.gs_world_looked.proofs.Named.{firm_at}
 use Rattle.gs_world_looked.proofs.Unled.{run_halted}
 
@@ -144,7 +145,7 @@ module _ {D : Type 0} (seen : D → List ℕ) (failures : D → ℕ) (armed : Di
 
   module _ (leaves : IsUnarmed armed) (d : Durable) (client : ClientId) (number : ℕ) (start new : History D) (call : Call) (answer : Answer) (look : is_file_look call ≡ true) (h : IsHalted seen d client number start) (l : HasAnswer seen failures armed client start call answer new) where
     was : (made : WasAnswered seen failures armed l.steps l.asked new l.req call answer) × GoesBy seen failures armed (λ h. Passes seen failures armed h l.steps l.asked new l.runs) l.steps l.asked new l.req call answer made
-    was = answers_are_made_on_the_way seen failures armed start l.asked new l.moment l.req call l.steps l.node answer h.asked l.asks (file_at_once call look) l.runs (all_spare client l.steps l.looking) (subst (λ k. client_in new.nodes.clients k ≡ Some l.node) (sym l.own) l.there) l.last l.reply
+    was = answers_are_made seen failures armed start l.asked new l.moment l.req call l.steps l.node answer h.asked l.asks (file_at_once call look) l.runs (all_spare client l.steps l.looking) (subst (λ k. client_in new.nodes.clients k ≡ Some l.node) (sym l.own) l.there) l.last l.reply
 
     made : WasAnswered seen failures armed l.steps l.asked new l.req call answer
     made = was.0

@@ -41,7 +41,8 @@ use Rattle.gs_world_laws.proofs.Through.{run_through, sound_tells, step_on, tell
 use Rattle.gs_world_laws.specs.Saying.{IsStepWithin, KeepsTypes}
 use Rattle.gs_world_laws.specs.Through.{LastsThrough, TellsAt, TellsOn, Turns, TurnsAt}
 use Rattle.gs_world_looked.proofs.Named.{names_on}
-use Rattle.gs_world_looked.specs.Unled.{HasNames, IsHalted, IsUnarmed, IsUnledAt, StaysHalted, StaysQuiet, StaysUnled}
+use Rattle.gs_world_laws.specs.Reached.{IsUnarmed}
+use Rattle.gs_world_looked.specs.Unled.{HasNames, IsHalted, IsUnledAt, StaysHalted, StaysQuiet, StaysUnled}
 
 -- ---- what is heard calls nothing
 

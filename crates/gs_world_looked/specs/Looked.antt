@@ -23,7 +23,8 @@ use Rattle.gs_world_asked.specs.Answered.{AnswersNow, GoesBy, Passes, WasAnswere
 use Rattle.gs_world_asked.specs.Behind.{HasAnswer, StandsOn}
 use Rattle.gs_world_asked.specs.Resting.{IsStill}
 use Rattle.gs_world_laws.specs.Through.{LastsThrough}
-use Rattle.gs_world_looked.specs.Unled.{IsHalted, IsUnarmed, StaysQuiet}
+use Rattle.gs_world_laws.specs.Reached.{IsUnarmed}
+use Rattle.gs_world_looked.specs.Unled.{IsHalted, StaysQuiet}
 
 -- the master stands on these names, in this epoch, in whose phase no rollback is begun
 pub record StandsBy {D : Type 0} (d : Durable) (place : MasterPlace D) : Type 0 where

@@ -18,16 +18,13 @@ use Rattle.gs_world_asked.specs.Answered.{AnswersNow, GoesBy, Passes, WasAnswere
 use Rattle.gs_world_asked.specs.Asked.{AreAsked}
 use Rattle.gs_world_asked.specs.Behind.{HasAnswer, IsOnly, StandsOn, is_halt}
 use Rattle.gs_world_asked.specs.Resting.{IsLooking, IsStill}
+use Rattle.gs_world_laws.specs.Reached.{IsUnarmed}
 use Rattle.gs_world_laws.specs.Saying.{IsStepWithin, KeepsTypes}
 use Rattle.gs_world_laws.specs.Through.{LastsThrough, TellsAt}
 
 abbrev pub IsUnledAt : {D : Type 0} → MasterPlace D → Type 0
 IsUnledAt (Standing m) = IsUnled m.state
 IsUnledAt place = Unit {0}
-
--- where no failure of a disk is arranged
-abbrev pub IsUnarmed : {D : Type 0} → (DiskId → ℕ → MasterPlace D → MasterPlace D) → Type 0
-IsUnarmed {D} armed = (disk : DiskId) (call : ℕ) (place : MasterPlace D) → armed disk call place ≡ place
 
 -- what is told has these names, and this epoch
 pub record HasNames (d e : Durable) : Type 0 where

@@ -39,7 +39,8 @@ use Rattle.gs_world.specs.Histories.{History}
 use Rattle.gs_world.specs.Runs.{Comes, RunsTo, Step}
 use Rattle.gs_world_asked.specs.Behind.{HasAnswer}
 use Rattle.gs_world_asked.specs.Resting.{IsLooking, StandsStillAt}
-use Rattle.gs_world_carried.specs.Exchanged.{HasReply, Looks, Went, asks_at}
+use Rattle.gs_world_laws.specs.Asking.{asks_at}
+use Rattle.gs_world_carried.specs.Exchanged.{HasReply, Looks, Went}
 use Rattle.gs_world_chunks.proofs.Accounted.{runs_told}
 use Rattle.gs_world_chunks.proofs.Once.{told_at_once}
 use Rattle.gs_world_chunks.proofs.Well.{IsWell}

@@ -21,7 +21,8 @@ use Rattle.gs_world.specs.Lasting.{IsToldIn}
 use Rattle.gs_world.specs.Runs.{Comes, Goes, RunsTo, Step}
 use Rattle.gs_world_asked.specs.Answered.{GoesBy, Passes, WasAnswered}
 use Rattle.gs_world_asked.specs.Behind.{StandsOn}
-use Rattle.gs_world_carried.specs.Exchanged.{Went, asks_at}
+use Rattle.gs_world_laws.specs.Asking.{asks_at}
+use Rattle.gs_world_carried.specs.Exchanged.{Went}
 use Rattle.gs_world_chunks.proofs.Through.{told_there}
 use Rattle.gs_world_chunks.proofs.Well.{IsWell, step_well}
 use Rattle.gs_world_chunks.specs.Accounts.{Account}

@@ -22,7 +22,8 @@ use Rattle.gs_path.specs.Path.{Path}
 use Rattle.gs_world.specs.Histories.{Begins, History}
 use Rattle.gs_world.specs.Runs.{Comes, Goes, RunsTo, Step}
 use Rattle.gs_world_asked.specs.Behind.{HasAnswer, IsOnly, asks_call}
-use Rattle.gs_world_carried.specs.Exchanged.{HasReply, Looks, Went, asks_at}
+use Rattle.gs_world_laws.specs.Asking.{asks_at}
+use Rattle.gs_world_carried.specs.Exchanged.{HasReply, Looks, Went}
 use Rattle.gs_world_asked.specs.Resting.{IsLooking}
 use Rattle.gs_world_chunks.specs.Running.{AreAmong}
 use Rattle.gs_world_chunks.specs.Scripts.{AreEver}
