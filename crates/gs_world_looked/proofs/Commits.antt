@@ -252,7 +252,7 @@ module _ {D : Type 0} (seen : D → List ℕ) (failures : D → ℕ) (armed : Di
     pub halts : HaltsBy seen failures armed client old call answer mid c
     halts = record {
       made = made;
-      by = goes_by;
+      on_the_way = goes_by;
       durable = d;
       stands = record { master = its_there.after; stands = its_there.stands; sound = sound_behind made.now made.next made.event made.said made.happens c.req call answer halt here_within.0 types_now lasts_now made.answers; keeps = refl };
       begun = record { still = still_next; quiet = quiet_next; named = named_next; asked = are_next; types = types_next; lasts = lasts_at_next };

@@ -172,7 +172,7 @@ module _ {D : Type 0} (seen : D → List ℕ) (failures : D → ℕ) (armed : Di
     pub looks_halted : LooksHalted seen failures armed d client number start call answer new l
     looks_halted = record {
       made = made;
-      by = goes_by;
+      on_the_way = goes_by;
       met = met;
       looks = looks_by d client number made.now made.next made.event made.said made.happens l.req met.lasts met.still met.quiet call answer look made.answers;
       halted = run_halted seen failures d client number armed leaves (ask ∷ l.steps) start new (l.asked, (Ok tt, l.asks.happens), l.runs) l.within (asks_look, l.looking) h;

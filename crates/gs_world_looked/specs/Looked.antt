@@ -71,7 +71,7 @@ module _ {D : Type 0} (seen : D → List ℕ) (failures : D → ℕ) (armed : Di
   -- Its look-up was answered at an event between worlds of this run, by these names; and where it has the answer the store is halted still.
   pub record LooksHalted (d : Durable) (client : ClientId) (number : ℕ) (start : History D) (call : Call) (answer : Answer) (new : History D) (l : HasAnswer seen failures armed client start call answer new) : Type 0 where
     pub made : WasAnswered seen failures armed l.steps l.asked new l.req call answer
-    pub by : GoesBy seen failures armed (λ h. Passes seen failures armed h l.steps l.asked new l.runs) l.steps l.asked new l.req call answer made
+    pub on_the_way : GoesBy seen failures armed (λ h. Passes seen failures armed h l.steps l.asked new l.runs) l.steps l.asked new l.req call answer made
     pub met : IsHalted seen d client number made.now
     pub looks : LooksBy d made.now.nodes.master call answer
     pub halted : IsHalted seen d client number new

@@ -68,7 +68,7 @@ module _ {D : Type 0} (seen : D → List ℕ) (failures : D → ℕ) (armed : Di
   -- Its commit was answered at an event between worlds of this run, behind which a master stood on this; right behind it, and where it has the answer, the store is halted on this.
   pub record HaltsBy (client : ClientId) (old : History D) (call : Call) (answer : Answer) (mid : History D) (c : HasAnswer seen failures armed client old call answer mid) : Type 0 where
     pub made : WasAnswered seen failures armed c.steps c.asked mid c.req call answer
-    pub by : GoesBy seen failures armed (λ h. Passes seen failures armed h c.steps c.asked mid c.runs) c.steps c.asked mid c.req call answer made
+    pub on_the_way : GoesBy seen failures armed (λ h. Passes seen failures armed h c.steps c.asked mid c.runs) c.steps c.asked mid c.req call answer made
     pub durable : Durable
     pub stands : StandsOn made.next.nodes.master durable
     pub begun : IsHalted seen durable client c.req.number made.next

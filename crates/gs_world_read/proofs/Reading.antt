@@ -308,7 +308,7 @@ module _ {D : Type 0} (seen : D → List ℕ) (failures : D → ℕ) (stays : St
 
         all_now : AreEver seen failures among to_now h l.made.now runs_now
         unfolding as_answer runs_now
-        all_now = (all.0, ever_before seen failures among r.behind.steps r.asked mid r.behind.runs all.1 r.req (calls.FindForReading path index) answer l.made l.by)
+        all_now = (all.0, ever_before seen failures among r.behind.steps r.asked mid r.behind.runs all.1 r.req (calls.FindForReading path index) answer l.made l.on_the_way)
 
         one : On before h b now to_now l.made.now
         one = go_on before h b now to_now l.made.now runs_now (all_front IsStepWithin to_now from_now within_all) (all_front (IsLooking client) to_now from_now looking_all) all_now
@@ -318,7 +318,7 @@ module _ {D : Type 0} (seen : D → List ℕ) (failures : D → ℕ) (stays : St
 
         all_mid : AreEver seen failures among from_now l.made.now mid runs_mid
         unfolding as_answer
-        all_mid = (among_behind seen failures among r.behind.steps r.asked mid r.behind.runs all.1 r.req (calls.FindForReading path index) answer l.made l.by, ever_after seen failures among r.behind.steps r.asked mid r.behind.runs all.1 r.req (calls.FindForReading path index) answer l.made l.by)
+        all_mid = (among_behind seen failures among r.behind.steps r.asked mid r.behind.runs all.1 r.req (calls.FindForReading path index) answer l.made l.on_the_way, ever_after seen failures among r.behind.steps r.asked mid r.behind.runs all.1 r.req (calls.FindForReading path index) answer l.made l.on_the_way)
 
         two : On before l.made.now one.c one.next from_now mid
         two = go_on before l.made.now one.c one.next from_now mid runs_mid (all_back IsStepWithin to_now from_now within_all) (all_back (IsLooking client) to_now from_now looking_all) all_mid

@@ -186,19 +186,19 @@ module _ (sizes : HaveSizes) (law : AreNumbered) {D : Type 0} (rises : (x : Setu
     runs_front = (c.asked, (Ok tt, c.asks.happens), b.made.first)
 
     bare_front : RunsBare x front before b.made.now
-    bare_front = bare_so seen failures config clients disks among front before b.made.now runs_front within_front (blocks.0, ever_before seen failures among c.steps c.asked mid c.runs blocks.1 c.req call (answers.Epoch number) b.made b.by)
+    bare_front = bare_so seen failures config clients disks among front before b.made.now runs_front within_front (blocks.0, ever_before seen failures among c.steps c.asked mid c.runs blocks.1 c.req call (answers.Epoch number) b.made b.on_the_way)
 
     good_now : Good b.made.now
     good_now = good_on front before b.made.now runs_front within_front bare_front g
 
     one_step : StepsWithin x (Comes b.made.event) b.made.now b.made.next
-    one_step = step_so seen failures config clients disks among (Comes b.made.event) b.made.now b.made.next (b.made.said, b.made.happens) within_back.0 (among_behind seen failures among c.steps c.asked mid c.runs blocks.1 c.req call (answers.Epoch number) b.made b.by)
+    one_step = step_so seen failures config clients disks among (Comes b.made.event) b.made.now b.made.next (b.made.said, b.made.happens) within_back.0 (among_behind seen failures among c.steps c.asked mid c.runs blocks.1 c.req call (answers.Epoch number) b.made b.on_the_way)
 
     good_next : Good b.made.next
     good_next = good_on (Comes b.made.event ∷ []) b.made.now b.made.next (b.made.next, (b.made.said, b.made.happens), refl) (within_back.0, tt) (b.made.next, one_step, refl) good_now
 
     bare_after : RunsBare x b.made.after b.made.next mid
-    bare_after = bare_so seen failures config clients disks among b.made.after b.made.next mid b.made.rest within_back.1 (ever_after seen failures among c.steps c.asked mid c.runs blocks.1 c.req call (answers.Epoch number) b.made b.by)
+    bare_after = bare_so seen failures config clients disks among b.made.after b.made.next mid b.made.rest within_back.1 (ever_after seen failures among c.steps c.asked mid c.runs blocks.1 c.req call (answers.Epoch number) b.made b.on_the_way)
 
     abbrev s : State
     s = b.made.answers.master.state
