@@ -74,6 +74,12 @@ def mixed_edits_since_prepare(n):
     return Size("mixed edits since prepare, rolled back", lines, ["ok 2", "ok kept", "ok"])
 
 
+def names_rolled_back(n):
+    """Files that stand before a prepare, so that the commit of a rollback copies them."""
+    lines = itertools.chain((f"create /{f}" for f in names("f", n)), ["rollingUpgrade prepare", "mkdir /d", "rollingUpgrade rollback", "mkdir /d"])
+    return Size("names of before a prepare, rolled back", lines, ["ok 2", "ok"])
+
+
 def one_directory(n):
     files = names("f", n)
     lines = itertools.chain(["mkdir /a"], (f"create /a/{f}" for f in files), ["ls /a"])
@@ -184,6 +190,7 @@ def held_messages(n):
 SIZES = [
     (edits_since_prepare, MILLION),
     (mixed_edits_since_prepare, MILLION),
+    (names_rolled_back, MILLION),
     (one_directory, MILLION),
     (deep_paths, MILLION),
     (rename_to_and_fro, MILLION),

@@ -14,6 +14,7 @@ ghost use Rattle.gs_master_spec.specs.Calls.{answered_with, deleted, edited_by, 
 ghost use Rattle.gs_master_spec.specs.Handling.{call_turn, called, new_call, refusal_in, replied_again, waits_still};
 ghost use Rattle.gs_master_state.specs.inner.Plans.{plan_of};
 ghost use Rattle.gs_master_state.specs.inner.Recorded.{durable_of};
+ghost use Rattle.gs_master_state.specs.inner.Reversing.{AreBack};
 ghost use Rattle.gs_master_spec.specs.State.{if_room, refused, turned};
 ghost use Rattle.gs_master_state.specs.inner.Trying.{refusal_of};
 ghost use Rattle.gs_master_spec.specs.Undoing.{edited_names};
@@ -23,7 +24,7 @@ use crate::event::Event;
 use crate::master::Master;
 use crate::turn::Turn;
 use gs_base::{Config, Moment, Refusal, ReqId};
-use gs_edit::Edit;
+use gs_edit::{Edit, Names};
 use gs_journal::Disk;
 use gs_master_plan::call::{Numbered, accept_plan};
 use gs_master_plan::message::reply_to;
@@ -246,8 +247,24 @@ impl Event {
         ensures steps { EventSteps (if_room (state_at self.old) (turned (state_at self.old) (plan_of plan)) (refused (state_at self.old) req refusals.Full)) self.old result self.new }
         ensures back { GoesBack self.old self.new }
     {
+        self.carry_out_or_refuse_with(req, plan, None)
+    }
+
+    /// The same. Where the first record ends a rollback, the names to which that leads may be given.
+    pub fn carry_out_or_refuse_with(
+        &mut self,
+        req: ReqId,
+        plan: Plan,
+        back: Option<Names>,
+    ) -> Result<(), Refusal>
+        requires ready { IsUnderWay self.old }
+        requires together { ComesWithOthers (plan_of plan) }
+        requires given { AreBack (durable_of self.old.recorded) back }
+        ensures steps { EventSteps (if_room (state_at self.old) (turned (state_at self.old) (plan_of plan)) (refused (state_at self.old) req refusals.Full)) self.old result self.new }
+        ensures back { GoesBack self.old self.new }
+    {
         if self.fits(&plan.records)? {
-            self.carry_out(plan)
+            self.carry_out_with(plan, back)
         } else {
             self.refuse(req, Refusal::Full)
         }

@@ -15,13 +15,14 @@ ghost use Rattle.gs_master_record.specs.Plain.{plain};
 ghost use Rattle.gs_master_spec.specs.Applied.{is_whole_entry};
 ghost use Rattle.gs_master_state.specs.inner.Plans.{log_of, plan_of};
 ghost use Rattle.gs_master_state.specs.inner.Recorded.{durable_of};
+ghost use Rattle.gs_master_state.specs.inner.Reversing.{AreBack};
 ghost use Rattle.gs_master_spec.specs.State.{first_said, fits, turned};
 ghost use Rattle.gs_master_state.specs.inner.TakingBack.{all_leases_before, comes_alone, RoomForAll, StillTakeBack};
 ghost use Rattle.gs_master_spec.specs.Volatile.{all_changed};
 ghost use Rattle.gs_base_table.specs.Slots.{live};
 
 use gs_base::{Refusal, ReqId};
-use gs_edit::Edit;
+use gs_edit::{Edit, Names};
 use gs_journal::Record;
 use gs_master_guard::room::has_room;
 use gs_master_plan::standing::Standing;
@@ -116,8 +117,10 @@ impl Event {
     }
 
     /// Applies a record for which the lists have room. `BadLine` where it doesn't fit. What takes it back stands behind the others.
-    fn apply(&mut self, entry: &Entry) -> Result<(), Refusal>
+    /// The names to which a rollback leads may be given.
+    fn apply(&mut self, entry: &Entry, back: Option<Names>) -> Result<(), Refusal>
         requires alone { comes_alone (plain entry.now) ≡ false }
+        requires given { AreBack (durable_of self.old.recorded) back }
         requires room { RoomForAll self.old.recorded self.old.undos.items }
         requires places { HasPlaces self.old }
         ensures applied { IsAppliedOrNot (plain entry.now) self.old result self.new }
@@ -127,7 +130,8 @@ impl Event {
         ensures others { self.new ≡ record self.old { recorded = self.new.recorded; undos = self.new.undos } }
     {
         let inverse = self.recorded.inverse_for(entry)?;
-        self.recorded.enter_behind(&mut self.undos, entry, inverse)
+        self.recorded
+            .enter_behind(&mut self.undos, entry, inverse, back)
     }
 
     /// A record that was applied is to be written. There is room for it.
@@ -161,9 +165,10 @@ impl Event {
 
     /// Makes room for a record, applies it, and answers it as it is to be written. `Full` where the journal has no room for it,
     /// `BadLine` where it doesn't fit or can't be written. A refusal may leave room that was made, and a copy of the names that
-    /// stands by, and changes nothing else.
-    fn make(&mut self, entry: &Entry) -> Result<Record, Refusal>
+    /// stands by, and changes nothing else. The names to which a rollback leads may be given.
+    fn make(&mut self, entry: &Entry, back: Option<Names>) -> Result<Record, Refusal>
         requires alone { comes_alone (plain entry.now) ≡ false }
+        requires given { AreBack (durable_of self.old.recorded) back }
         requires room { RoomForAll self.old.recorded self.old.undos.items }
         ensures made { Makes (plain entry.now) self.old result self.new }
         ensures back { StillTakeBack self.old.undos.items (durable_of self.old.recorded) self.new.undos.items (durable_of self.new.recorded) }
@@ -175,14 +180,16 @@ impl Event {
     {
         let bytes = self.encoded(entry)?;
         self.grow()?;
-        self.apply(entry)?;
+        self.apply(entry, back)?;
         Ok(bytes)
     }
 
     /// Applies a record that may come with others, and keeps it to be written. `Full` where the journal has no room for it,
-    /// `BadLine` where it doesn't fit or can't be written. A refusal may leave room that was made.
-    pub fn enter(&mut self, entry: Entry) -> Result<(), Refusal>
+    /// `BadLine` where it doesn't fit or can't be written. A refusal may leave room that was made. The names to which a rollback
+    /// leads may be given: then the record of its end copies none.
+    pub fn enter(&mut self, entry: Entry, back: Option<Names>) -> Result<(), Refusal>
         requires alone { comes_alone (plain entry) ≡ false }
+        requires given { AreBack (durable_of self.old.recorded) back }
         requires room { RoomForAll self.old.recorded self.old.undos.items }
         requires counted { self.old.log.records ≤ self.old.log.size }
         ensures entered { Enters (plain entry) self.old result self.new }
@@ -191,7 +198,7 @@ impl Event {
         ensures counted { self.new.log.records ≤ self.new.log.size }
         ensures others { (self.new.memory ≡ self.old.memory) × (self.new.sent ≡ self.old.sent) × (self.new.said ≡ self.old.said) × (self.new.fault ≡ self.old.fault) }
     {
-        let bytes = self.make(&entry)?;
+        let bytes = self.make(&entry, back)?;
         self.keep(entry, bytes);
         Ok(())
     }
@@ -207,7 +214,7 @@ impl Event {
         ensures others { (self.new.memory ≡ self.old.memory) × (self.new.sent ≡ self.old.sent) × (self.new.said ≡ self.old.said) × (self.new.fault ≡ self.old.fault) }
     {
         let entry = Entry::Edit { by, edit };
-        let bytes = match self.make(&entry) {
+        let bytes = match self.make(&entry, None) {
             Ok(bytes) => bytes,
             Err(why) => return handed_back(entry, why),
         };
@@ -235,16 +242,17 @@ impl Event {
         has_room(self.log, self.alloc, records)
     }
 
-    /// Enters records, one after the other.
-    fn enter_all(&mut self, records: Vec<Entry>) -> Result<(), Refusal>
+    /// Enters records, one after the other. Where the first ends a rollback, the names to which that leads may be given.
+    fn enter_all(&mut self, records: Vec<Entry>, mut back: Option<Names>) -> Result<(), Refusal>
         requires alone { list_any comes_alone (map plain records.items) ≡ false }
+        requires given { AreBack (durable_of self.old.recorded) back }
         requires ready { IsUnderWay self.old }
         ensures entered { EntersAll (map plain records.items) self.old result self.new }
         ensures back { GoesBack self.old self.new }
         ensures others { (self.new.memory ≡ self.old.memory) × (self.new.sent ≡ self.old.sent) × (self.new.said ≡ self.old.said) }
     {
         for entry in records {
-            self.enter(entry)?;
+            self.enter(entry, back.take())?;
         }
         Ok(())
     }
@@ -301,13 +309,24 @@ impl Event {
         ensures steps { EventSteps (turned (state_at self.old) (plan_of plan)) self.old result self.new }
         ensures back { GoesBack self.old self.new }
     {
+        self.carry_out_with(plan, None)
+    }
+
+    /// The same. Where the first record ends a rollback, the names to which that leads may be given.
+    pub fn carry_out_with(&mut self, plan: Plan, back: Option<Names>) -> Result<(), Refusal>
+        requires ready { IsUnderWay self.old }
+        requires together { ComesWithOthers (plan_of plan) }
+        requires given { AreBack (durable_of self.old.recorded) back }
+        ensures steps { EventSteps (turned (state_at self.old) (plan_of plan)) self.old result self.new }
+        ensures back { GoesBack self.old self.new }
+    {
         let Plan {
             records,
             changes,
             sent,
             said,
         } = plan;
-        self.enter_all(records)?;
+        self.enter_all(records, back)?;
         self.change_all(changes)?;
         self.send_all(sent)?;
         self.say(said);

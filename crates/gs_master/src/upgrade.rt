@@ -9,6 +9,8 @@ ghost use Rattle.gs_master_spec.specs.Quieted.{IsTableOf, TellsQuiet};
 ghost use Rattle.gs_master_spec.specs.Settling.{requests_of};
 ghost use Rattle.gs_master_spec.specs.State.{all_ended_by};
 ghost use Rattle.gs_master_spec.specs.Upgrades.{commit_on, finalize, prepare_abort, prepare_begin, prepare_commit, rollback_begin, rollback_commit};
+ghost use Rattle.gs_master_state.specs.inner.Recorded.{durable_of};
+ghost use Rattle.gs_master_state.specs.inner.Reversing.{AreBack};
 ghost use Rattle.gs_msg.specs.declared.call.Call.TheVariants as calls;
 
 use crate::event::Event;
@@ -128,17 +130,18 @@ impl Event {
         self.carry_out(told)
     }
 
-    /// A rollback is done, if each chunk that needs an answer has one. These are the names of the prepare.
-    fn commit_on(&mut self, req: ReqId, names: &Names) -> Result<(), Refusal>
-        requires { IsUnderWay self.old }
-        ensures steps { EventSteps (commit_on (state_at self.old) req (Some names.now)) self.old result self.new }
+    /// A rollback is done, if each chunk that needs an answer has one. These are the names of the prepare, which are put in place.
+    fn commit_on(&mut self, req: ReqId, names: Names) -> Result<(), Refusal>
+        requires ready { IsUnderWay self.old }
+        requires given { AreBack (durable_of self.old.recorded) (Some names) }
+        ensures steps { EventSteps (commit_on (state_at self.old) req (Some names)) self.old result self.new }
         ensures back { GoesBack self.old self.new }
     {
-        if let Some(chunk) = self.standing().unrestored(names)? {
+        if let Some(chunk) = self.standing().unrestored(&names)? {
             return self.refuse(req, Refusal::Unrestored(chunk));
         }
-        let plan = self.standing().commit_plan(req, names)?;
-        self.carry_out_or_refuse(req, plan)
+        let plan = self.standing().commit_plan(req, &names)?;
+        self.carry_out_or_refuse_with(req, plan, Some(names))
     }
 
     /// The rollback that is begun is done.
@@ -151,7 +154,7 @@ impl Event {
             return self.refuse(req, Refusal::NotUpgrading);
         }
         match self.recorded.names_back() {
-            Ok(names) => self.commit_on(req, &names),
+            Ok(names) => self.commit_on(req, names),
             Err(Refusal::Memory) => Err(Refusal::Memory),
             Err(_) => self.refuse(req, Refusal::BadLine),
         }

@@ -8,6 +8,7 @@ ghost use Rattle.gs_master_record.specs.Plain as entries;
 ghost use Rattle.gs_master_record.specs.Plain.{plain, plain_edit};
 ghost use Rattle.gs_master_spec.specs.Applied.{with_proposal, with_reply};
 ghost use Rattle.gs_master_state.specs.inner.Recorded.{Applies, durable_of, KeepsRooms, RoomFor, RoomForEach, RoomToKeep};
+ghost use Rattle.gs_master_state.specs.inner.Reversing.{AreBack};
 ghost use Rattle.gs_master_spec.specs.Replies.{client_cmp};
 ghost use Rattle.gs_master_state.specs.inner.TakingBack.{comes_alone, Enters, IsRefused, IsToldFor, IsUndo, LeaseAt, RoomForReply, with_moved_before, with_proposed_before, with_reply_before};
 ghost use Rattle.gs_base_table.specs.Slots.{HasRoom, KeepsRoom, live};
@@ -17,7 +18,7 @@ use crate::recorded::{Recorded, after_number, raised};
 use crate::undo::{ChunkBefore, ProposalBefore, ReplyBefore, Undo, exchange};
 use gs_base::{ClientId, Handle, Refusal, ReqId, ServerId, Stamp};
 use gs_base_table::Table;
-use gs_edit::{Edit, ListedInverse};
+use gs_edit::{Edit, ListedInverse, Names};
 use gs_lease::{Lease, restore};
 use gs_master_record::{Entry, Phase, SettledView};
 use gs_master_spec::asking::Prepared;
@@ -247,34 +248,44 @@ impl Recorded {
         Ok(Undo::Holder(chunk, before))
     }
 
-    /// A record is applied for which there is room.
+    /// A record is applied for which there is room. The names to which a rollback leads may be given.
     fn enter_grown(
         &mut self,
         entry: &Entry,
         inverse: Option<ListedInverse>,
+        back: Option<Names>,
     ) -> Result<Undo, Refusal>
         requires kind { comes_alone (plain entry.now) ≡ false }
         requires room { RoomFor self.old (plain entry.now) }
-        requires back { IsToldFor (durable_of self.old) (plain entry.now) inverse }
+        requires told { IsToldFor (durable_of self.old) (plain entry.now) inverse }
+        requires given { AreBack (durable_of self.old) back }
         ensures applied { Enters (plain entry.now) result (durable_of self.old) (durable_of self.new) }
         ensures back { IfOk result (λ undo. IsUndo self.old self.new undo) }
         ensures leases { IfErr result (λ _. self.new.leases ≡ self.old.leases) }
         ensures keeps { IfErr result (λ _. KeepsRooms self.old self.new) }
     {
         let mut inverse = inverse;
+        let mut back = back;
         let entered = match entry {
             Entry::Edit { by, edit } => self.enter_edit(*by, edit, &mut inverse),
-            _ => self.enter_unlike_edit(entry),
+            _ => self.enter_unlike_edit(entry, &mut back),
         };
         drop(inverse);
+        drop(back);
         entered
     }
 
-    /// A record that is no edit is applied for which there is room.
-    fn enter_unlike_edit(&mut self, entry: &Entry) -> Result<Undo, Refusal>
+    /// A record that is no edit is applied for which there is room. The names to which a rollback leads may be given, and are
+    /// taken then.
+    fn enter_unlike_edit(
+        &mut self,
+        entry: &Entry,
+        back: &mut Option<Names>,
+    ) -> Result<Undo, Refusal>
         requires kind { comes_alone (plain entry.now) ≡ false }
         requires unlike { (by : ReqId) (edit : Edit) → entry.now ≡ Entry.Edit by edit → ⊥ }
         requires room { RoomFor self.old (plain entry.now) }
+        requires given { AreBack (durable_of self.old) back.old }
         ensures applied { Enters (plain entry.now) result (durable_of self.old) (durable_of self.new) }
         ensures back { IfOk result (λ undo. IsUndo self.old self.new undo) }
         ensures leases { IfErr result (λ _. self.new.leases ≡ self.old.leases) }
@@ -288,16 +299,25 @@ impl Recorded {
             Entry::Prepare { epoch, .. } => self.enter_prepare(*epoch),
             Entry::Finalize { epoch } => self.enter_finalize(*epoch),
             Entry::RollbackBegin { epoch } => self.enter_rollback(*epoch),
-            Entry::RollbackCommit { epoch, answered } => self.enter_commit(*epoch, answered),
+            Entry::RollbackCommit { epoch, answered } => {
+                self.enter_commit(*epoch, answered, back.take())
+            }
             Entry::Holder { handle, server } => self.enter_holder(*handle, *server),
             Entry::Checkpoint(_) => Err(Refusal::BadLine),
         }
     }
 
     /// Makes the room that a record wants, and applies it. What it answers takes the record back. `BadLine` where the record
-    /// doesn't fit: an edit is refused so too, whatever the names' own refusal is, so calls judge their edits before.
-    pub fn enter(&mut self, entry: &Entry, inverse: Option<ListedInverse>) -> Result<Undo, Refusal>
-        requires { IsToldFor (durable_of self.old) (plain entry.now) inverse }
+    /// doesn't fit: an edit is refused so too, whatever the names' own refusal is, so calls judge their edits before. Where the
+    /// names to which a rollback leads are given, the record of its end copies none.
+    pub fn enter(
+        &mut self,
+        entry: &Entry,
+        inverse: Option<ListedInverse>,
+        back: Option<Names>,
+    ) -> Result<Undo, Refusal>
+        requires told { IsToldFor (durable_of self.old) (plain entry.now) inverse }
+        requires given { AreBack (durable_of self.old) back }
         ensures applied { comes_alone (plain entry.now) ≡ false → Enters (plain entry.now) result (durable_of self.old) (durable_of self.new) }
         ensures alone { comes_alone (plain entry.now) ≡ true → IsRefused result (durable_of self.old) (durable_of self.new) }
         ensures back { IfOk result (λ undo. IsUndo self.old self.new undo) }
@@ -308,6 +328,6 @@ impl Recorded {
             return Err(Refusal::BadLine);
         }
         self.grow(entry)?;
-        self.enter_grown(entry, inverse)
+        self.enter_grown(entry, inverse, back)
     }
 }

@@ -5,6 +5,7 @@ ghost use Rattle.gs_master_record.specs.Plain.{plain, PlainEntry};
 ghost use Rattle.gs_master_spec.specs.Durable.{Durable};
 ghost use Rattle.gs_master_state.specs.inner.Recorded.{durable_of, KeepsRooms};
 ghost use Rattle.gs_master_state.specs.inner.Released.{all_forgotten, chunks_in, forgotten_in, ReleasesEach};
+ghost use Rattle.gs_master_state.specs.inner.Reversing.{AreBack};
 ghost use Rattle.gs_master_state.specs.inner.TakingBack.{all_leases_before, all_rooms_before, comes_alone, Enters, IsRefused, IsToldFor, Leads, RoomForAll, StillTakeBack, TakeBack, TakesBack, TakesOneMore};
 ghost use Rattle.gs_base_table.specs.Slots.{live};
 
@@ -12,7 +13,7 @@ use crate::edit::push_within;
 use crate::recorded::Recorded;
 use crate::undo::{ChunkBefore, EditBefore, Undo};
 use gs_base::Refusal;
-use gs_edit::ListedInverse;
+use gs_edit::{ListedInverse, Names};
 use gs_master_record::Entry;
 use std::alloc::AllocError;
 
@@ -38,14 +39,17 @@ impl Recorded {
     }
 
     /// Enters a record, and puts what takes it back behind what takes those before it back. So these lead from what stands
-    /// afterwards to what stood before the first, also where the record is refused. There is room behind them.
+    /// afterwards to what stood before the first, also where the record is refused. There is room behind them. The names to
+    /// which a rollback leads may be given.
     pub fn enter_behind(
         &mut self,
         undos: &mut Vec<Undo>,
         entry: &Entry,
         inverse: Option<ListedInverse>,
+        back: Option<Names>,
     ) -> Result<(), Refusal>
         requires told { IsToldFor (durable_of self.old) (plain entry.now) inverse }
+        requires given { AreBack (durable_of self.old) back }
         requires room { RoomForAll self.old undos.old.items }
         requires place { vec_len undos.old < vec_capacity undos.old }
         ensures applied { comes_alone (plain entry.now) ≡ false → Enters (plain entry.now) result (durable_of self.old) (durable_of self.new) }
@@ -58,7 +62,7 @@ impl Recorded {
         ensures none { IfErr result (λ _. undos.new.items ≡ undos.old.items) }
         ensures capacity { vec_capacity undos.old ≤ vec_capacity undos.new }
     {
-        let undo = self.enter(entry, inverse)?;
+        let undo = self.enter(entry, inverse, back)?;
         push_within(undos, undo);
         Ok(())
     }

@@ -319,7 +319,7 @@ impl Recorded {
             Entry::Edit { by, edit } => self.replay_edit(*by, edit),
             Entry::Checkpoint(checkpoint) => self.replay_checkpoint(checkpoint),
             _ => {
-                drop(self.enter(entry, None)?);
+                drop(self.enter(entry, None, None)?);
                 Ok(())
             },
         }

@@ -10,7 +10,7 @@ ghost use Rattle.gs_master_record.specs.declared.checkpoint.Phase.TheVariants.{O
 ghost use Rattle.gs_master_spec.specs.Applied.{applied, are_answers, is_prepared_on, may_restore, with_epoch, without_prepared};
 ghost use Rattle.gs_master_spec.specs.Durable.{is_rolling, prepared_view};
 ghost use Rattle.gs_master_state.specs.inner.Recorded.{answers_for_one, Applies, chunks_of, durable_of, KeepsRooms, restored_chunks};
-ghost use Rattle.gs_master_state.specs.inner.Reversing.{GivesNamesBack, TakesBackOne};
+ghost use Rattle.gs_master_state.specs.inner.Reversing.{AreBack, GivesNamesBack, TakesBackOne};
 ghost use Rattle.gs_master_spec.specs.State.{first_of};
 ghost use Rattle.gs_master_state.specs.inner.TakingBack.{Enters, IsUndo};
 ghost use Rattle.gs_master_spec.specs.Upgrades.{end_tests, is_last_epoch};
@@ -157,6 +157,17 @@ impl Recorded {
         Ok(names)
     }
 
+    /// The same, where they may be given: then nothing is copied.
+    fn given_back(&self, back: Option<Names>) -> Result<Names, Refusal>
+        requires { AreBack (durable_of self.now) back }
+        ensures { GivesNamesBack (durable_of self.now).inverses (durable_of self.now).names result }
+    {
+        match back {
+            Some(names) => Ok(names),
+            None => self.names_back(),
+        }
+    }
+
     /// The view of a chunk as it stood at prepare, on the servers that have answered.
     fn restored_view(&self, count: u64, members: Members) -> View
         ensures { result ≡ record { stamp = record { epoch = (durable_of self.now).epoch; version = 0 }; count = count; members = members; term = None } }
@@ -231,8 +242,15 @@ impl Recorded {
         }
     }
 
-    /// The rollback of an upgrade is done. It wants memory for the names and the chunks before anything changes.
-    pub fn enter_commit(&mut self, epoch: u64, answered: &[Answered]) -> Result<Undo, Refusal>
+    /// The rollback of an upgrade is done. The names to which it leads may be given. It wants memory for the chunks, and for
+    /// the names where they aren't given, before anything changes.
+    pub fn enter_commit(
+        &mut self,
+        epoch: u64,
+        answered: &[Answered],
+        back: Option<Names>,
+    ) -> Result<Undo, Refusal>
+        requires { AreBack (durable_of self.old) back }
         ensures applied { Enters (entries.RollbackCommit epoch answered.now) result (durable_of self.old) (durable_of self.new) }
         ensures back { IfOk result (λ undo. IsUndo self.old self.new undo) }
         ensures same { IfErr result (λ _. self.new ≡ self.old) }
@@ -240,7 +258,7 @@ impl Recorded {
         if !self.may_commit(epoch) {
             return Err(Refusal::BadLine);
         }
-        let names = match self.names_back() {
+        let names = match self.given_back(back) {
             Ok(names) => names,
             Err(refusal) => return Err(refusal),
         };

@@ -5,7 +5,6 @@ use Rattle.std.specs.List.{list_any}
 use Rattle.gs_master_record.specs.Plain.{plain}
 use Rattle.gs_master_state.specs.inner.TakingBack.{comes_alone}
 use Rattle.gs_master.specs.inner.Turns.{AreEntered, EntersAll, WhyNotAll}
-use Rattle.gs_master.specs.declared.event.Event.{Event}
 use Rattle.gs_master.proofs.Entered.{alone_first, enters_behind, enters_none, goes_back_here, goes_back_on, stepped_back, why_not_first}
 use Rattle.gs_master.proofs.event.Event.enter_all.Goals as goal
 
@@ -16,6 +15,7 @@ loop-entry-init c =
       rest = λ result new all. subst (λ items. EntersAll (map plain items) c.args.self.now result new) same all;
       long = (let whole : length c.args.records.items ≡ vec_len c.args.records = search rules in ap length same ∙ whole ∙ sym c.into_iter-entry-iterator.ensures.into_iter_gives.1);
       alone = subst (λ items. list_any comes_alone (map plain items) ≡ false) (sym same) c.requires.alone;
+      given = c.requires.given;
       back = goes_back_here c.args.self.now c.requires.ready;
       memory = refl;
       sent = refl;
@@ -36,6 +36,7 @@ loop-entry-preserved c =
           (enters_behind (plain x) (map plain rest) old mid new result c.in_ok-enter.ensures.entered more));
       long = (let long = inv.long in let first = ap length same in let less = c.in-Some.ensures.steps.1 in omega arith);
       alone = (alone_first (plain x) (map plain rest) (subst (λ items. list_any comes_alone (map plain items) ≡ false) same inv.alone)).1;
+      given = search rules;
       back = goes_back_on c.args.self.now old mid inv.back (stepped_back old mid c.enter.ensures.back c.enter.ensures.room c.enter.ensures.counted others.3 others.1);
       memory = others.0 ∙ inv.memory;
       sent = others.1 ∙ inv.sent;

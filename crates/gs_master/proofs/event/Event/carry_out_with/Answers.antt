@@ -1,7 +1,7 @@
 use Rattle.std.proofs.Common.{◌∙◌, [], append-nil, sym}
 use Rattle.gs_master_state.specs.inner.Plans.{plan_of}
 use Rattle.gs_master.proofs.Entered.{carried, goes_back_on, goes_back_said, goes_back_sent}
-use Rattle.gs_master.proofs.event.Event.carry_out.Goals as goal
+use Rattle.gs_master.proofs.event.Event.carry_out_with.Goals as goal
 
 pub returns-in_err-change_all-clause-back : goal.returns-in_err-change_all-clause-back
 returns-in_err-change_all-clause-back c = goes_back_on c.args.self.now c.enter_all.new.self c.change_all.new.self c.enter_all.ensures.back c.change_all.ensures.back
