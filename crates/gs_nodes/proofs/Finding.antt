@@ -1,6 +1,6 @@
 -- A server of a number, and what it does.
 use Rattle.std.proofs.lemmas.Bool.Decides.{nat_tests}
-use Rattle.std.proofs.Common.{◌≡◌, ◌∙◌, ◌-◌, ◌==◌, ◌<◌, ◌≤◌, ℕ, Bool, false, if◌then◌else◌, Option, Some, None, MatchOption, Result, Ok, Err, ap, arith, length, refl, slice_get, slice_index_or, slice_set, subst, sym, Vec}
+use Rattle.std.proofs.Common.{◌≡◌, ◌∙◌, ◌-◌, ◌==◌, ◌<◌, ◌≤◌, ℕ, false, if◌then◌else◌, Option, Some, None, MatchOption, Result, Ok, Err, ap, arith, length, refl, slice_get, slice_index_or, slice_set, subst, sym, Vec}
 use Rattle.std.proofs.lemmas.Option.{slice_get_past, slice_get_read}
 use Rattle.gs_base.specs.declared.refusal.Refusal.{Refusal}
 use Rattle.gs_base.specs.declared.refusal.Refusal.TheVariants as refusals

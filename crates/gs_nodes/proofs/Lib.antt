@@ -2,3 +2,4 @@ mod Delivered
 pub mod Closing
 pub mod Finding
 pub mod Starting
+pub mod Surviving

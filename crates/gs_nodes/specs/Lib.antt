@@ -1,4 +1,5 @@
 pub mod Arming
+pub mod Crashing
 pub mod Happenings
 pub mod NewDisks
 pub mod Nodes

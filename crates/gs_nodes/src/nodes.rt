@@ -1,5 +1,6 @@
 ghost use Rattle.std.specs.Prelude.{◌≡◌, IfOk, IfErr, Ok};
 ghost use Rattle.gs_nodes.specs.Nodes.{new_clients, new_nodes, new_servers, nodes_of};
+ghost use Rattle.gs_nodes.specs.Crashing.{SurvivesAt, SurvivesUnopened};
 ghost use Rattle.gs_nodes.specs.Happenings.{Opens, WhyNotBegun};
 ghost use Rattle.gs_nodes.specs.NewDisks.{AreEmpty};
 
@@ -82,7 +83,8 @@ pub fn empty_disks(alloc: Global) -> (MemoryDisk, MemoryDisk)
 
 impl<D: Disk + Drop> Nodes<D> {
     /// The nodes of a store over the disks of a journal, with so many clients. New disks are those of a new store. What the
-    /// master sends first is told beside it. Where memory is wanting, or the disks can't be opened, they are handed back.
+    /// master sends first is told beside it. Where memory is wanting, or the disks can't be opened, they are handed back. What a crash leaves
+    /// in the midst of that or behind it is said as of a restart.
     pub fn new(
         alloc: Global,
         config: Config,
@@ -92,6 +94,8 @@ impl<D: Disk + Drop> Nodes<D> {
         ensures nodes { IfOk result (λ w. nodes_of w.0 ≡ new_nodes config clients w.0.master) }
         ensures master { IfOk result (λ w. Opens D.seen D.failures config disks (Ok w.1) w.0.master) }
         ensures refused { IfErr result (WhyNotBegun D.seen D.failures config disks) }
+        ensures survives { IfOk result (λ w. SurvivesAt D.seen D.may_leave D.moment D.left_since disks w.0.master) }
+        ensures survives_refused { IfErr result (λ u. SurvivesUnopened D.seen D.may_leave D.moment D.left_since disks u.first u.second) }
     {
         let (first, second) = disks;
         let Ok((servers, clients)) = silent_nodes(alloc, config, clients) else {

@@ -1,6 +1,7 @@
 // Restarts.
 ghost use Rattle.std.specs.Prelude.{◌≡◌, Ok};
 ghost use Rattle.gs_server.specs.Servers as servers;
+ghost use Rattle.gs_nodes.specs.Crashing.{SurvivesAt, SurvivesRestart};
 ghost use Rattle.gs_nodes.specs.Happenings.{AtServer, Opens, Reopens, disks_of};
 ghost use Rattle.gs_nodes.specs.Nodes.{nodes_of, with_master};
 
@@ -21,7 +22,8 @@ fn opened<D: Disk>(
     config: Config,
     disks: (D, D),
 ) -> (MasterPlace<D>, Result<Turn, Refusal>)
-    ensures { Opens D.seen D.failures config disks result.1 result.0 }
+    ensures opens { Opens D.seen D.failures config disks result.1 result.0 }
+    ensures survives { SurvivesAt D.seen D.may_leave D.moment D.left_since disks result.0 }
 {
     let (first, second) = disks;
     match Master::open(alloc, config, first, second, LIMIT) {
@@ -57,9 +59,13 @@ impl<D: Disk> MasterPlace<D> {
 impl<D: Disk + Drop> Nodes<D> {
     /// The master loses what it keeps in memory alone: its disks are opened again. Where that is refused they wait, and each call
     /// is `Device`, until the next restart.
+    ///
+    /// A crash in the midst of it, or behind one that was refused, leaves what one before might have left, or what the disks told, or in the
+    /// place of a journal of the first version its checkpoint; one behind it leaves what the journal of the new master tells.
     pub fn restart_master(&mut self) -> Result<Turn, Refusal>
         ensures others { nodes_of self.new ≡ with_master self.new.master (nodes_of self.old) }
         ensures master { Reopens D.seen D.failures self.old.config self.old.master result self.new.master }
+        ensures survives { SurvivesRestart D.seen D.may_leave D.moment D.left_since self.old.master self.new.master }
     {
         let old = mem::replace(&mut self.master, MasterPlace::Away);
         let Some(disks) = old.into_disks() else {
