@@ -1,4 +1,5 @@
 pub mod Beginning
+pub mod Crashing
 pub mod Histories
 pub mod Lasting
 pub mod Outcomes

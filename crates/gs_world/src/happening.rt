@@ -1,6 +1,7 @@
 // What happens at the nodes.
 ghost use Rattle.std.specs.Prelude.{◌≡◌, ◌∷◌, [], IfOk};
 ghost use Rattle.gs_base.specs.Calls.{Does};
+ghost use Rattle.gs_world.specs.Crashing.{SurvivesAtNode, leaves_of, left_of, moment_of};
 ghost use Rattle.gs_world.specs.Histories.{arms, AsksAt, Befalls, Beats, FailsDisk, Restarts, Ticks, failures_of, fault_at, seen_of, silent, told};
 ghost use Rattle.gs_server.specs.Servers as servers;
 ghost use Rattle.gs_nodes.specs.Nodes.{nodes_of};
@@ -83,7 +84,8 @@ pub(crate) fn restart<D: Disk + Drop>(
     nodes: &mut Nodes<FailingDisk<D>>,
     node: StoreNode,
 ) -> Result<Turn, Refusal>
-    ensures { Restarts (seen_of D.seen) (failures_of D.failures) arms node (nodes_of nodes.old) (told result) (nodes_of nodes.new) }
+    ensures restarts { Restarts (seen_of D.seen) (failures_of D.failures) arms node (nodes_of nodes.old) (told result) (nodes_of nodes.new) }
+    ensures survives { SurvivesAtNode (seen_of D.seen) (leaves_of D.may_leave) (moment_of D.moment) (left_of D.left_since) node nodes.old.master nodes.new.master }
 {
     match node {
         StoreNode::Master => nodes.restart_master(),

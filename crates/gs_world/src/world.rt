@@ -1,11 +1,13 @@
 ghost use Rattle.std.specs.Prelude.{◌≡◌, ◌⊎◌, false, IfOk, IfErr};
 ghost use Rattle.gs_base.specs.declared.refusal.Refusal.TheVariants as refusals;
 ghost use Rattle.gs_msg.specs.Nodes.{as_node};
+ghost use Rattle.gs_world.specs.Crashing.{SurvivesEvent, leaves_of, left_of, moment_of};
 ghost use Rattle.gs_world.specs.Histories.{arms, AtNode, Begins, DeliversAt, IsOutcome, Tells, failures_of, history_of, is_ask, seen_of, told};
 ghost use Rattle.gs_world.specs.Runs.{AreOutcomes, HappensAll, TakesReply, all_said};
 ghost use Rattle.gs_world.specs.Beginning.{new_disks};
 ghost use Rattle.gs_world.specs.Sent.{Forgets};
 ghost use Rattle.gs_journal.specs.Memory.{bytes_of, times_failed};
+ghost use Rattle.gs_nodes.specs.Crashing.{SurvivesAt, SurvivesUnopened};
 ghost use Rattle.gs_nodes.specs.Happenings.{Delivers, WhyNotBegun};
 ghost use Rattle.gs_nodes.specs.NewDisks.{OverEmpty};
 ghost use Rattle.gs_nodes.specs.Nodes.{nodes_of};
@@ -73,6 +75,8 @@ impl<D: Disk + Drop> World<D> {
     ) -> Result<World<D>, Unopened<FailingDisk<D>>>
         ensures begins { IfOk result (λ run. Begins (seen_of D.seen) (failures_of D.failures) arms config clients disks (history_of run)) }
         ensures refused { IfErr result (WhyNotBegun (seen_of D.seen) (failures_of D.failures) config disks) }
+        ensures survives { IfOk result (λ run. SurvivesAt (seen_of D.seen) (leaves_of D.may_leave) (moment_of D.moment) (left_of D.left_since) disks run.nodes.master) }
+        ensures survives_refused { IfErr result (λ u. SurvivesUnopened (seen_of D.seen) (leaves_of D.may_leave) (moment_of D.moment) (left_of D.left_since) disks u.first u.second) }
     {
         let (first, second) = disks;
         let Ok(mut sent) = Posts::new(alloc, config.servers, u64::from(clients)) else {
@@ -119,6 +123,7 @@ impl<D: Disk + Drop> World<D> {
         requires { is_ask happening.now ≡ false }
         ensures sent { self.new.sent ≡ self.old.sent }
         ensures at { AtNode (seen_of D.seen) (failures_of D.failures) arms moment happening.now (history_of self.old) result.0 (told result.1) (nodes_of self.new.nodes) }
+        ensures survives { SurvivesEvent (seen_of D.seen) (leaves_of D.may_leave) (moment_of D.moment) (left_of D.left_since) happening.now self.old.nodes.master self.new.nodes.master }
     {
         match happening {
             Happening::Ask { .. } => unreachable!(),
@@ -158,6 +163,7 @@ impl<D: Disk + Drop> World<D> {
     fn at_node(&mut self, moment: Moment, happening: Happening) -> (NodeId, Result<Turn, Refusal>)
         ensures sent { self.new.sent ≡ self.old.sent }
         ensures at { AtNode (seen_of D.seen) (failures_of D.failures) arms moment happening (history_of self.old) result.0 (told result.1) (nodes_of self.new.nodes) }
+        ensures survives { SurvivesEvent (seen_of D.seen) (leaves_of D.may_leave) (moment_of D.moment) (left_of D.left_since) happening self.old.nodes.master self.new.nodes.master }
     {
         match happening {
             Happening::Ask { req, request } => {
@@ -192,9 +198,10 @@ impl<D: Disk + Drop> World<D> {
     ///
     /// Where the refusal is `Memory`, the node is as it was, but for a tick of the master, which may have done all but write a checkpoint, and
     /// for a restart of the master, behind which its disks wait. A message for which memory is wanting is lost. A message that was never
-    /// sent, or is forgotten, is `Range`, and so is a node of which there is none.
+    /// sent, or is forgotten, is `Range`, and so is a node of which there is none. What a crash leaves is said of a restart of the master alone.
     pub fn step(&mut self, event: Event) -> Outcome
-        ensures { IsOutcome (seen_of D.seen) (failures_of D.failures) arms event (history_of self.old) result (history_of self.new) }
+        ensures outcome { IsOutcome (seen_of D.seen) (failures_of D.failures) arms event (history_of self.old) result (history_of self.new) }
+        ensures survives { SurvivesEvent (seen_of D.seen) (leaves_of D.may_leave) (moment_of D.moment) (left_of D.left_since) event.happening self.old.nodes.master self.new.nodes.master }
     {
         let Event { moment, happening } = event;
         let (by, done) = self.at_node(moment, happening);

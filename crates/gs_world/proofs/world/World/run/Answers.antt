@@ -17,7 +17,7 @@ loop-event-preserved g c = (
       (subst (λ (events : List Event). AreOutcomes (seen_of g.D.Disk.seen) (failures_of g.D.Disk.failures) arms events (c.step-met.result ∷ others) (history_of c.loop-event.self) new)
       (sym c.in-Some.ensures.steps.0)
       (one_more (seen_of g.D.Disk.seen) (failures_of g.D.Disk.failures) arms c.in-Some.event c.next.new.self.rest.items c.step-met.result others (history_of c.loop-event.self) (history_of c.step-met.new.self) new
-      c.step-met.ensures rest))),
+      c.step-met.ensures.outcome rest))),
 )
 
 pub returns-clause-ok : goal.returns-clause-ok
