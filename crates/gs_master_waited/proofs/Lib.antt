@@ -1,0 +1,5 @@
+mod Raised
+mod Plainly
+mod Waiting
+mod Going
+pub mod Events
