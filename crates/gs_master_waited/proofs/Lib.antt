@@ -3,3 +3,5 @@ mod Plainly
 mod Waiting
 mod Going
 pub mod Events
+mod Coming
+pub mod Replying

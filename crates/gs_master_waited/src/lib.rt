@@ -4,6 +4,8 @@
 ghost use Rattle.gs_master_waited.specs.Replies.{MessagesReplyAsPlain, TicksReplyAsPlain};
 ghost use Rattle.gs_master_waited.specs.Waited.{MessagesAnswerWaited, TicksAnswerWaited};
 
+use gs_master_plain::calls_of_the_tree_do_what_they_answer;
+
 /// A snapshot that has waited is answered as the plain tree answers it, by the names that stand behind the records that its event makes before, whatever texts the chunks have, or refused by the store. Where it is made its record says
 /// the command that it is, and no other record of the event edits for it; where it is refused none does. Several may go on in one event, each by what those before it have left.
 pub fn snapshots_that_waited_are_answered_plainly()
@@ -16,4 +18,6 @@ pub fn snapshots_that_waited_are_answered_plainly()
 pub fn replies_to_calls_of_the_tree_are_plain()
     ensures messages { MessagesReplyAsPlain }
     ensures ticks { TicksReplyAsPlain }
-{}
+{
+    calls_of_the_tree_do_what_they_answer();
+}
