@@ -1,11 +1,10 @@
 -- A call of the tree that comes is answered plainly, or waits.
-use Rattle.std.proofs.Common.{◌≡◌, ◌⊎◌, inl, inr, ◌∙◌, ◌&&◌, ◌==◌, ◌++◌, ℕ, Bool, true, false, not, List, [], ◌∷◌, length, refl, ap, sym, subst, arith}
-use Rattle.std.specs.Prelude.{filter_map, is_some, nat_lt, Option, Some, None, Result, Ok, Err, if◌then◌else◌}
+use Rattle.std.proofs.Common.{◌≡◌, ◌⊎◌, inl, inr, ◌∙◌, ◌&&◌, ◌==◌, ℕ, Bool, true, false, not, List, [], ◌∷◌, length, refl, ap, sym, subst, arith}
+use Rattle.std.specs.Prelude.{filter_map, nat_lt, Option, Some, None, Result, Ok, Err, if◌then◌else◌}
 use Rattle.std.specs.FinMap as fin
 use Rattle.std.specs.List.{AllByRecursion, list_any}
 use Rattle.std.proofs.lemmas.Bool.{false≢true}
 use Rattle.std.proofs.lemmas.Bool.Decides.{nat_tests}
-use Rattle.gs_base.specs.Refusals.{number_of}
 use Rattle.gs_base.specs.declared.config.Config.{Config}
 use Rattle.gs_base.specs.declared.numbers.Moment.{Moment}
 use Rattle.gs_base.specs.declared.numbers.ReqId.{ReqId}
@@ -16,7 +15,6 @@ use Rattle.gs_edit.specs.Edits.{edited}
 use Rattle.gs_edit.specs.Mapped.{mapped_edit, mapped_rows}
 use Rattle.gs_edit.specs.Names.{IsCounted}
 use Rattle.gs_edit.specs.Plain.{snapshot_rows}
-use Rattle.gs_edit.specs.View.{NamesView}
 use Rattle.gs_edit.specs.declared.edit.Edit.TheVariants as edits
 use Rattle.gs_lease.specs.declared.view.Purpose.{Purpose}
 use Rattle.gs_lease.specs.declared.view.Purpose.TheVariants as purposes
@@ -28,7 +26,6 @@ use Rattle.gs_msg.specs.declared.call.Call.{Call}
 use Rattle.gs_msg.specs.declared.call.Call.TheVariants as calls
 use Rattle.gs_msg.specs.declared.chunk.Chunk.TheVariants as chunks
 use Rattle.gs_msg.specs.declared.message.Message.{Message}
-use Rattle.gs_msg.specs.declared.node.NodeId.TheVariants as nodes
 use Rattle.gs_path.specs.Path.{Path}
 use Rattle.gs_tree.specs.Find.{Rows}
 use Rattle.gs_master_asked.proofs.Answering.{pick}
@@ -36,22 +33,21 @@ use Rattle.gs_master_asked.proofs.Plans.{both_so}
 use Rattle.gs_master_plain.proofs.Answering.{calls_answer}
 use Rattle.gs_master_plain.specs.Answering.{IsAtOnce}
 use Rattle.gs_master_plain.specs.Answers.{answered, is_refused_by_store, plain_answer}
-use Rattle.gs_master_plain.specs.Commands.{Texts, command_of}
+use Rattle.gs_master_plain.specs.Commands.{command_of}
 use Rattle.gs_master_plain.specs.Doing.{DoesAsAnswered, NewCallsDoAsAnswered, done_by, is_of_tree}
-use Rattle.gs_master_record.specs.Plain.{Said, PlainEntry}
+use Rattle.gs_master_record.specs.Plain.{Said}
 use Rattle.gs_master_spec.specs.Beginning.{all_begun, begun, has_versions, members_at, next_stamp}
 use Rattle.gs_master_spec.specs.Calls.{is_always_taken, is_any_hidden, is_locked, is_work}
 use Rattle.gs_master_spec.specs.Chunks.{chunk_at}
 use Rattle.gs_master_spec.specs.Durable.{is_rolling}
-use Rattle.gs_master_spec.specs.Handling.{Numbered, New, Again, Older, call_turn, called, called_unless, new_call, numbered, replied_again, taken_as, waits_still}
+use Rattle.gs_master_spec.specs.Handling.{Numbered, New, Again, Older, call_turn, called_unless, new_call, numbered, replied_again, taken_as, waits_still}
 use Rattle.gs_master_spec.specs.State.{State, Turn, about, and_then, first_of, fits, if_room, is_failed, is_unopened, keeps_refusal, last_reply, refused, reply_to, to_each, turned, unmoved}
 use Rattle.gs_master_spec.specs.Undoing.{edited_names}
 use Rattle.gs_master_spec.specs.Volatile.{is_pending}
 use Rattle.gs_master_spec.specs.Working.{begin_pending, begins_snapshot, is_wanted_at, snapshot_if, unquiet}
 use Rattle.gs_master_spec.specs.declared.pending.Waiting.TheVariants as waits
 use Rattle.gs_master_spec.specs.declared.reply.KeptReply.{KeptReply}
-use Rattle.gs_master_waited.specs.Replies as plainly
-use Rattle.gs_master_waited.specs.Replies.{ComesPlainly, IsAsPlain, WasKept}
+use Rattle.gs_master_waited.specs.Replies.{ComesPlainly, WasKept}
 use Rattle.gs_master_waited.specs.Waited.{IsPlainBy, RepliesSo}
 
 -- ---- calls that are answered at once
@@ -156,6 +152,23 @@ module _ (config : Config) (s : State) (req : ReqId) (moment : Moment) (from to 
       tested false false false false true is = hidden_each is
       tested false false false false false is = snapshot_each chunk many still is (edited (edits.Snapshot from to) (fin.entries s.durable.names.tree)) refl
 
+-- ---- the reply that is kept
+
+pub kept_is : (o : Option KeptReply) (number : ℕ) (result : Result Answer Refusal) → numbered o number ≡ Again result → (reply : KeptReply) × (o ≡ Some reply) × (reply.number ≡ number) × (reply.result ≡ result)
+kept_is None number result is = absurd (cc)
+kept_is (Some reply) number result is = by_same (reply.number == number) refl (nat_lt number reply.number) is
+  where
+    same_number : (a b : ℕ) → (a == b) ≡ true → a ≡ b
+    same_number a b h = grind (arith, nat_tests)
+
+    result_is : {a b : Result Answer Refusal} → Again a ≡ Again b → a ≡ b
+    result_is h = cc
+
+    by_same : (b : Bool) → (reply.number == number) ≡ b → (c : Bool) → (if b then Again reply.result else if c then Older else New) ≡ Again result → (kept : KeptReply) × (Some reply ≡ Some kept) × (kept.number ≡ number) × (kept.result ≡ result)
+    by_same true same c h = (reply, refl, same_number reply.number number same, result_is h)
+    by_same false apart true h = absurd (cc)
+    by_same false apart false h = absurd (cc)
+
 -- ---- all of them
 
 module _ (law : NewCallsDoAsAnswered) (config : Config) (s : State) (req : ReqId) (moment : Moment) where
@@ -197,21 +210,6 @@ module _ (law : NewCallsDoAsAnswered) (config : Config) (s : State) (req : ReqId
 
   again_its : (call : Call) (e : Refusal) → is_of_tree call ≡ true → is_refused_by_store (Err e) ≡ true → Its call (replied_again s req (Err e))
   again_its call e tree is = ((refl, inl (record { tree = tree; plainly = λ text plain has said. inl is; does = refl })), tt)
-
-  kept_is : (o : Option KeptReply) (number : ℕ) (result : Result Answer Refusal) → numbered o number ≡ Again result → (reply : KeptReply) × (o ≡ Some reply) × (reply.number ≡ number) × (reply.result ≡ result)
-  kept_is None number result is = absurd (cc)
-  kept_is (Some reply) number result is = by_same (reply.number == number) refl (nat_lt number reply.number) is
-    where
-      same_number : (a b : ℕ) → (a == b) ≡ true → a ≡ b
-      same_number a b h = grind (arith, nat_tests)
-
-      result_is : {a b : Result Answer Refusal} → Again a ≡ Again b → a ≡ b
-      result_is h = cc
-
-      by_same : (b : Bool) → (reply.number == number) ≡ b → (c : Bool) → (if b then Again reply.result else if c then Older else New) ≡ Again result → (kept : KeptReply) × (Some reply ≡ Some kept) × (kept.number ≡ number) × (kept.result ≡ result)
-      by_same true same c h = (reply, refl, same_number reply.number number same, result_is h)
-      by_same false apart true h = absurd (cc)
-      by_same false apart false h = absurd (cc)
 
   taken_its : (call : Call) (how : Numbered) → numbered (last_reply s req.client) req.number ≡ how → is_of_tree call ≡ true → Its call (taken_as config s req moment call how)
   taken_its call New is tree = its_of call (new_call config s req moment call) (new_plain call tree)

@@ -1,5 +1,5 @@
 -- Each turn of the master while one snapshot waits, definition by definition.
-use Rattle.std.proofs.Common.{◌==◌, ◌&&◌, ◌||◌, ◌+◌, ℕ, Bool, true, false, not, List, [], ◌∷◌, length, map, filter, ◌∙◌}
+use Rattle.std.proofs.Common.{◌==◌, ◌&&◌, ◌||◌, ◌+◌, ℕ, Bool, true, false, not, List, [], ◌∷◌, length, map, filter}
 use Rattle.std.specs.Prelude.{flat_map, is_none, nat_le, nat_lt, slice_get, Option, Some, None, Result, Ok, Err, if◌then◌else◌}
 use Rattle.std.specs.List.{AllByRecursion, list_all, list_any}
 use Rattle.std.specs.FinMap as fin
@@ -72,7 +72,6 @@ use Rattle.gs_master_spec.specs.Volatile.{is_call}
 use Rattle.gs_master_spec.specs.Working.{replicated_to, waits_for_any}
 use Rattle.gs_master_asked.proofs.Kept.{AllIn, AreChanges}
 use Rattle.gs_master_asked.proofs.Plans.{AreEntries, PlanSo, SaidSo, accept_so, accepted_so, all_told, answered_so, ask_so, begin_so, both_so, copy_so, create_so, edit_so, end_plan_so, ended_so, granted_none, pending_so, refusal_so, replace_so, scan_so, send_so, settle_so, waits_further, waits_now}
-
 use Rattle.gs_master_asked.proofs.Answering.{pick}
 use Rattle.gs_master_plain.specs.Answers.{is_refused_by_store}
 use Rattle.gs_master_record.specs.Plain.{Said}
@@ -415,12 +414,14 @@ module _ (own : ReqId) (source place : Path) where
   own_edits : (s : State) (r : Result NamesView Refusal) → edited_names (Snapshot source place) s.durable.names ≡ r → Ends s (edit_turn s own (edit_plan own (Snapshot source place) answers.Nothing []) r)
   own_edits s (Err refusal) is = refused_own s refusal (copies_plainly source place s.durable.names (Err refusal) is)
   own_edits s (Ok names) is =
-      pick (Ends s) (fits s.log (turned s (edit_plan own (Snapshot source place) answers.Nothing [])).records) (turned s (edit_plan own (Snapshot source place) answers.Nothing [])) (ended_by s own refusals.Full)
-      (record {
-        result = Ok answers.Nothing;
-        goes = record { before = []; behind = []; parts = refl; none_before = refl; none_behind = refl; plainly = copies_plainly source place s.durable.names (Ok names) is };
-        sent = ((λ same. refl), tt);
-      }, end_away own [] s.volatile)
+      pick (Ends s) (fits s.log (turned s (edit_plan own (Snapshot source place) answers.Nothing [])).records) (turned s (edit_plan own (Snapshot source place) answers.Nothing [])) (ended_by s own refusals.Full) (
+        record {
+          result = Ok answers.Nothing;
+          goes = record { before = []; behind = []; parts = refl; none_before = refl; none_behind = refl; plainly = copies_plainly source place s.durable.names (Ok names) is };
+          sent = ((λ same. refl), tt);
+        },
+        end_away own [] s.volatile,
+      )
       (own_refused s refusals.Full refl)
 
   own_goes : (s : State) (view : View) → Here own source place s.volatile.pending → Comes s (goes_on s own view (waits.Snapshot source place))

@@ -5,3 +5,4 @@ mod Going
 pub mod Events
 mod Coming
 pub mod Replying
+pub mod Steady

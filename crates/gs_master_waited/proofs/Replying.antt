@@ -1,6 +1,6 @@
 -- Each reply of an event: to the call that comes, or to one that waits.
 use Rattle.std.proofs.Common.{◌≡◌, ◌⊎◌, inl, inr, ◌||◌, Bool, true, false, List, [], ◌∷◌, refl, sym, ap, subst}
-use Rattle.std.specs.Prelude.{is_some, Option, Some, None, Result, Ok, Err}
+use Rattle.std.specs.Prelude.{is_some, Option, Some, None, Result}
 use Rattle.std.specs.List.{AllByRecursion}
 use Rattle.std.proofs.lemmas.Bool.{false≢true}
 use Rattle.gs_base.specs.declared.config.Config.{Config}
@@ -20,7 +20,7 @@ use Rattle.gs_path.specs.Path.{Path}
 use Rattle.gs_master_asked.proofs.Answering.{pick}
 use Rattle.gs_master_asked.proofs.Concerning.{messages_concerned, ticks_concerned}
 use Rattle.gs_master_asked.proofs.Kept.{same_calls}
-use Rattle.gs_master_asked.specs.Concerned.{AnswersOnly, IsConcerned, RepliesTo}
+use Rattle.gs_master_asked.specs.Concerned.{IsConcerned, RepliesTo}
 use Rattle.gs_master_plain.specs.Doing.{NewCallsDoAsAnswered, is_of_tree}
 use Rattle.gs_master_spec.specs.Handling.{call_turn, from_node, handle, server_turn, tick}
 use Rattle.gs_master_spec.specs.Outcomes.{caller_of}
@@ -29,7 +29,7 @@ use Rattle.gs_master_spec.specs.Volatile.{is_pending}
 use Rattle.gs_master_spec.specs.declared.pending.Pending.{Pending}
 use Rattle.gs_master_spec.specs.declared.pending.Waiting.{Waiting}
 use Rattle.gs_master_spec.specs.declared.pending.Waiting.TheVariants as waits
-use Rattle.gs_master_waited.proofs.Coming.{Its, call_its}
+use Rattle.gs_master_waited.proofs.Coming.{call_its}
 use Rattle.gs_master_waited.proofs.Events.{messages_answer, ticks_answer}
 use Rattle.gs_master_waited.specs.Replies.{Again, Came, ComesPlainly, HadWaited, IsAsPlain, MessagesReplyAsPlain, OtherCame, OtherWaited, RepliesAsPlain, TicksReplyAsPlain, WasKept}
 use Rattle.gs_master_waited.specs.Waited.{AnswersWaited, GoesOnPlainly, IsAmong, RepliesSo, WaitsSo}

@@ -1,6 +1,6 @@
 -- A turn while one snapshot waits: it says nothing to it, and that waits on, or it is answered once, and waits no more.
 use Rattle.std.proofs.Common.{◌≡◌, ◌⊎◌, inl, inr, ◌∙◌, ◌&&◌, ◌||◌, ◌++◌, Bool, true, false, not, cond, List, [], ◌∷◌, refl, ap, sym, subst, append_assoc}
-use Rattle.std.specs.Prelude.{filter, fold, Option, Some, None, Result, Ok, Err, unwrap_or}
+use Rattle.std.specs.Prelude.{filter, fold, Option, Result, unwrap_or}
 use Rattle.std.specs.List.{AllByRecursion, list_any}
 use Rattle.std.proofs.lemmas.Bool.{false≢true, true≢false}
 use Rattle.std.proofs.lemmas.List.Folds.{list_any-append}
@@ -13,7 +13,7 @@ use Rattle.gs_msg.specs.declared.body.Body.{Body}
 use Rattle.gs_msg.specs.declared.body.Body.TheVariants as bodies
 use Rattle.gs_msg.specs.declared.message.Message.{Message}
 use Rattle.gs_path.specs.Path.{Path}
-use Rattle.gs_master_asked.proofs.Kept.{AllIn, AreChanges, changes_wait, itself, one_of, same_calls}
+use Rattle.gs_master_asked.proofs.Kept.{AllIn, AreChanges, changes_wait, itself, same_calls}
 use Rattle.gs_master_asked.proofs.Plans.{AreEntries, PlanSo, SaidSo, both_so}
 use Rattle.gs_master_asked.specs.Concerned.{RepliesTo, tells_nobody}
 use Rattle.gs_master_laws.proofs.Standing.{same_call, same_parts, set_so, set_waiting}

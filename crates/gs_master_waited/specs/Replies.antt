@@ -1,5 +1,5 @@
 -- Each reply of an event, to whomever it goes: what the plain machine answers to a call of the tree, and the command that its records say.
-use Rattle.std.specs.Prelude.{[], ◌∷◌, ◌≡◌, Bool, Err, List, None, Ok, Option, Result, Some, codes, false, filter_map, refl, true}
+use Rattle.std.specs.Prelude.{[], ◌∷◌, ◌≡◌, Bool, Err, None, Option, Result, Some, codes, false, filter_map, refl, true}
 use Rattle.std.proofs.Common.{inl}
 use Rattle.std.specs.List.{AllByRecursion}
 use Rattle.gs_base.specs.declared.config.Config.{Config}

@@ -2,6 +2,7 @@
 #![tactic(auto)]
 
 ghost use Rattle.gs_master_waited.specs.Replies.{MessagesReplyAsPlain, TicksReplyAsPlain};
+ghost use Rattle.gs_master_waited.specs.Steady.{MessagesReplyPlainly, TicksReplyPlainly};
 ghost use Rattle.gs_master_waited.specs.Waited.{MessagesAnswerWaited, TicksAnswerWaited};
 
 use gs_master_plain::calls_of_the_tree_do_what_they_answer;
@@ -18,6 +19,15 @@ pub fn snapshots_that_waited_are_answered_plainly()
 pub fn replies_to_calls_of_the_tree_are_plain()
     ensures messages { MessagesReplyAsPlain }
     ensures ticks { TicksReplyAsPlain }
+{
+    calls_of_the_tree_do_what_they_answer();
+}
+
+/// A master whose state stands, as it does in each run, has the counts of chunks that its tree has, and no snapshot that waits names anything hidden: so each of its replies is such, by what is durable and by what the records of its
+/// event lead to. So is each of one of which a disk has failed: that answers no more than that, or what it keeps.
+pub fn a_master_that_stands_replies_plainly()
+    ensures messages { MessagesReplyPlainly }
+    ensures ticks { TicksReplyPlainly }
 {
     calls_of_the_tree_do_what_they_answer();
 }
