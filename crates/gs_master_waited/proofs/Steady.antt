@@ -167,6 +167,41 @@ message_failed : (config : Config) (s : State) (message : Message) (moment : Mom
 unfolding handle
 message_failed config s message moment failed = node_failed config s moment failed message.body message.from
 
+-- ---- and that is a refusal, or it is kept, and nothing is recorded
+
+abbrev pub IsMeek : State → Turn → Type 0
+IsMeek s t = (t.records ≡ []) × AllByRecursion (λ (m : Message). RepliesSo (λ req result. (is_refused_by_store result ≡ true) ⊎ WasKept s req result) m.body) t.sent
+
+module _ (config : Config) (s : State) (moment : Moment) (failed : is_failed s.fault ≡ true) where
+  new_meek : (req : ReqId) (call : Call) → IsMeek s (new_call config s req moment call)
+  new_meek req call = subst (λ b. IsMeek s (called_unless config s req moment call (first_of ((b, refusals.Device) ∷ (is_rolling s.durable.phase && not (is_always_taken call), refusals.RollingBack) ∷ (s.volatile.is_preparing && is_work call, refusals.Preparing) ∷ (is_locked s req call, refusals.Locked) ∷ (is_any_hidden call, refusals.HiddenName) ∷ [])))) (sym failed) (refl, (inl refl, tt))
+
+  taken_meek : (req : ReqId) (call : Call) (how : Numbered) → numbered (last_reply s req.client) req.number ≡ how → IsMeek s (taken_as config s req moment call how)
+  taken_meek req call New is = new_meek req call
+  taken_meek req call (Again result) is = (let kept = kept_is (last_reply s req.client) req.number result is in (refl, (inr (record { reply = kept.0; has = kept.1; number = kept.2; is = kept.3 }), tt)))
+  taken_meek req call Older is = (refl, (inl refl, tt))
+
+  call_meek : (req : ReqId) (call : Call) → IsMeek s (call_turn config s req moment call)
+  call_meek req call =
+      let taken = taken_as config s req moment call (numbered (last_reply s req.client) req.number) in
+      pick (IsMeek s) (is_unopened s.fault) (replied_again s req (Err refusals.Device)) (if is_pending s.volatile.pending req then waits_still s req else taken) (refl, (inl refl, tt))
+      (pick (IsMeek s) (is_pending s.volatile.pending req) (waits_still s req) taken (pick (IsMeek s) (is_failed s.fault) (replied_again s req (Err refusals.Device)) (unmoved s) (refl, (inl refl, tt)) (refl, tt))
+      (taken_meek req call (numbered (last_reply s req.client) req.number) refl))
+
+  node_meek : (body : Body) (from : NodeId) → IsMeek s (from_node config s moment body from)
+  node_meek body nodes.Master = (refl, tt)
+  node_meek body (nodes.Server server) = subst (λ b. IsMeek s (if b then met_by s refusals.Device else server_turn s server moment body)) (sym failed) (refl, tt)
+  node_meek (bodies.Call req call) (nodes.Client client) = call_meek req call
+  node_meek body (nodes.Client client) = (refl, tt)
+
+pub message_meek : (config : Config) (s : State) (message : Message) (moment : Moment) → is_failed s.fault ≡ true → IsMeek s (handle config s message moment)
+unfolding handle
+message_meek config s message moment failed = node_meek config s moment failed message.body message.from
+
+pub tick_meek : (s : State) (moment : Moment) → is_failed s.fault ≡ true → IsMeek s (tick s moment)
+unfolding tick
+tick_meek s moment failed = (let done = and_then (and_then (for_each s (proposals s) (pressed moment)) granted) written_if_due in subst (λ b. IsMeek s (if b then met_by s refusals.Device else done)) (sym failed) (refl, tt))
+
 -- ---- so each reply
 
 pub messages_plainly : NewCallsDoAsAnswered → MessagesReplyPlainly
