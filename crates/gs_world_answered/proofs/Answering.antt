@@ -18,6 +18,7 @@ use Rattle.gs_msg.specs.declared.node.NodeId.{NodeId}
 use Rattle.gs_msg.specs.declared.node.NodeId.TheVariants as nodes
 use Rattle.gs_msg.specs.declared.node.StoreNode.TheVariants as keepers
 use Rattle.gs_path.specs.Path.{Path}
+use Rattle.gs_master.specs.Journaled.{text_seen}
 use Rattle.gs_master.specs.Masters.{MasterOf}
 use Rattle.gs_master_laws.specs.Standing.{Comes as HearsAt, IsNamed}
 use Rattle.gs_master_laws.specs.Written.{IsHeardBody}
@@ -37,7 +38,7 @@ use Rattle.gs_master_waited.specs.Waited.{RepliesSo, WaitsSo}
 use Rattle.gs_nodes.specs.declared.place.MasterPlace.{MasterPlace}
 use Rattle.gs_nodes.specs.declared.place.MasterPlace.TheVariants.{Standing}
 use Rattle.gs_world.specs.Histories.{History}
-use Rattle.gs_world.specs.Lasting.{HearsNamed}
+use Rattle.gs_world.specs.Lasting.{HearsNamed, IsToldIn}
 use Rattle.gs_world.specs.Runs.{Comes, Step, Takes}
 use Rattle.gs_world.specs.Sent.{message_of}
 use Rattle.gs_world_chunks.proofs.Accounted.{runs_told}
@@ -103,13 +104,13 @@ module _ {D : Type 0} (m : MasterOf D) (a : Account) (records : List PlainEntry)
 
 module _ (law : NewCallsDoAsAnswered) {D : Type 0} (x : Setup D) (a : Account) (m : MasterOf D) where
   -- it has what the account has, and all of it stands; or a disk has failed
-  abbrev Had : Type 0
+  abbrev pub Had : Type 0
   Had = ((a.durable ≡ m.state.durable) × StandsSteady x.seen m) ⊎ (is_failed m.state.fault ≡ true)
 
   had : LastsSteady x.seen (left_of (is_failed m.state.fault) m) → IsToldAt x.seen (Standing m) a.durable → Had
   had lasts told = by (is_failed m.state.fault) refl lasts told
     where
-      by : (b : Bool) → is_failed m.state.fault ≡ b → LastsSteady x.seen (left_of b m) → MatchBool b _ (a.durable ≡ m.state.durable) → Had
+      by : (b : Bool) → is_failed m.state.fault ≡ b → LastsSteady x.seen (left_of b m) → MatchBool b (IsToldIn (text_seen x.seen m.journal) a.durable) (a.durable ≡ m.state.durable) → Had
       by true failed lasts told = inr failed
       by false sound lasts told = inl (told, lasts)
 

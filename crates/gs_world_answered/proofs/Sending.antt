@@ -15,6 +15,7 @@ use Rattle.gs_client.specs.Nodes.{messages_of, pushes, with_bytes}
 use Rattle.gs_journal.specs.Records.{standing}
 use Rattle.gs_journal.specs.declared.version.Version.{Version}
 use Rattle.gs_journal.specs.declared.version.Version.TheVariants as versions
+use Rattle.gs_master.specs.Journaled.{text_seen}
 use Rattle.gs_master.specs.Masters.{IsAnswered, MasterAnswers, MasterOf}
 use Rattle.gs_master.specs.Ticking.{AnswersAs, AnswersTick, lacking, pressed_all, writes_one}
 use Rattle.gs_master.specs.declared.turn.Turn.{Turn as Told_turn}
@@ -27,7 +28,7 @@ use Rattle.gs_master_spec.specs.Applied.{records_behind, replayed}
 use Rattle.gs_master_spec.specs.Durable.{Durable, is_rolling, start}
 use Rattle.gs_master_spec.specs.Handling.{anew, answered_or, checkpoint, checkpoint_body, checkpoint_tests, due, handle, recover, recovered_from, reopened, restarted, tick, told_again, written_if_due, written_unless}
 use Rattle.gs_master_spec.specs.Outcomes.{IsCut, IsDone, caller_of, unsure}
-use Rattle.gs_master_spec.specs.State.{Log, State, Turn, and_then, first_of, is_failed, post, to_each, unmoved}
+use Rattle.gs_master_spec.specs.State.{Log, State, Turn, and_then, first_of, is_failed, met_by, post, to_each, unmoved}
 use Rattle.gs_master_spec.specs.Upgrades.{tell_all}
 use Rattle.gs_master_spec.specs.Whole.{checkpoint_of}
 use Rattle.gs_master_asked.proofs.Answering.{pick}
@@ -48,9 +49,10 @@ use Rattle.gs_nodes.specs.Happenings.{MasterHears, MasterTicks, Opens, Reopens, 
 use Rattle.gs_nodes.specs.Nodes.{Nodes, with_master}
 use Rattle.gs_nodes.specs.declared.place.MasterPlace.{MasterPlace}
 use Rattle.gs_nodes.specs.declared.place.MasterPlace.TheVariants.{Standing, Closed, Away}
-use Rattle.gs_server_member.proofs.Elsewhere.{ByServer, IsByServer}
+use Rattle.gs_server_member.proofs.Elsewhere.{ByServer}
+use Rattle.gs_server_member.specs.Answering.{IsByServer}
 use Rattle.gs_world.specs.Histories.{Happens, History, Upshot, told}
-use Rattle.gs_world.specs.Lasting.{HearsNamed}
+use Rattle.gs_world.specs.Lasting.{HearsNamed, IsToldIn}
 use Rattle.gs_world.specs.Runs.{Comes, Step}
 use Rattle.gs_world.specs.Sent.{message_of}
 use Rattle.gs_world_asked.proofs.Parts as parts
@@ -165,7 +167,7 @@ due_behind t =
 
 tick_behind : (s : State) (moment : Moment) → is_failed s.fault ≡ false → WrittenBehind (pressed_all s moment) (tick s moment)
 unfolding tick
-tick_behind s moment sound = subst (λ b. WrittenBehind (pressed_all s moment) (if b then _ else and_then (pressed_all s moment) written_if_due)) (sym sound) (due_behind (pressed_all s moment))
+tick_behind s moment sound = subst (λ b. WrittenBehind (pressed_all s moment) (if b then met_by s refusals.Device else and_then (pressed_all s moment) written_if_due)) (sym sound) (due_behind (pressed_all s moment))
 
 first_all : {A : Type 0} (S : A → Type 0) (xs ys : List A) → AllByRecursion S (xs ++ ys) → AllByRecursion S xs
 first_all S [] ys all = tt
@@ -213,7 +215,7 @@ module _ (law : NewCallsDoAsAnswered) {D : Type 0} (x : Setup D) (old new : Hist
       sound_m : is_failed m.state.fault ≡ false
       sound_m = off (is_failed m.state.fault) (sym (ap is_sound_at at) ∙ sound)
 
-      told_is : (c : Bool) → c ≡ false → MatchBool c _ (b.durable ≡ after.state.durable) → b.durable ≡ after.state.durable
+      told_is : (c : Bool) → c ≡ false → MatchBool c (IsToldIn (text_seen x.seen after.journal) b.durable) (b.durable ≡ after.state.durable) → b.durable ≡ after.state.durable
       told_is true h is = absurd (true≢false h)
       told_is false h is = is
 
