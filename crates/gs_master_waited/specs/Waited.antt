@@ -27,10 +27,10 @@ use Rattle.gs_master_plain.specs.Commands.{command_of}
 use Rattle.gs_master_record.specs.Plain.{Cow, Edited, Finalize, PlainEntry, Said, Snapshot}
 use Rattle.gs_master_spec.specs.Applied.{applied}
 use Rattle.gs_master_spec.specs.Calls.{is_any_hidden}
-use Rattle.gs_master_spec.specs.Durable.{Durable}
+use Rattle.gs_master_spec.specs.Durable.{Durable, start}
 use Rattle.gs_master_spec.specs.Handling.{handle, tick}
-use Rattle.gs_master_spec.specs.Settling.{own_request}
-use Rattle.gs_master_spec.specs.State.{State, Turn}
+use Rattle.gs_master_spec.specs.Settling.{edit_plan, edit_turn, own_request}
+use Rattle.gs_master_spec.specs.State.{State, Turn, reply_to}
 use Rattle.gs_master_spec.specs.declared.pending.Pending.{Pending}
 use Rattle.gs_master_spec.specs.declared.pending.Waiting.{Waiting}
 use Rattle.gs_master_spec.specs.declared.pending.Waiting.TheVariants as waits
@@ -127,9 +127,14 @@ another_ones = refl
 a_copy_on_write_is_the_masters_own : edits_for own_request (Edited own_request (Cow d 0 7 8)) ≡ false
 a_copy_on_write_is_the_masters_own = refl
 
--- a record that doesn't fit changes nothing
-no_end_of_no_upgrade : (now : Durable) → applied now (Finalize 2) ≡ Some now → led now (Finalize 2 ∷ []) ≡ unwrap_or (applied now (Finalize 2)) now
-no_end_of_no_upgrade now is = refl
+-- no upgrade stands in a new store, so none ends
+what_does_not_fit_changes_nothing : led start (Finalize 2 ∷ []) ≡ start
+unfolding applied
+what_does_not_fit_changes_nothing = refl
+
+-- where the names refuse a snapshot that goes on, it is told so, and ends
+what_names_refuse_is_told : (s : State) → (edit_turn s a_request (edit_plan a_request (Snapshot d e) answers.Nothing []) (Err refusals.NotFound)).sent ≡ reply_to a_request (Err refusals.NotFound) ∷ []
+what_names_refuse_is_told s = refl
 
 a_refusal_of_the_store_is_right_for_each : (names : NamesView) (moment number : ℕ) → IsPlainBy names moment number (calls.Snapshot d e) (Err refusals.NoReplica)
 a_refusal_of_the_store_is_right_for_each names moment number text plain has is = inl refl
