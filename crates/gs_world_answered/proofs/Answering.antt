@@ -1,5 +1,5 @@
 -- Each reply of each step of a run is as the plain machine answers.
-use Rattle.std.proofs.Common.{◌≡◌, ◌⊎◌, inl, inr, ◌∙◌, ◌++◌, ℕ, Bool, true, false, List, [], ◌∷◌, refl, ap, sym, subst}
+use Rattle.std.proofs.Common.{◌≡◌, ◌⊎◌, inl, inr, ◌∙◌, ◌++◌, Bool, true, false, List, [], ◌∷◌, refl, ap, sym, subst}
 use Rattle.std.specs.Prelude.{filter_map, option_map, take, MatchBool, Option, Some, None, Result, Ok, Err}
 use Rattle.std.specs.List.{AllByRecursion}
 use Rattle.std.proofs.lemmas.Bool.{false≢true}
@@ -10,7 +10,6 @@ use Rattle.gs_base.specs.declared.refusal.Refusal.{Refusal}
 use Rattle.gs_msg.specs.declared.answer.Answer.{Answer}
 use Rattle.gs_msg.specs.declared.body.Body.{Body}
 use Rattle.gs_msg.specs.declared.body.Body.TheVariants as bodies
-use Rattle.gs_msg.specs.declared.call.Call.{Call}
 use Rattle.gs_msg.specs.declared.event.Happening.{Happening}
 use Rattle.gs_msg.specs.declared.event.Happening.TheVariants as happenings
 use Rattle.gs_msg.specs.declared.message.Message.{Message}
@@ -23,19 +22,17 @@ use Rattle.gs_master.specs.Masters.{MasterOf}
 use Rattle.gs_master_laws.specs.Standing.{Comes as HearsAt, IsNamed}
 use Rattle.gs_master_laws.specs.Written.{IsHeardBody}
 use Rattle.gs_master_plain.specs.Answers.{is_refused_by_store}
-use Rattle.gs_master_plain.specs.Commands.{but_edit, command_of}
-use Rattle.gs_master_plain.specs.Doing.{NewCallsDoAsAnswered, done_by, done_if}
-use Rattle.gs_master_record.specs.Plain.{PlainCheckpoint, PlainEntry, Whole}
+use Rattle.gs_master_plain.specs.Commands.{command_of}
+use Rattle.gs_master_plain.specs.Doing.{NewCallsDoAsAnswered}
+use Rattle.gs_master_record.specs.Plain.{PlainEntry, Whole}
 use Rattle.gs_master_spec.specs.Durable.{Durable}
 use Rattle.gs_master_spec.specs.Handling.{handle, tick}
-use Rattle.gs_master_spec.specs.State.{State, is_failed}
-use Rattle.gs_master_spec.specs.declared.pending.Waiting.TheVariants as waits
-use Rattle.gs_master_waited.proofs.Steady.{IsMeek, message_meek, messages_plainly, tick_meek, ticks_plainly}
+use Rattle.gs_master_spec.specs.State.{is_failed}
+use Rattle.gs_master_waited.proofs.Steady.{message_meek, messages_plainly, tick_meek, ticks_plainly}
 use Rattle.gs_master_waited.specs.Replies.{WasKept}
 use Rattle.gs_master_waited.specs.Steady as steady
 use Rattle.gs_master_waited.specs.Steady.{ArePlainReplies, IsPlainCall, IsPlainCopy, IsPlainReply, IsPlainly, IsSteadyOrFailed}
-use Rattle.gs_master_waited.specs.Waited.{RepliesSo, WaitsSo}
-use Rattle.gs_nodes.specs.declared.place.MasterPlace.{MasterPlace}
+use Rattle.gs_master_waited.specs.Waited.{RepliesSo}
 use Rattle.gs_nodes.specs.declared.place.MasterPlace.TheVariants.{Standing}
 use Rattle.gs_world.specs.Histories.{History}
 use Rattle.gs_world.specs.Lasting.{HearsNamed, IsToldIn}
@@ -43,13 +40,12 @@ use Rattle.gs_world.specs.Runs.{Comes, Step, Takes}
 use Rattle.gs_world.specs.Sent.{message_of}
 use Rattle.gs_world_chunks.proofs.Accounted.{runs_told}
 use Rattle.gs_world_chunks.proofs.SeeingThrough.{reached_well}
-use Rattle.gs_world_chunks.proofs.Well.{IsWell, step_within, well_steady}
+use Rattle.gs_world_chunks.proofs.Well.{step_within, well_steady}
 use Rattle.gs_world_chunks.specs.Accounts.{Account}
 use Rattle.gs_world_chunks.specs.Hearing.{to_master}
-use Rattle.gs_world_chunks.specs.Running.{IsReached, IsToldAt, Moves, Setup}
+use Rattle.gs_world_chunks.specs.Running.{IsReached, IsToldAt, Setup}
 use Rattle.gs_world_laws.specs.Steady.{HearsWithin, IsHeardAt, LastsSteady, StandsSteady, StepWithin}
 use Rattle.gs_world_lift.specs.Left.{as_left, left_of}
-use Rattle.gs_world_plain.specs.Plainly.{IsPlainStep}
 use Rattle.gs_world_plain.specs.Written.{IsAllBut, messages_at, messages_of_message, messages_of_tick, records_at, records_of_message, records_of_tick}
 use Rattle.gs_world_answered.specs.Answered as answered
 use Rattle.gs_world_answered.specs.Answered.{AnswersCall, AtStep, CommandsAreOfRecords, IsReplyAsPlain, RepliesAreAsPlain, heard_at, moment_at}

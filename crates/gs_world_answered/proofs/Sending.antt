@@ -1,5 +1,5 @@
 -- Each reply that is sent at a step is of its turn; or it refuses the call that comes, since a disk fails, or no master stands.
-use Rattle.std.proofs.Common.{◌≡◌, ◌⊎◌, inl, inr, ◌∙◌, ◌++◌, ℕ, Bool, true, false, not, List, [], ◌∷◌, refl, ap, sym, subst}
+use Rattle.std.proofs.Common.{◌≡◌, inl, inr, ◌∙◌, ◌++◌, ℕ, Bool, true, false, not, List, [], ◌∷◌, refl, ap, sym, subst}
 use Rattle.std.specs.Prelude.{option_map, MatchBool, Option, Some, None, Result, Ok, Err, if◌then◌else◌}
 use Rattle.std.specs.List.{AllByRecursion}
 use Rattle.std.proofs.lemmas.Bool.{false≢true, true≢false}
@@ -16,27 +16,24 @@ use Rattle.gs_journal.specs.Records.{standing}
 use Rattle.gs_journal.specs.declared.version.Version.{Version}
 use Rattle.gs_journal.specs.declared.version.Version.TheVariants as versions
 use Rattle.gs_master.specs.Journaled.{text_seen}
-use Rattle.gs_master.specs.Masters.{IsAnswered, MasterAnswers, MasterOf}
-use Rattle.gs_master.specs.Ticking.{AnswersAs, AnswersTick, lacking, pressed_all, writes_one}
+use Rattle.gs_master.specs.Masters.{MasterAnswers, MasterOf}
+use Rattle.gs_master.specs.Ticking.{AnswersAs, lacking, pressed_all, writes_one}
 use Rattle.gs_master.specs.declared.turn.Turn.{Turn as Told_turn}
 use Rattle.gs_master_laws.proofs.StandingRuns.{events_fit, steps_fit}
-use Rattle.gs_master_laws.specs.Promises.{AllFit}
 use Rattle.gs_master_laws.specs.Standing.{Comes as HearsAt, IsNamed, Ticks as TicksAt}
 use Rattle.gs_master_plain.specs.Doing.{NewCallsDoAsAnswered}
-use Rattle.gs_master_record.specs.Plain.{PlainEntry, Whole}
+use Rattle.gs_master_record.specs.Plain.{PlainEntry}
 use Rattle.gs_master_spec.specs.Applied.{records_behind, replayed}
 use Rattle.gs_master_spec.specs.Durable.{Durable, is_rolling, start}
 use Rattle.gs_master_spec.specs.Handling.{anew, answered_or, checkpoint, checkpoint_body, checkpoint_tests, due, handle, recover, recovered_from, reopened, restarted, tick, told_again, written_if_due, written_unless}
-use Rattle.gs_master_spec.specs.Outcomes.{IsCut, IsDone, caller_of, unsure}
+use Rattle.gs_master_spec.specs.Outcomes.{IsDone, caller_of, unsure}
 use Rattle.gs_master_spec.specs.State.{Log, State, Turn, and_then, first_of, is_failed, met_by, post, to_each, unmoved}
 use Rattle.gs_master_spec.specs.Upgrades.{tell_all}
 use Rattle.gs_master_spec.specs.Whole.{checkpoint_of}
 use Rattle.gs_master_asked.proofs.Answering.{pick}
 use Rattle.gs_master_waited.specs.Waited.{RepliesSo}
-use Rattle.gs_msg.specs.declared.answer.Answer.{Answer}
 use Rattle.gs_msg.specs.declared.body.Body.{Body}
 use Rattle.gs_msg.specs.declared.body.Body.TheVariants as bodies
-use Rattle.gs_msg.specs.declared.event.Event.{Event}
 use Rattle.gs_msg.specs.declared.event.Happening.{Happening}
 use Rattle.gs_msg.specs.declared.event.Happening.TheVariants as happenings
 use Rattle.gs_msg.specs.declared.event.Request.{Request}
@@ -46,12 +43,12 @@ use Rattle.gs_msg.specs.declared.message.MsgId.{MsgId}
 use Rattle.gs_msg.specs.declared.node.NodeId.TheVariants as nodes
 use Rattle.gs_msg.specs.declared.node.StoreNode.TheVariants as keepers
 use Rattle.gs_nodes.specs.Happenings.{MasterHears, MasterTicks, Opens, Reopens, refusal_of_call}
-use Rattle.gs_nodes.specs.Nodes.{Nodes, with_master}
+use Rattle.gs_nodes.specs.Nodes.{Nodes}
 use Rattle.gs_nodes.specs.declared.place.MasterPlace.{MasterPlace}
 use Rattle.gs_nodes.specs.declared.place.MasterPlace.TheVariants.{Standing, Closed, Away}
 use Rattle.gs_server_member.proofs.Elsewhere.{ByServer}
 use Rattle.gs_server_member.specs.Answering.{IsByServer}
-use Rattle.gs_world.specs.Histories.{Happens, History, Upshot, told}
+use Rattle.gs_world.specs.Histories.{History, Upshot, told}
 use Rattle.gs_world.specs.Lasting.{HearsNamed, IsToldIn}
 use Rattle.gs_world.specs.Runs.{Comes, Step}
 use Rattle.gs_world.specs.Sent.{message_of}
@@ -62,7 +59,7 @@ use Rattle.gs_world_chunks.proofs.SeeingThrough.{reached_well}
 use Rattle.gs_world_chunks.proofs.Well.{step_within}
 use Rattle.gs_world_chunks.specs.Accounts.{Account}
 use Rattle.gs_world_chunks.specs.Hearing.{to_master}
-use Rattle.gs_world_chunks.specs.Running.{IsReached, IsToldAt, Moves, Setup}
+use Rattle.gs_world_chunks.specs.Running.{IsToldAt, Setup}
 use Rattle.gs_world_laws.specs.Steady.{StandsSteady}
 use Rattle.gs_world_laws.specs.Through.{is_sound_at}
 use Rattle.gs_world_plain.specs.Written.{IsAllBut, messages_at, messages_of_message, messages_of_tick, records_at, records_of_message, records_of_tick}

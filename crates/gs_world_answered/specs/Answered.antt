@@ -1,5 +1,5 @@
 -- What the master answers in a run to calls of the tree: what the plain machine answers that the store shows, with the command that it does then.
-use Rattle.std.specs.Prelude.{[], ◌∷◌, ◌≡◌, ◌⊎◌, Err, List, None, Option, Result, Some, false, filter_map, option_map, refl, take, true, ℕ}
+use Rattle.std.specs.Prelude.{◌≡◌, ◌⊎◌, Err, List, None, Option, Result, Some, false, filter_map, option_map, refl, take, true, ℕ}
 use Rattle.std.specs.List.{AllByRecursion}
 use Rattle.gs_base.specs.declared.numbers.ClientId.{ClientId}
 use Rattle.gs_base.specs.declared.numbers.Moment.{Moment}
