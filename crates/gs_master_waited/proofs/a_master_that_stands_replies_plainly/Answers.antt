@@ -1,0 +1,8 @@
+use Rattle.gs_master_waited.proofs.Steady.{messages_plainly, ticks_plainly}
+use Rattle.gs_master_waited.proofs.a_master_that_stands_replies_plainly.Goals as goal
+
+pub returns-clause-messages : goal.returns-clause-messages
+returns-clause-messages c = messages_plainly c.calls_of_the_tree_do_what_they_answer.ensures
+
+pub returns-clause-ticks : goal.returns-clause-ticks
+returns-clause-ticks c = ticks_plainly

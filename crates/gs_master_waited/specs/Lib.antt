@@ -1,0 +1,3 @@
+pub mod Waited
+pub mod Replies
+pub mod Steady

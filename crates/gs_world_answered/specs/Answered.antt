@@ -1,0 +1,106 @@
+-- What the master answers in a run to calls of the tree: what the plain machine answers that the store shows, with the command that it does then.
+use Rattle.std.specs.Prelude.{◌≡◌, ◌⊎◌, Err, List, None, Option, Result, Some, false, filter_map, option_map, refl, take, true, ℕ}
+use Rattle.std.specs.List.{AllByRecursion}
+use Rattle.gs_base.specs.declared.numbers.ClientId.{ClientId}
+use Rattle.gs_base.specs.declared.numbers.Moment.{Moment}
+use Rattle.gs_base.specs.declared.numbers.ReqId.{ReqId}
+use Rattle.gs_base.specs.declared.refusal.Refusal.{Refusal}
+use Rattle.gs_base.specs.declared.refusal.Refusal.TheVariants as refusals
+use Rattle.gs_master.specs.Masters.{MasterOf}
+use Rattle.gs_master_plain.specs.Answers.{is_refused_by_store, plain_answer}
+use Rattle.gs_master_plain.specs.Commands.{but_edit, command_of}
+use Rattle.gs_master_plain.specs.Doing.{done_by, done_if, is_of_tree}
+use Rattle.gs_master_record.specs.Plain.{PlainEntry}
+use Rattle.gs_master_spec.specs.Applied.{replayed}
+use Rattle.gs_master_spec.specs.declared.pending.Waiting.{Waiting}
+use Rattle.gs_master_spec.specs.declared.pending.Waiting.TheVariants as waits
+use Rattle.gs_master_waited.specs.Replies.{WasKept, is_other_wait}
+use Rattle.gs_master_waited.specs.Steady.{IsPlainCopy, IsPlainly}
+use Rattle.gs_master_waited.specs.Waited.{RepliesSo, WaitsSo}
+use Rattle.gs_msg.specs.declared.answer.Answer.{Answer}
+use Rattle.gs_msg.specs.declared.body.Body.{Body}
+use Rattle.gs_msg.specs.declared.body.Body.TheVariants as bodies
+use Rattle.gs_msg.specs.declared.call.Call.{Call}
+use Rattle.gs_msg.specs.declared.event.Event.{Event}
+use Rattle.gs_msg.specs.declared.message.Message.{Message}
+use Rattle.gs_nodes.specs.declared.place.MasterPlace.TheVariants.{Standing}
+use Rattle.gs_path.specs.Path.{Path}
+use Rattle.gs_world.specs.Histories.{Happens, History}
+use Rattle.gs_world.specs.Runs.{Comes, Step, Takes}
+use Rattle.gs_world_asked.specs.Answered.{sent_by}
+use Rattle.gs_world_chunks.specs.Accounts.{Account}
+use Rattle.gs_world_chunks.specs.Hearing.{heard_by_master}
+use Rattle.gs_world_chunks.specs.Running.{IsReached, Moves, Setup}
+use Rattle.gs_world_laws.specs.Through.{is_sound_at}
+use Rattle.gs_world_plain.specs.Plainly.{IsPlainStep}
+use Rattle.gs_world_plain.specs.Views.{plain_tree}
+use Rattle.gs_world_plain.specs.Written.{IsAllBut, messages_at, records_at}
+
+-- what the master hears at a step, if it hears anything, and when
+abbrev pub heard_at : {D : Type 0} → Step → History D → Option Body
+heard_at step old = option_map (λ (m : Message). m.body) (heard_by_master step old.sent)
+
+abbrev pub moment_at : Step → Moment
+moment_at (Comes event) = event.moment
+moment_at (Takes client) = record { 0 = 0 }
+
+-- ---- a reply
+
+-- A call of the tree that comes: by the names that the account has, and so by the plain view of the store. The records of the step say the command that it is, or, where it is refused, none.
+pub record AnswersCall {D : Type 0} (m : MasterOf D) (a : Account) (records : List PlainEntry) (moment : Moment) (req : ReqId) (call : Call) (result : Result Answer Refusal) : Type 0 where
+  pub tree : is_of_tree call ≡ true
+  pub plainly : IsPlainly a.durable.names moment.0 a.durable.next_hidden call result
+  pub does : filter_map command_of records ≡ done_if (done_by m.state moment call) result
+
+-- It is to a call of the tree that comes; or to a snapshot that has waited, by the names to which the records before its own lead; or it is one that is kept, once more; or it is to a call that isn't of the tree.
+pub data IsReplyAsPlain {D : Type 0} (m : MasterOf D) (a : Account) (records : List PlainEntry) (moment : Moment) (heard : Option Body) (req : ReqId) (result : Result Answer Refusal) : Type 0 where
+  Came : (call : Call) → heard ≡ Some (bodies.Call req call) → AnswersCall m a records moment req call result → IsReplyAsPlain m a records moment heard req result
+  HadWaited : (from to : Path) → WaitsSo m.state req (waits.Snapshot from to) → IsPlainCopy a.durable records req from to result → IsReplyAsPlain m a records moment heard req result
+  Again : WasKept m.state req result → IsReplyAsPlain m a records moment heard req result
+  OtherCame : (call : Call) → heard ≡ Some (bodies.Call req call) → is_of_tree call ≡ false → IsReplyAsPlain m a records moment heard req result
+  OtherWaited : (waiting : Waiting) → WaitsSo m.state req waiting → is_other_wait waiting ≡ true → IsReplyAsPlain m a records moment heard req result
+
+-- so at a step of a master that stands
+abbrev pub AtStep : {D : Type 0} → Step → History D → Account → MasterOf D → ReqId → Result Answer Refusal → Type 0
+AtStep step old a m req result = IsReplyAsPlain m a (records_at step old) (moment_at step) (heard_at step old) req result
+
+-- ---- what is really sent
+
+-- The turn was done: so these of its records stand, all or all but a checkpoint. A master of which a disk had failed has none.
+pub record StandsWhole {D : Type 0} (step : Step) (old : History D) (a b : Account) : Type 0 where
+  pub these : List PlainEntry
+  pub all : IsAllBut (records_at step old) these
+  pub stand : replayed a.durable these ≡ Some b.durable
+
+-- it is what the turn of the step says; or it refuses the call that comes, since a disk fails at the turn, or no master stands
+pub data IsSentAsPlain {D : Type 0} (step : Step) (old : History D) (a b : Account) (req : ReqId) (result : Result Answer Refusal) : Type 0 where
+  OfTurn : (m : MasterOf D) → old.nodes.master ≡ Standing m → AtStep step old a m req result → (is_sound_at old.nodes.master ≡ true → StandsWhole step old a b) → IsSentAsPlain step old a b req result
+  Unsure : (call : Call) → heard_at step old ≡ Some (bodies.Call req call) → result ≡ Err refusals.Unsure → IsSentAsPlain step old a b req result
+  Closed : (call : Call) → heard_at step old ≡ Some (bodies.Call req call) → result ≡ Err refusals.Device → is_sound_at old.nodes.master ≡ false → IsSentAsPlain step old a b req result
+
+module _ {D : Type 0} (x : Setup D) where
+  -- ---- what is to hold
+
+  -- each reply of each step of each run, whatever disks of the master fail
+  abbrev pub RepliesAreAsPlain : Type 0
+  RepliesAreAsPlain = (old new : History D) (a b : Account) (step : Step) (m : MasterOf D) → IsReached x old a → Moves x step old a new b → old.nodes.master ≡ Standing m →
+      AllByRecursion (λ (message : Message). RepliesSo (AtStep step old a m) message.body) (messages_at step old)
+
+  -- and each that is really sent
+  abbrev pub SentAreAsPlain : Type 0
+  SentAreAsPlain = (old new : History D) (a b : Account) (event : Event) (said : Result (Unit {0}) Refusal) → IsReached x old a → Moves x (Comes event) old a new b → (h : Happens x.seen x.failures x.armed event old said new) →
+      AllByRecursion (λ (message : Message). RepliesSo (IsSentAsPlain (Comes event) old a b) message.body) (sent_by h.outcome)
+
+  -- The commands of the plain machine's step that edit no text are those that the records say, where all stand, but perhaps a checkpoint.
+  abbrev pub CommandsAreOfRecords : Type 0
+  CommandsAreOfRecords = (old new : History D) (a b : Account) (step : Step) (p : IsPlainStep x.config.chunk step old new a b) → IsAllBut (records_at step old) (take p.written (records_at step old)) →
+      filter_map but_edit p.commands ≡ filter_map command_of (records_at step old)
+
+-- ---- Worked
+
+-- what is right whatever texts there are is right by the plain view
+by_the_plain_view : (size : ℕ) (a : Account) (moment number : ℕ) (call : Call) (result plain : Result Answer Refusal) → IsPlainly a.durable.names moment number call result → plain_answer (plain_tree size a) moment number call ≡ Some plain → (is_refused_by_store result ≡ true) ⊎ (result ≡ plain)
+by_the_plain_view size a moment number call result plain is said = is _ plain said
+
+nothing_is_heard_where_a_client_takes_its_answer : {D : Type 0} (client : ClientId) (old : History D) → heard_at (Takes client) old ≡ None
+nothing_is_heard_where_a_client_takes_its_answer client old = refl

@@ -1,0 +1,19 @@
+//! What the master answers in a run to calls of the tree is what the plain machine of the run answers, with the command that it does then.
+#![tactic(auto)]
+
+ghost use Rattle.gs_world_answered.specs.Answered.{CommandsAreOfRecords, RepliesAreAsPlain, SentAreAsPlain};
+ghost use Rattle.gs_world_chunks.specs.Running.{Setup};
+
+use gs_master_plain::calls_of_the_tree_do_what_they_answer;
+
+/// In each run of a store, whatever disks of its master fail, each reply that the turn of a step says to a call of the tree is what the plain tree answers, whatever texts the chunks have, or a refusal by the store: to a call
+/// that comes by the names of the plain view, and to a snapshot that has waited by those to which the records of the step lead that stand before its own. The records say the command that the call is, where it is accepted, and no other
+/// is for it; where it is refused none is. Or it is a reply that is kept, given once more. So is each reply that is really sent, and then the records of its turn stand; or it refuses the call that comes, since a disk fails at the turn,
+/// or since no master stands. And where the plain machine goes on at the step by all these records, its commands that edit no text are those that they say.
+pub fn replies_are_the_plain_machines<D>()
+    ensures replies { (x : Setup D) → RepliesAreAsPlain x }
+    ensures sent { (x : Setup D) → SentAreAsPlain x }
+    ensures commands { (x : Setup D) → CommandsAreOfRecords x }
+{
+    calls_of_the_tree_do_what_they_answer();
+}
