@@ -27,7 +27,7 @@ MOST = 200
 # What the part says where memory was wanting for its upgrade.
 LACKED = "upgrades not begun"
 SECONDS = 20
-# At the end it says whether the growth was reached, and how many there were.
+# At the end, however the program ends, it says whether the growth was reached, and how many there were.
 LIBRARY = """
 extern void *dlsym(void *, const char *);
 extern int *__errno_location(void);
@@ -35,11 +35,11 @@ extern char *getenv(const char *);
 extern long atol(const char *);
 extern int snprintf(char *, unsigned long, const char *, ...);
 extern long write(int, const void *, unsigned long);
-extern void _exit(int);
+void _exit(int);
 static long calls, refused = -1;
 static int is_refused(void) {
     if (refused < 0) refused = getenv("REFUSED") ? atol(getenv("REFUSED")) : 0;
-    if (++calls != refused) return 0;
+    if (__sync_add_and_fetch(&calls, 1) != refused) return 0;
     *__errno_location() = 12;
     return 1;
 }
@@ -54,10 +54,20 @@ void *realloc(void *old, unsigned long size) {
     if (!next) next = behind("realloc");
     return is_refused() ? 0 : next(old, size);
 }
-__attribute__((destructor)) static void tell(void) {
+static void tell(void) {
+    static int has_told;
     char text[64];
+    if (__sync_lock_test_and_set(&has_told, 1)) return;
     int length = snprintf(text, sizeof text, "%sgrowths %ld\\n", calls < refused ? "not reached\\n" : "", calls);
     if (write(2, text, length) < 0) _exit(99);
+}
+__attribute__((destructor)) static void tell_at_the_end(void) { tell(); }
+void _exit(int status) {
+    static void (*next)(int);
+    tell();
+    if (!next) next = behind("_exit");
+    next(status);
+    for (;;);
 }
 """
 

@@ -34,6 +34,9 @@ class Ran:
         self.seconds = time.monotonic() - begun
         self.busy = spent.ru_utime + spent.ru_stime
         self.peak = spent.ru_maxrss * 1024
+        self.tell(told)
+
+    def tell(self, told):
         self.accepted = int(told)
 
 

@@ -1,8 +1,7 @@
 -- What the threads and callers of a cluster leave is a run of a store, and the nodes that it leads to.
-use Rattle.std.proofs.Common.{◌≡◌, ◌≢◌, ◌∙◌, ◌+◌, ◌⊎◌, inl, inr, ℕ, List, [], ◌∷◌, Some, Err, length, map, refl, sym, ap, subst, slice_get}
+use Rattle.std.proofs.Common.{◌≡◌, ◌≢◌, ◌∙◌, ◌+◌, ℕ, List, [], ◌∷◌, Some, Err, length, map, refl, sym, ap, subst, slice_get}
 use Rattle.gs_base.specs.declared.config.Config.{Config}
 use Rattle.gs_base.specs.declared.refusal.Refusal.{Refusal}
-use Rattle.gs_base.specs.declared.refusal.Refusal.TheVariants as refusals
 use Rattle.gs_msg.specs.declared.event.DiskId.{DiskId}
 use Rattle.gs_msg.specs.declared.node.NodeId.{NodeId}
 use Rattle.gs_msg.specs.declared.node.NodeId.TheVariants as ids
@@ -17,9 +16,11 @@ use Rattle.gs_cluster_history.specs.Histories.{Kept}
 use Rattle.gs_cluster_history.specs.Merging.{AllKept, Matches, places_of}
 use Rattle.gs_cluster_history.specs.Setting.{Setting, all_ids}
 use Rattle.gs_cluster_notes.specs.declared.notes.Notes.{Notes}
-use Rattle.gs_cluster_threads.specs.Gathered.{IsWhole, member_of}
+use Rattle.gs_cluster_threads.specs.Gathered.{EndsAs, Gathers, IsWhole, member_of}
+use Rattle.gs_cluster_threads.specs.declared.gathering.Gathered.{Gathered}
 use Rattle.gs_cluster_threads.specs.declared.gathering.Member.{Member}
-use Rattle.gs_cluster.specs.Finished.{Finished, HasRun}
+use Rattle.gs_cluster.specs.Finished.{HasRun}
+use Rattle.gs_cluster_threads.proofs.Hosting.{refused_alike}
 use Rattle.gs_cluster.specs.inner.Members.{AreOf, cores_of, masters_in}
 use Rattle.gs_cluster.proofs.Ending.{are_of, sized}
 use Rattle.gs_cluster.proofs.Numbers.{all_differ}
@@ -69,7 +70,9 @@ module _ {D : Type 0} (seen : D → List ℕ) (failures : D → ℕ) where
     }
 
   -- why it didn't end well
-  pub refused : (setting : Setting) (callers : List (Kept (Role D))) (threads : ℕ) (refusal : Refusal) → (refusal ≡ refusals.Memory) ⊎ ((refusal ≡ refusals.Stray) × (threads + length callers ≡ length (all_ids setting) → ⊥))
-      → threads + setting.clients ≡ length (all_ids setting) → Finished seen failures setting callers (Err refusal)
-  refused setting callers threads refusal (inl is) many = subst (λ r. Finished seen failures setting callers (Err r)) (sym is) tt
-  refused setting callers threads refusal (inr (is, other)) many = subst (λ r. Finished seen failures setting callers (Err r)) (sym is) (λ same. other (ap (λ n. threads + n) same ∙ many))
+  pub not_finished : {A : Type 0} (Fine : A → Type 0) (setting : Setting) (callers : List (Kept (Role D))) (threads : ℕ) (refusal : Refusal)
+      → Gathers (DoesAs seen failures) (StartsAs seen failures setting) (all_ids setting) (threads + length callers) callers (Err refusal) → threads + setting.clients ≡ length (all_ids setting)
+      → EndsAs Fine (length callers) setting.clients (Err refusal)
+  not_finished Fine setting callers threads refusal said many =
+      refused_alike (λ (g : Gathered (Role D)). IsWhole (DoesAs seen failures) (StartsAs seen failures setting) (all_ids setting) callers g.members.items g.notes.items) Fine
+      (threads + length callers) (length (all_ids setting)) (length callers) setting.clients refusal said (λ same. ap (λ n. threads + n) same ∙ many)

@@ -1,5 +1,5 @@
 -- What a caller hears, one message after the other, and what comes of what it asks.
-use Rattle.std.proofs.Common.{◌≡◌, ◌∙◌, ◌<◌, ◌++◌, ℕ, true, List, [], ◌∷◌, Option, Some, None, Result, Ok, Err, refl, ap, subst, sym, inl, inr, arith}
+use Rattle.std.proofs.Common.{◌≡◌, ◌∙◌, ◌⊎◌, ◌<◌, ◌++◌, ℕ, true, List, [], ◌∷◌, MatchOption, Option, Some, None, Result, Ok, Err, refl, ap, subst, sym, inl, inr, arith}
 use Rattle.gs_base.specs.declared.numbers.Moment.{Moment}
 use Rattle.gs_base.specs.declared.numbers.ReqId.{ReqId}
 use Rattle.gs_base.specs.declared.refusal.Refusal.{Refusal}
@@ -96,15 +96,18 @@ module _ {D : Type 0} (seen : D → List ℕ) (failures : D → ℕ) where
         | inr other ↦ Stray r.0 other.1 (ap replies.Refused other.0)
       ]
 
--- what came, which is an outcome, or want of memory for the copy of what isn't
-pub outcome_copied : {D : Type 0} (role : Role D) (node : Node) (came : Reply) (outcome : _) → role ≡ Client node → node.reply ≡ Some came → came ≡ replies.Outcome outcome
-    → Replied role (Some (replies.Outcome outcome))
-outcome_copied role node came outcome is has so = (came, ap reply_of is ∙ has, inl (sym so))
+-- ---- a copy of what came
 
-no_outcome : (reply : Reply) → ((outcome : _) → reply ≡ replies.Outcome outcome → ⊥) → takes_memory reply ≡ true
-no_outcome (replies.Outcome outcome) other = absurd (other outcome refl)
-no_outcome reply other = refl
+abbrev IsPlain : Reply → Option Reply → Type 0
+IsPlain came got = MatchOption got (takes_memory came ≡ true) (λ copy. copy ≡ came)
 
-pub no_copy : {D : Type 0} (role : Role D) (node : Node) (came : Reply) → role ≡ Client node → node.reply ≡ Some came → ((outcome : _) → came ≡ replies.Outcome outcome → ⊥)
-    → Replied role (Some (replies.Refused refusals.Memory))
-no_copy role node came is has other = (came, ap reply_of is ∙ has, inr (refl, no_outcome came other))
+pub plain_copy : (came copy : Reply) (got : Option Reply) → IsPlain came got → got ≡ Some copy → copy ≡ came
+plain_copy came copy got plain is = subst (λ (o : Option Reply). IsPlain came o) is plain
+
+pub not_plain : (came : Reply) (got : Option Reply) → IsPlain came got → ((copy : Reply) → got ≡ Some copy → ⊥) → takes_memory came ≡ true
+not_plain came (Some copy) plain other = absurd (other copy refl)
+not_plain came None plain other = plain
+
+pub replied : {D : Type 0} (role : Role D) (node : Node) (came copy : Reply) → role ≡ Client node → node.reply ≡ Some came → (copy ≡ came) ⊎ ((copy ≡ replies.Refused refusals.Memory) × (takes_memory came ≡ true))
+    → Replied role (Some copy)
+replied role node came copy is has so = (came, ap reply_of is ∙ has, so)

@@ -26,9 +26,9 @@ one_gone {X} {Y} part P all left rest x gone new y g first is holds put = record
 pub all_gone : {X Y : Type 0} (part : Y → X) (P : Y → Type 0) (all left : List X) (gone : List Y) → Going part P all left gone → length left ≡ 0 → map part gone ≡ all
 all_gone {X} {Y} part P all left gone g none = sym (append-nil (map part gone)) ∙ ap (λ (l : List X). map part gone ++ l) (sym (nil_from_length left none)) ∙ g.whole
 
--- Of all items some are left, and the parts of the others stand behind what was there first.
-pub none_taken : {X Y : Type 0} (part : Y → X) (all left : List Y) (first taken : List X) → left ≡ all → taken ≡ first → taken ++ map part left ≡ first ++ map part all
-none_taken {X} {Y} part all left first taken same none = ap (λ (l : List X). l ++ map part left) none ∙ ap (λ (l : List Y). first ++ map part l) same
+-- Of all items some are left, and the parts of the others are taken.
+pub none_taken : {X Y : Type 0} (part : Y → X) (all left : List Y) (taken : List X) → left ≡ all → taken ≡ [] → taken ++ map part left ≡ map part all
+none_taken {X} {Y} part all left taken same none = ap (λ (l : List X). l ++ map part left) none ∙ ap (λ (l : List Y). map part l) same
 
 pub one_taken : {X Y : Type 0} (part : Y → X) (left rest : List Y) (y : Y) (whole taken new : List X) (x : X) → taken ++ map part left ≡ whole → left ≡ y ∷ rest → part y ≡ x → new ≡ taken ++ x ∷ []
     → new ++ map part rest ≡ whole

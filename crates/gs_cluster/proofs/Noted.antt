@@ -1,9 +1,8 @@
 -- What the threads and callers of a cluster leave, with what its nodes have noted, is a store with all that was sent.
-use Rattle.std.proofs.Common.{◌≡◌, ◌∙◌, ◌+◌, ◌++◌, ◌⊎◌, inl, inr, ℕ, false, List, [], ◌∷◌, Result, Ok, Err, length, map, refl, sym, ap, subst, arith}
+use Rattle.std.proofs.Common.{◌≡◌, ◌∙◌, ◌+◌, ◌++◌, ℕ, false, List, [], ◌∷◌, Result, Ok, Err, length, map, refl, sym, ap, subst, arith}
 use Rattle.std.proofs.lemmas.Option.{none-some}
 use Rattle.gs_base.specs.declared.config.Config.{Config}
 use Rattle.gs_base.specs.declared.refusal.Refusal.{Refusal}
-use Rattle.gs_base.specs.declared.refusal.Refusal.TheVariants as refusals
 use Rattle.gs_msg.specs.Posts.{Posted}
 use Rattle.gs_msg.specs.declared.event.DiskId.{DiskId}
 use Rattle.gs_msg.specs.declared.node.NodeId.{NodeId}
@@ -19,9 +18,9 @@ use Rattle.gs_cluster_history.specs.Merging.{Place, event_of, merged, places_of}
 use Rattle.gs_cluster_history.specs.Setting.{Setting, all_ids}
 use Rattle.gs_cluster_notes.specs.Notes.{AllKeep, post_of, posts_all}
 use Rattle.gs_cluster_notes.specs.declared.notes.Notes.{Notes}
-use Rattle.gs_cluster_threads.specs.Gathered.{Gathers, IsWhole}
+use Rattle.gs_cluster_threads.specs.Gathered.{IsWhole}
 use Rattle.gs_cluster_threads.specs.declared.gathering.Member.{Member}
-use Rattle.gs_cluster.specs.Finished.{FinishedWhole, GatheredWhole, HasWholeRun}
+use Rattle.gs_cluster.specs.Finished.{FinishedWhole, HasWholeRun}
 use Rattle.gs_cluster.specs.declared.gathering.Whole.{Whole}
 use Rattle.gs_cluster.specs.inner.Members.{AreOf, IsStore, cores_of}
 use Rattle.gs_cluster.proofs.Ended.{AreARun, roles_are, run_of}
@@ -81,13 +80,6 @@ module _ {D : Type 0} (seen : D → List ℕ) (failures : D → ℕ) (law : AreA
           let all = posts r.end.sent order many (none_lost seen failures armed setting w.nodes (places_of w.nodes) w.numbers r) in
           ap (λ (n : Nodes D). record { nodes = n; sent = r.end.sent }) (sym these) ∙ ap (λ (s : Sent). record { nodes = nodes_of whole.nodes; sent = s }) (sym all)
 
--- why it didn't end well
-pub not_whole : {D : Type 0} (seen : D → List ℕ) (failures : D → ℕ) (setting : Setting) (callers : List (Kept (Role D))) (threads : ℕ) (refusal : Refusal)
-    → (refusal ≡ refusals.Memory) ⊎ ((refusal ≡ refusals.Stray) × (threads + length callers ≡ length (all_ids setting) → ⊥)) → threads + setting.clients ≡ length (all_ids setting)
-    → FinishedWhole seen failures setting callers (Err refusal)
-not_whole seen failures setting callers threads refusal (inl is) many = subst (λ r. FinishedWhole seen failures setting callers (Err r)) (sym is) tt
-not_whole seen failures setting callers threads refusal (inr (is, other)) many = subst (λ r. FinishedWhole seen failures setting callers (Err r)) (sym is) (λ same. other (ap (λ n. threads + n) same ∙ many))
-
 -- ---- of which nodes
 
 module _ {D : Type 0} (seen : D → List ℕ) (failures : D → ℕ) (setting : Setting) (given : List (Kept (Role D))) where
@@ -98,17 +90,7 @@ module _ {D : Type 0} (seen : D → List ℕ) (failures : D → ℕ) (setting : 
   pub for_none : (members : List (Member (Role D))) (notes : List Notes) → Whole_of given members notes → Whole_of [] members notes
   for_none members notes w = record { nodes = w.nodes; among = λ k a. absurd (none-some k a.1); numbers = w.numbers; kept = w.kept; match = w.match; are = w.are; told = w.told }
 
-  pub finishes : (members : List (Member (Role D))) (notes : List Notes) → Whole_of given members notes → (result : Result (Whole D) Refusal) → IsStore seen failures setting members notes result
-      → FinishedWhole seen failures setting given result
-  finishes members notes w (Ok whole) store = store given w
-  finishes members notes w (Err refusal) is = subst (λ r. FinishedWhole seen failures setting given (Err r)) (sym is) tt
-
-  pub gathers : (members : List (Member (Role D))) (notes : List Notes) → Whole_of given members notes → (result : Result (Whole D) Refusal) → IsStore seen failures setting members notes result
-      → GatheredWhole seen failures setting given result
-  gathers members notes w (Ok whole) store = store given w
-  gathers members notes w (Err refusal) is = subst (λ r. GatheredWhole seen failures setting given (Err r)) (sym is) tt
-
-  pub not_gathered : (refusal : Refusal) → Gathers (DoesAs seen failures) (StartsAs seen failures setting) (all_ids setting) given (Err refusal) → GatheredWhole seen failures setting given (Err refusal)
-  not_gathered refusals.Memory said = tt
-  not_gathered refusals.Stray said = said
-  not_gathered refusal none = none
+  pub finishes : (members : List (Member (Role D))) (notes : List Notes) → Whole_of given members notes → (all : ℕ) (result : Result (Whole D) Refusal) → IsStore seen failures setting members notes result
+      → FinishedWhole seen failures setting given all result
+  finishes members notes w all (Ok whole) store = store given w
+  finishes members notes w all (Err refusal) is = subst (λ r. FinishedWhole seen failures setting given all (Err r)) (sym is) tt

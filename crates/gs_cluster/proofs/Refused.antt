@@ -1,14 +1,11 @@
--- With which refusals nodes and threads can answer.
-use Rattle.std.proofs.Common.{◌≡◌, ◌⊎◌, ◌+◌, ℕ, List, Some, Err, length, inl, inr, refl}
+-- With which refusals nodes can answer.
+use Rattle.std.proofs.Common.{◌≡◌, ◌⊎◌, Some, Err, inl, inr, refl}
 use Rattle.gs_base.specs.declared.refusal.Refusal.{Refusal}
 use Rattle.gs_base.specs.declared.refusal.Refusal.TheVariants as refusals
 use Rattle.gs_msg.specs.declared.event.Event.{Event}
-use Rattle.gs_msg.specs.declared.message.Message.{Message}
-use Rattle.gs_msg.specs.declared.node.NodeId.{NodeId}
 use Rattle.gs_cluster_history.specs.Histories.{Kept, Upshot, doer}
 use Rattle.gs_cluster_history.specs.declared.took.Took.{Took}
 use Rattle.gs_cluster_node.specs.Nodes.{Receives, Steps, last_clock}
-use Rattle.gs_cluster_threads.specs.Gathered.{Finished}
 
 module _ {C : Type 0} (Does : Took → C → Upshot → C → Type 0) (old new : Kept C) where
   pub receives_not : (refusal : Refusal) → Receives Does old (Err refusal) new → (refusal ≡ refusals.Exhausted) × (new ≡ old) × (old.past.clock ≡ last_clock)
@@ -20,10 +17,3 @@ module _ {C : Type 0} (Does : Took → C → Upshot → C → Type 0) (old new :
   steps_not event refusals.Exhausted (same, last) = (same, inl (refl, last))
   steps_not event refusals.Stray (same, other) = (same, inr (refl, other))
   steps_not event refusal none = absurd none
-
-module _ {C : Type 0} (Does : Took → C → Upshot → C → Type 0) (Starts : NodeId → C → List Message → Type 0) (all : List NodeId) (threads : ℕ) (callers : List (Kept C)) where
-  pub finished_not : (refusal : Refusal) → Finished Does Starts all threads callers (Err refusal)
-      → (refusal ≡ refusals.Memory) ⊎ ((refusal ≡ refusals.Stray) × (threads + length callers ≡ length all → ⊥))
-  finished_not refusals.Memory said = inl refl
-  finished_not refusals.Stray said = inr (refl, said)
-  finished_not refusal none = absurd none

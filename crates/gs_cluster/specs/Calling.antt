@@ -7,6 +7,10 @@ use Rattle.gs_base.specs.declared.refusal.Refusal.TheVariants as refusals
 use Rattle.gs_client.specs.Nodes.{silent}
 use Rattle.gs_client.specs.declared.link.Reply.{Reply}
 use Rattle.gs_client.specs.declared.link.Reply.TheVariants as replies
+use Rattle.gs_msg.specs.declared.answer.Answer.{Answer}
+use Rattle.gs_msg.specs.declared.answer.Answer.TheVariants as answers
+use Rattle.gs_msg.specs.declared.body.Given.{Given}
+use Rattle.gs_msg.specs.declared.body.Given.TheVariants as givens
 use Rattle.gs_msg.specs.declared.event.Event.{Event}
 use Rattle.gs_msg.specs.declared.event.Happening.TheVariants as happenings
 use Rattle.gs_msg.specs.declared.event.Request.{Request}
@@ -24,10 +28,27 @@ abbrev pub reply_of : {D : Type 0} → Role D → Option Reply
 reply_of (Client node) = node.reply
 reply_of role = None
 
--- A copy of it takes memory: of all but an edit's outcome.
+-- A copy of it takes memory: of what has a path, names, a status or bytes.
+abbrev pub refusal_takes_memory : Refusal → Bool
+refusal_takes_memory (refusals.Pending path) = true
+refusal_takes_memory refusal = false
+
+abbrev pub answer_takes_memory : Answer → Bool
+answer_takes_memory (answers.Path path) = true
+answer_takes_memory (answers.Names names) = true
+answer_takes_memory (answers.Status status) = true
+answer_takes_memory answer = false
+
+abbrev pub given_takes_memory : Given → Bool
+given_takes_memory (givens.Bytes bytes) = true
+given_takes_memory given = false
+
 abbrev pub takes_memory : Reply → Bool
+takes_memory (replies.Answer answer) = answer_takes_memory answer
 takes_memory (replies.Outcome outcome) = false
-takes_memory reply = true
+takes_memory (replies.Given given) = given_takes_memory given
+takes_memory (replies.Refused refusal) = refusal_takes_memory refusal
+takes_memory replies.Lost = false
 
 -- it is given, or memory is wanting for its copy
 abbrev pub Replied : {D : Type 0} → Role D → Option Reply → Type 0

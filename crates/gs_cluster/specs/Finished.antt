@@ -1,7 +1,6 @@
 -- What a cluster has come to when its threads have ended.
-use Rattle.std.specs.Prelude.{◌≡◌, ℕ, List, length, map, Result, Ok, Err}
+use Rattle.std.specs.Prelude.{◌≡◌, ℕ, List, length, map, Result}
 use Rattle.gs_base.specs.declared.refusal.Refusal.{Refusal}
-use Rattle.gs_base.specs.declared.refusal.Refusal.TheVariants as refusals
 use Rattle.gs_msg.specs.declared.event.DiskId.{DiskId}
 use Rattle.gs_nodes.specs.Nodes.{nodes_of}
 use Rattle.gs_nodes.specs.declared.nodes.Nodes.{Nodes}
@@ -11,6 +10,7 @@ use Rattle.gs_cluster_core.specs.declared.role.Role.{Role}
 use Rattle.gs_cluster_history.specs.Histories.{Among, Kept}
 use Rattle.gs_cluster_history.specs.Merging.{Place, event_of, places_of}
 use Rattle.gs_cluster_history.specs.Setting.{Setting, all_ids}
+use Rattle.gs_cluster_threads.specs.Gathered.{EndsAs}
 use Rattle.gs_cluster.specs.declared.gathering.Whole.{Whole}
 
 module _ {D : Type 0} (seen : D → List ℕ) (failures : D → ℕ) (setting : Setting) (given : List (Kept (Role D))) where
@@ -23,12 +23,9 @@ module _ {D : Type 0} (seen : D → List ℕ) (failures : D → ℕ) (setting : 
     pub run : (armed : DiskId → ℕ → MasterPlace D → MasterPlace D) → IsStoreRun seen failures armed setting kept (places_of kept)
     pub ends : (armed : DiskId → ℕ → MasterPlace D → MasterPlace D) → (run armed).end.nodes ≡ nodes_of nodes
 
-  -- `Stray` is said only where there aren't as many callers as clients.
+  -- `Stray` is said only where these aren't as many as the clients.
   abbrev pub Finished : Result (Nodes D) Refusal → Type 0
-  Finished (Ok nodes) = HasRun nodes
-  Finished (Err refusals.Memory) = Unit {0}
-  Finished (Err refusals.Stray) = length given ≡ setting.clients → ⊥
-  Finished (Err refusal) = ⊥
+  Finished result = EndsAs HasRun (length given) setting.clients result
 
   -- It leads to these nodes and to all that they have ever sent, and these are its events.
   pub record HasWholeRun (whole : Whole D) : Type 0 where
@@ -39,15 +36,6 @@ module _ {D : Type 0} (seen : D → List ℕ) (failures : D → ℕ) (setting : 
     pub ends : (armed : DiskId → ℕ → MasterPlace D → MasterPlace D) → (run armed).end ≡ record { nodes = nodes_of whole.nodes; sent = whole.sent }
     pub events_are : whole.events.items ≡ map (λ (p : Place). event_of p.entry.took) (places_of kept)
 
-  abbrev pub FinishedWhole : Result (Whole D) Refusal → Type 0
-  FinishedWhole (Ok whole) = HasWholeRun whole
-  FinishedWhole (Err refusals.Memory) = Unit {0}
-  FinishedWhole (Err refusals.Stray) = length given ≡ setting.clients → ⊥
-  FinishedWhole (Err refusal) = ⊥
-
-  -- So too of all nodes: `Stray` is said only where there aren't as many as the store has.
-  abbrev pub GatheredWhole : Result (Whole D) Refusal → Type 0
-  GatheredWhole (Ok whole) = HasWholeRun whole
-  GatheredWhole (Err refusals.Memory) = Unit {0}
-  GatheredWhole (Err refusals.Stray) = length given ≡ length (all_ids setting) → ⊥
-  GatheredWhole (Err refusal) = ⊥
+  -- `Stray` is said only where these aren't so many.
+  abbrev pub FinishedWhole : ℕ → Result (Whole D) Refusal → Type 0
+  FinishedWhole all result = EndsAs HasWholeRun (length given) all result

@@ -2,6 +2,7 @@ ghost use Rattle.std.specs.Prelude.{◌≡◌, ◌<◌};
 ghost use Rattle.gs_cluster.specs.Calling.{HearsAll, Replied};
 ghost use Rattle.gs_cluster.specs.inner.Looking.{Looks, most_looks};
 
+use crate::copying::copy_of;
 use gs_base::{Moment, Refusal, ReqId};
 use gs_client::{Link, Reply};
 use gs_cluster_core::Role;
@@ -24,21 +25,14 @@ pub struct Caller<N: Plan, D: Disk + Drop, R: Wait + Clock + Drop> {
     pub(crate) moment: Moment,
 }
 
-/// A copy of what came back, if something did. That of an edit's outcome takes no memory.
+/// A copy of what came back, if something did.
 fn reply_at<D: Disk + Drop>(alloc: Global, role: &Role<D>) -> Option<Reply>
     ensures { Replied role.now result }
 {
     let Role::Client(client) = role else {
         return None;
     };
-    let reply = client.reply()?;
-    if let Reply::Outcome(outcome) = reply {
-        return Some(Reply::Outcome(*outcome));
-    }
-    match reply.copy(alloc) {
-        Ok(reply) => Some(reply),
-        Err(_) => Some(Reply::Refused(Refusal::Memory)),
-    }
+    Some(copy_of(alloc, client.reply()?))
 }
 
 /// Hears a message, if one waits. Else it rests a little, and where it has looked for long, what was asked goes out once more. How often it has

@@ -5,10 +5,10 @@ ghost use Rattle.gs_cluster.specs.Calling.{fresh_clients};
 ghost use Rattle.gs_cluster.specs.declared.caller.Caller.{Caller as ACaller};
 ghost use Rattle.gs_cluster_core.specs.Roles.{DoesAs, StartsAs};
 ghost use Rattle.gs_cluster_history.specs.Setting.{all_ids};
-ghost use Rattle.gs_cluster_threads.specs.Gathered as threads;
+ghost use Rattle.gs_cluster_threads.specs.Gathered.{Gathers};
 
 use crate::caller::Caller;
-use crate::gathering::{Whole, whole_of, with_callers};
+use crate::gathering::{Whole, whole_of};
 use crate::nodes::nodes_from;
 use crate::opening::Opened;
 use gs_base::{Config, Moment, Refusal};
@@ -80,6 +80,26 @@ fn callers_of<N: Plan, D: Disk + Drop, R: Wait + Clock + Copy + Drop>(
     Ok(callers)
 }
 
+/// The nodes of callers.
+fn nodes_of<N: Plan, D: Disk + Drop, R: Wait + Clock + Drop>(
+    alloc: Global,
+    callers: Vec<Caller<N, D, R>>,
+) -> Result<Vec<Node<N, Role<D>>>, AllocError>
+    ensures { IfOk result (λ v. v.items ≡ map (λ (c : ACaller N D R). c.node) callers.items) }
+{
+    let mut nodes = Vec::new(alloc);
+    for caller in callers {
+        let Caller {
+            rt: _,
+            alloc: _,
+            node,
+            moment: _,
+        } = caller;
+        nodes.push(node)?;
+    }
+    Ok(nodes)
+}
+
 /// Ends threads, and gives what their nodes and those of these callers have come to.
 fn ended<
     N: Plan + Send + Sync + 'static,
@@ -91,9 +111,9 @@ fn ended<
     hosts: Hosts<N, Role<D>>,
     callers: Vec<Caller<N, D, R>>,
 ) -> Result<Gathered<Role<D>>, Refusal>
-    ensures { threads.Finished (DoesAs D.seen D.failures) (StartsAs D.seen D.failures N.setting) (all_ids N.setting) (vec_len hosts.handles) (map (λ (c : ACaller N D R). c.node) callers.items) result }
+    ensures { Gathers (DoesAs D.seen D.failures) (StartsAs D.seen D.failures N.setting) (all_ids N.setting) (vec_len hosts.handles + length (map (λ (c : ACaller N D R). c.node) callers.items)) (map (λ (c : ACaller N D R). c.node) callers.items) result }
 {
-    let of_callers = with_callers(Vec::new(alloc), callers)?;
+    let of_callers = nodes_of(alloc, callers)?;
     hosts.finish(rt, of_callers)
 }
 
@@ -146,11 +166,7 @@ impl<N: Plan + Send + Sync + 'static, D: Disk + Drop + Send + 'static> Cluster<N
             config,
             hosts,
         } = self;
-        let gathered = match ended(rt, alloc, hosts, callers) {
-            Ok(gathered) => gathered,
-            Err(refusal) => return Err(refusal),
-        };
-        let Gathered { members, notes: _ } = gathered;
+        let Gathered { members, notes: _ } = ended(rt, alloc, hosts, callers)?;
         matching_histories_are_a_run_of_the_store::<D>();
         Ok(nodes_from(alloc, config, members)?)
     }
@@ -163,17 +179,14 @@ impl<N: Plan + Send + Sync + 'static, D: Disk + Drop + Send + 'static> Cluster<N
         rt: &R,
         callers: Vec<Caller<N, D, R>>,
     ) -> Result<Whole<D>, Refusal>
-        ensures { FinishedWhole D.seen D.failures N.setting (map (λ (c : ACaller N D R). c.node) callers.items) result }
+        ensures { FinishedWhole D.seen D.failures N.setting (map (λ (c : ACaller N D R). c.node) callers.items) N.setting.clients result }
     {
         let Cluster {
             alloc,
             config,
             hosts,
         } = self;
-        let gathered = match ended(rt, alloc, hosts, callers) {
-            Ok(gathered) => gathered,
-            Err(refusal) => return Err(refusal),
-        };
+        let gathered = ended(rt, alloc, hosts, callers)?;
         whole_of::<N, D>(alloc, config, gathered)
     }
 }

@@ -3,6 +3,7 @@
 
 mod caller;
 mod cluster;
+mod copying;
 mod gathering;
 mod nodes;
 mod opening;

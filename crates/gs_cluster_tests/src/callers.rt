@@ -237,7 +237,7 @@ fn four_write<
 }
 
 /// All is accepted in the end, and reads back. The nodes go on on one thread, where the master begins again; and the events that the
-/// cluster gives, run by a new store on one thread, send what was sent in it. Three quarters of that, at least, are delivered in them.
+/// cluster gives, run by a new store on one thread, send what was sent in it. Three quarters of those messages, at least, come in them.
 #[test]
 fn four_callers_write_at_once(rt: HostRuntime) -> Result<(), Fail> {
     let alloc = rt.alloc();
@@ -261,7 +261,8 @@ fn four_callers_write_at_once(rt: HostRuntime) -> Result<(), Fail> {
     } = whole;
     let later = answers_later(alloc, nodes, caller)?;
     assert_eq!(rt; later.as_str(), "ok ok 6363");
-    assert!(rt; delivered(&events).saturating_mul(4) >= many_sent(&sent).saturating_mul(3));
+    let came = delivered(alloc, &sent, &events)?;
+    assert!(rt; came.saturating_mul(4) >= many_sent(&sent).saturating_mul(3));
     assert!(rt; sends_the_same(alloc, config, &sent, events)?);
     Ok(())
 }

@@ -11,7 +11,7 @@ use gs_nodes::empty_disks;
 use gs_shell_script::Answering;
 use gs_shell_threads::Desk;
 use gs_world::{Posts, World};
-use std::alloc::Global;
+use std::alloc::{AllocError, Global};
 use std::marker::Brand;
 use std::sync::Wait;
 use std::test::Fail;
@@ -72,17 +72,6 @@ fn has_sent_the_same(one: Option<&Outbox>, other: Option<&Outbox>) -> bool {
     }
 }
 
-/// How many events are messages that came.
-pub(crate) fn delivered(events: &[Event]) -> u64 {
-    let mut many: u64 = 0;
-    for event in events.iter() {
-        if matches!(&event.happening, Happening::Deliver(_)) {
-            many = many.saturating_add(1);
-        }
-    }
-    many
-}
-
 /// All nodes of a store of three servers and four clients.
 fn all_nodes() -> [NodeId; 8] {
     [
@@ -104,6 +93,48 @@ pub(crate) fn many_sent(sent: &Posts) -> u64 {
         many = many.saturating_add(sent.count(node));
     }
     many
+}
+
+/// Of each message that a node has sent, that it hasn't come.
+fn none_came(alloc: Global, many: u64) -> Result<Vec<bool>, AllocError> {
+    let mut came = Vec::new(alloc);
+    for _ in 0..many {
+        came.push(false)?;
+    }
+    Ok(came)
+}
+
+/// How many messages of a node came, each counted once, however often it came.
+fn came_from(
+    alloc: Global,
+    sent: &Posts,
+    events: &[Event],
+    node: NodeId,
+) -> Result<u64, AllocError> {
+    let mut came = none_came(alloc, sent.count(node))?;
+    let mut many: u64 = 0;
+    for event in events.iter() {
+        let Happening::Deliver(message) = &event.happening else {
+            continue;
+        };
+        if message.sender != node {
+            continue;
+        }
+        if let Some(has_come) = came.get_mut(message.place as usize) {
+            many = many.saturating_add(u64::from(!*has_come));
+            *has_come = true;
+        }
+    }
+    Ok(many)
+}
+
+/// How many of the messages that were sent came.
+pub(crate) fn delivered(alloc: Global, sent: &Posts, events: &[Event]) -> Result<u64, AllocError> {
+    let mut many: u64 = 0;
+    for node in all_nodes() {
+        many = many.saturating_add(came_from(alloc, sent, events, node)?);
+    }
+    Ok(many)
 }
 
 /// Whether these events, run by a new store on one thread, send what was sent, each node the same.

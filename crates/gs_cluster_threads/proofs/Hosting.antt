@@ -7,7 +7,7 @@ use Rattle.gs_msg.specs.declared.message.Message.{Message}
 use Rattle.gs_msg.specs.declared.node.NodeId.{NodeId}
 use Rattle.gs_cluster_history.specs.declared.took.Took.{Took}
 use Rattle.gs_cluster_history.specs.Histories.{Among, Kept, Upshot}
-use Rattle.gs_cluster_threads.specs.Gathered.{Finished, Gathers}
+use Rattle.gs_cluster_threads.specs.Gathered.{EndsAs, Gathers, IsWhole}
 use Rattle.gs_cluster_threads.specs.declared.gathering.Gathered.{Gathered}
 
 -- The callers' nodes are among these, and there is room for those of the threads that are left.
@@ -37,12 +37,17 @@ one_ended {C} callers threads nodes new k many more left less place room e put l
   room = (let h = e.room in omega arith);
 }
 
+-- What isn't well isn't for the same reason elsewhere, where there are as many as there have to be only if there are here.
+pub refused_alike : {A B : Type 0} (Well : A → Type 0) (Fine : B → Type 0) (many all few whole : ℕ) (refusal : Refusal) → EndsAs Well many all (Err refusal) → (few ≡ whole → many ≡ all) → EndsAs Fine few whole (Err refusal)
+refused_alike Well Fine many all few whole refusals.Memory said same = tt
+refused_alike Well Fine many all few whole refusals.Stray said same = λ e. said (same e)
+refused_alike Well Fine many all few whole refusal said same = absurd said
+
 -- with none left, what all nodes come to is what the threads and the callers do
-pub ends_so : {C : Type 0} (Does : Took → C → Upshot → C → Type 0) (Starts : NodeId → C → List Message → Type 0) (all : List NodeId) (callers nodes : List (Kept C)) (threads many left place : ℕ)
-    → Ending callers threads nodes many left place → left ≡ 0 → many ≡ length nodes → (result : Result (Gathered C) Refusal) → Gathers Does Starts all nodes result → Finished Does Starts all threads callers result
-ends_so Does Starts all callers nodes threads many left place e none long (Ok gathered) w =
+pub ends_so : {C : Type 0} (Does : Took → C → Upshot → C → Type 0) (Starts : NodeId → C → List Message → Type 0) (all : List NodeId) (callers nodes : List (Kept C)) (threads asked many left place : ℕ)
+    → Ending callers threads nodes many left place → left ≡ 0 → asked ≡ length callers → (result : Result (Gathered C) Refusal) → Gathers Does Starts all many nodes result → Gathers Does Starts all (threads + asked) callers result
+ends_so Does Starts all callers nodes threads asked many left place e none long (Ok gathered) w =
     record { nodes = w.nodes; among = λ k a. w.among k (e.among k a); numbers = w.numbers; kept = w.kept; match = w.match; are = w.are; told = w.told }
-ends_so Does Starts all callers nodes threads many left place e none long (Err refusals.Memory) w = tt
-ends_so Does Starts all callers nodes threads many left place e none long (Err refusals.Stray) other =
-    λ same. other (let h = e.all in let l : ℕ = length nodes in let c : ℕ = length callers in omega arith)
-ends_so Does Starts all callers nodes threads many left place e none long (Err refusal) never = never
+ends_so {C} Does Starts all callers nodes threads asked many left place e none long (Err refusal) said =
+    refused_alike (λ (g : Gathered C). IsWhole Does Starts all nodes g.members.items g.notes.items) (λ (g : Gathered C). IsWhole Does Starts all callers g.members.items g.notes.items) many (length all) (threads + asked) (length all) refusal said
+    (λ same. let h = e.all in let c : ℕ = length callers in omega arith)

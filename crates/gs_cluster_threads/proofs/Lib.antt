@@ -1,5 +1,5 @@
 mod Ears
-mod Hosting
+pub mod Hosting
 mod Joining
 mod Matching
 mod Places

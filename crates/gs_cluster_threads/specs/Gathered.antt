@@ -1,5 +1,5 @@
 -- What a cluster comes to when its threads have ended.
-use Rattle.std.specs.Prelude.{◌≡◌, ◌+◌, ℕ, List, map, length, Result, Ok, Err, ⊤}
+use Rattle.std.specs.Prelude.{◌≡◌, ℕ, List, map, length, Result, Ok, Err, ⊤}
 use Rattle.gs_base.specs.declared.refusal.Refusal.{Refusal}
 use Rattle.gs_base.specs.declared.refusal.Refusal.TheVariants as refusals
 use Rattle.gs_msg.specs.declared.message.Message.{Message}
@@ -11,6 +11,13 @@ use Rattle.gs_cluster_notes.specs.Notes.{AllKeep}
 use Rattle.gs_cluster_notes.specs.declared.notes.Notes.{Notes}
 use Rattle.gs_cluster_threads.specs.declared.gathering.Gathered.{Gathered}
 use Rattle.gs_cluster_threads.specs.declared.gathering.Member.{Member}
+
+-- All is well, or memory is wanting. `Stray` is said only where so many nodes aren't as many as there have to be.
+abbrev pub EndsAs : {A : Type 0} → (A → Type 0) → ℕ → ℕ → Result A Refusal → Type 0
+EndsAs Well many all (Ok a) = Well a
+EndsAs Well many all (Err refusals.Memory) = ⊤
+EndsAs Well many all (Err refusals.Stray) = many ≡ all → ⊥
+EndsAs Well many all (Err refusal) = ⊥
 
 abbrev pub member_of : {C : Type 0} → Kept C → Member C
 member_of k = record { me = k.me; core = k.past.core }
@@ -31,16 +38,6 @@ module _ {C : Type 0} (Does : Took → C → Upshot → C → Type 0) (Starts : 
     pub are : members ≡ map member_of nodes
     pub told : AllTell nodes notes
 
-  -- Of these nodes. `Stray` is said only where they aren't as many as there are.
-  abbrev pub Gathers : List (Kept C) → Result (Gathered C) Refusal → Type 0
-  Gathers given (Ok gathered) = IsWhole given gathered.members.items gathered.notes.items
-  Gathers given (Err refusals.Memory) = ⊤
-  Gathers given (Err refusals.Stray) = length given ≡ length all → ⊥
-  Gathers given (Err refusal) = ⊥
-
-  -- Of so many threads' nodes and those of the callers.
-  abbrev pub Finished : ℕ → List (Kept C) → Result (Gathered C) Refusal → Type 0
-  Finished threads callers (Ok gathered) = IsWhole callers gathered.members.items gathered.notes.items
-  Finished threads callers (Err refusals.Memory) = ⊤
-  Finished threads callers (Err refusals.Stray) = threads + length callers ≡ length all → ⊥
-  Finished threads callers (Err refusal) = ⊥
+  -- of so many nodes, these among them
+  abbrev pub Gathers : ℕ → List (Kept C) → Result (Gathered C) Refusal → Type 0
+  Gathers many given result = EndsAs (λ (g : Gathered C). IsWhole given g.members.items g.notes.items) many (length all) result

@@ -42,7 +42,7 @@ pub fn gather<N: Plan, C: Core + Drop>(
     alloc: Global,
     nodes: Vec<Node<N, C>>,
 ) -> Result<Gathered<C>, Refusal>
-    ensures { Gathers C.Does (C.Starts N.setting) (all_ids N.setting) nodes.items result }
+    ensures { Gathers C.Does (C.Starts N.setting) (all_ids N.setting) (vec_len nodes) nodes.items result }
 {
     if !are_all(&nodes) {
         return Err(Refusal::Stray);

@@ -1,6 +1,6 @@
 ghost use Rattle.std.specs.Prelude.{◌≡◌, ◌+◌, ◌≤◌, IfOk, OnOk, vec_capacity, vec_len};
 ghost use Rattle.gs_cluster_history.specs.Setting.{all_ids};
-ghost use Rattle.gs_cluster_threads.specs.Gathered.{Finished};
+ghost use Rattle.gs_cluster_threads.specs.Gathered.{Gathers};
 
 use crate::gathering::{Gathered, gather};
 use crate::work::host;
@@ -118,7 +118,7 @@ impl<N: Plan + Send + Sync + 'static, C: Core + Drop + Send + 'static> Hosts<N, 
         rt: &R,
         callers: Vec<Node<N, C>>,
     ) -> Result<Gathered<C>, Refusal>
-        ensures { Finished C.Does (C.Starts N.setting) (all_ids N.setting) (vec_len self.handles) callers.items result }
+        ensures { Gathers C.Does (C.Starts N.setting) (all_ids N.setting) (vec_len self.handles + vec_len callers) callers.items result }
     {
         let Hosts {
             alloc,

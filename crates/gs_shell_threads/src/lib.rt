@@ -1,10 +1,11 @@
 //! The shell of a store whose nodes run in threads: a script's lines in, their answers out.
 #![tactic(auto)]
 
-ghost use Rattle.std.specs.Prelude.{◌≡◌, [], IfSome, OnOk};
-ghost use Rattle.gs_cluster.specs.Opened.{IsNew, names_of};
+ghost use Rattle.std.specs.Prelude.{◌≡◌, [], IfErr, IfSome, OnOk};
+ghost use Rattle.gs_cluster.specs.Opened.{IsNew, WhyNoMaster, names_of};
 ghost use Rattle.gs_journal.specs.Memory.{bytes_of, times_failed};
-ghost use Rattle.gs_shell_threads.specs.Serving.{Serves};
+ghost use Rattle.gs_nodes.specs.NewDisks.{OverEmpty};
+ghost use Rattle.gs_shell_threads.specs.Serving.{ServeFails, Serves};
 ghost use Rattle.std.specs.declared.marker.Brand.{Brand as TheBrand};
 
 mod answering;
@@ -45,7 +46,9 @@ fn serve<
     requires config { opened.config ≡ N.setting.config }
     requires new { IsNew D.seen D.failures N.setting opened.seeds.items }
     requires one { N.setting.clients ≡ 1 }
-    ensures { OnOk result (IfSome (R.remaining reader.old) (λ input. Serves N T D.seen D.failures N.setting input (W.contents writer.old) (W.contents writer.new))) }
+    ensures ok { OnOk result (IfSome (R.remaining reader.old) (λ input. Serves N T D.seen D.failures N.setting input (W.contents writer.old) (W.contents writer.new))) }
+    ensures err { IfErr result (λ e.
+        ServeFails N T D.seen D.failures N.setting (λ refusal. refusal ≡ Refusal.Memory) e (R.remaining reader.old) (R.remaining reader.new) (W.contents writer.old) (W.contents writer.new)) }
 {
     let config = opened.config;
     let (cluster, mut callers) = match Cluster::<N, D>::start(rt, alloc, gate, opened) {
@@ -71,15 +74,20 @@ fn serve<
 ///
 /// A line is answered when all that it asks of the nodes has come back, however long that takes. Lines about nodes and messages (`hold`,
 /// `deliver`, `beat`, `restart`, `lose`, `damage`) are `refused 34 BadLine`. Where a prepare or a rollback can't be committed yet, since a
-/// chunk isn't quiet or nobody has named it, the commit is asked for again, up to 10,000 times in all. Where memory or a thread is wanting,
-/// the fault is `Refused`.
+/// chunk isn't quiet or nobody has named it, the commit is asked for again, up to 10,000 times in all.
+///
+/// A read or a write that fails ends the run as [`gs_shell_script::run`] says; the store is ended then too. Where memory or a thread is
+/// wanting for the nodes the fault is `Refused`, and nothing is read or written. Where memory is wanting to end the store, the fault is
+/// `Refused(Memory)` in place of what the lines ended with, and they are answered.
 pub fn run_threads<
     T: Threads + Wait + Clock + Copy + Drop + Send + Sync + 'static,
     R: BufRead,
     W: Write,
 >(rt: &T, alloc: Global, config: Config, reader: &mut R, writer: &mut W) -> Result<(), RunFault>
-    ensures { OnOk result (IfSome (R.remaining reader.old) (λ input.
+    ensures ok { OnOk result (IfSome (R.remaining reader.old) (λ input.
         Serves TheBrand T bytes_of times_failed (record { config = config; clients = 1; texts = ([], []) }) input (W.contents writer.old) (W.contents writer.new))) }
+    ensures err { IfErr result (λ e. OverEmpty (λ disks.
+        ServeFails TheBrand T bytes_of times_failed (record { config = config; clients = 1; texts = ([], []) }) (WhyNoMaster bytes_of times_failed config disks) e (R.remaining reader.old) (R.remaining reader.new) (W.contents writer.old) (W.contents writer.new))) }
 {
     let disks = empty_disks(alloc);
     let opened = match Opened::new(alloc, config, 1, disks) {

@@ -18,5 +18,5 @@ loop-handle-preserved g c =
 
 pub returns : goal.returns
 returns g c =
-    ends_so g.C.Core.Does (g.C.Core.Starts g.N.Plan.setting) (all_ids g.N.Plan.setting) c.args.callers.items c.loop-handle.nodes.items (vec_len c.args.self.handles) (vec_len c.loop-handle.nodes) _ _ c.loop-handle.invariant
-    c.in-None.ensures.steps.0 c.loop-handle.nodes.ok.0 c.gather.result c.gather.ensures
+    ends_so g.C.Core.Does (g.C.Core.Starts g.N.Plan.setting) (all_ids g.N.Plan.setting) c.args.callers.items c.loop-handle.nodes.items (vec_len c.args.self.handles) (vec_len c.args.callers) (vec_len c.loop-handle.nodes) _ _ c.loop-handle.invariant
+    c.in-None.ensures.steps.0 c.args.callers.ok.0 c.gather.result c.gather.ensures

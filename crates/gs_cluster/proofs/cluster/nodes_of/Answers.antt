@@ -1,11 +1,11 @@
 use Rattle.std.proofs.Common.{◌∙◌, refl, sym}
 use Rattle.gs_cluster.proofs.Moving.{all_taken, none_taken, one_taken}
 use Rattle.gs_cluster.specs.declared.caller.Caller.{Caller}
-use Rattle.gs_cluster.proofs.gathering.with_callers.Goals as goal
+use Rattle.gs_cluster.proofs.cluster.nodes_of.Goals as goal
 
 pub loop-caller-init : goal.loop-caller-init
 loop-caller-init g c =
-    none_taken (λ (k : Caller _ _ _). k.node) c.args.callers.items c.into_iter-caller-iterator.result.rest.items c.args.nodes.items _ c.into_iter-caller-iterator.ensures.into_iter_gives.0 refl
+    none_taken (λ (k : Caller _ _ _). k.node) c.args.callers.items c.into_iter-caller-iterator.result.rest.items _ c.into_iter-caller-iterator.ensures.into_iter_gives.0 c.new-nodes.ensures.items
 
 pub loop-caller-preserved : goal.loop-caller-preserved
 loop-caller-preserved g c =
