@@ -174,7 +174,7 @@ replies_plain law x old new a b step m r moves at = by_step law x a m old at (ha
 -- ---- commands
 
 -- a checkpoint says none
-all_but_said : (records these : List PlainEntry) → IsAllBut records these → filter_map command_of these ≡ filter_map command_of records
+pub all_but_said : (records these : List PlainEntry) → IsAllBut records these → filter_map command_of these ≡ filter_map command_of records
 all_but_said records these (inl all) = ap (filter_map command_of) all
 all_but_said records these (inr (c, parts)) = sym (ap (filter_map command_of) parts ∙ filter_map-append command_of these (Whole c ∷ []) ∙ nothing (filter_map command_of these))
   where

@@ -63,7 +63,21 @@ use Rattle.gs_world_chunks.specs.Running.{IsToldAt, Setup}
 use Rattle.gs_world_laws.specs.Steady.{StandsSteady}
 use Rattle.gs_world_laws.specs.Through.{is_sound_at}
 use Rattle.gs_world_plain.specs.Written.{IsAllBut, messages_at, messages_of_message, messages_of_tick, records_at, records_of_message, records_of_tick}
-use Rattle.gs_world_answered.proofs.Answering.{Had, has_at, replies_plain}
+use Rattle.std.proofs.Common.{arith, length}
+use Rattle.std.specs.Prelude.{take}
+use Rattle.std.proofs.Math.Seq.{take-length}
+use Rattle.gs_world.proofs.Reaching.{HaveSizes}
+use Rattle.gs_world_chunks.proofs.Edits.{AreNumbered}
+use Rattle.gs_world_chunks.specs.Back.{EachIsOfAPrepare, GivesNoOtherBack, GivesSettledBack}
+use Rattle.gs_world_chunks.specs.Running.{IsGiven}
+use Rattle.gs_world_laws.specs.Steady.{HearsWithin}
+use Rattle.gs_world_laws.specs.Through.{Turns as TurnsOf}
+use Rattle.gs_world_plain.proofs.Stepped.{turn_there}
+use Rattle.gs_world_plain.proofs.Writing.{WritesTurn, by_happening}
+use Rattle.gs_world_plain.specs.Plainly.{IsPlainStep}
+use Rattle.gs_master_laws.specs.Promises.{AllFit}
+use Rattle.gs_world_plain.specs.Told.{PutWereTold}
+use Rattle.gs_world_answered.proofs.Answering.{all_but_said, Had, has_at, replies_plain}
 use Rattle.gs_world_answered.specs.Answered as answered
 use Rattle.gs_world_answered.specs.Answered.{AtStep, IsSentAsPlain, SentAreAsPlain, StandsWhole, heard_at}
 
@@ -172,12 +186,12 @@ first_all S (x ∷ xs) ys all = (all.0, first_all S xs ys all.1)
 
 -- ---- a step
 
-module _ (law : NewCallsDoAsAnswered) {D : Type 0} (x : Setup D) (old new : History D) (a b : Account) (moment : Moment) (behind : IsToldAt x.seen new.nodes.master b.durable) (had : (m : MasterOf D) → old.nodes.master ≡ Standing m → Had law x a m) where
+module _ (law : NewCallsDoAsAnswered) {D : Type 0} (x : Setup D) (given : IsGiven x) (old new : History D) (a b : Account) (moment : Moment) (behind : IsToldAt x.seen new.nodes.master b.durable) (had : (m : MasterOf D) → old.nodes.master ≡ Standing m → Had law x a m) where
   abbrev step_of : Happening → Step
   step_of happening = Comes (record { moment = moment; happening = happening })
 
   abbrev Says : Happening → List Message → Type 0
-  Says happening messages = AllByRecursion (λ (n : Message). RepliesSo (IsSentAsPlain (step_of happening) old a b) n.body) messages
+  Says happening messages = AllByRecursion (λ (n : Message). RepliesSo (IsSentAsPlain x.config.chunk (step_of happening) old new a b) n.body) messages
 
   -- what is known of what the turn says
   abbrev Known : Happening → Type 0
@@ -187,23 +201,28 @@ module _ (law : NewCallsDoAsAnswered) {D : Type 0} (x : Setup D) (old new : Hist
   none_said happening [] none = tt
   none_said happening (n ∷ messages) none = (one n.body none.0, none_said happening messages none.1)
     where
-      one : (body : Body) → NoReply body → RepliesSo (IsSentAsPlain (step_of happening) old a b) body
+      one : (body : Body) → NoReply body → RepliesSo (IsSentAsPlain x.config.chunk (step_of happening) old new a b) body
       one (bodies.Reply req result) never = absurd never
       one body never = tt
 
-  of_turn : (happening : Happening) (m : MasterOf D) → old.nodes.master ≡ Standing m → (is_sound_at old.nodes.master ≡ true → StandsWhole (step_of happening) old a b) → (messages : List Message)
+  of_turn : (happening : Happening) (m : MasterOf D) → old.nodes.master ≡ Standing m → (is_sound_at old.nodes.master ≡ true → StandsWhole x.config.chunk (step_of happening) old new a b) → (messages : List Message)
       → AllByRecursion (λ (n : Message). RepliesSo (AtStep (step_of happening) old a m) n.body) messages → Says happening messages
   of_turn happening m at stands [] all = tt
   of_turn happening m at stands (n ∷ messages) all = (one n.body all.0, of_turn happening m at stands messages all.1)
     where
-      one : (body : Body) → RepliesSo (AtStep (step_of happening) old a m) body → RepliesSo (IsSentAsPlain (step_of happening) old a b) body
+      one : (body : Body) → RepliesSo (AtStep (step_of happening) old a m) body → RepliesSo (IsSentAsPlain x.config.chunk (step_of happening) old new a b) body
       one (bodies.Reply req result) is = answered.OfTurn m at is stands
       one body is = tt
 
+  -- the plain machine goes on by what is written
+  abbrev PlainAt : Happening → Type 0
+  PlainAt happening = WritesTurn (records_at (step_of happening) old) old.nodes.master new.nodes.master a.durable b.durable →
+      (p : IsPlainStep x.config.chunk (step_of happening) old new a b) × (is_sound_at new.nodes.master ≡ true → IsAllBut (records_at (step_of happening) old) (take p.written (records_at (step_of happening) old)))
+
   -- what a turn that was done has recorded stands
-  stands_whole : (happening : Happening) (m after : MasterOf D) (these : List PlainEntry) (e : Durable) → old.nodes.master ≡ Standing m → new.nodes.master ≡ Standing after → after.state.fault ≡ m.state.fault → after.state.durable ≡ e → IsAllBut (records_at (step_of happening) old) these
-      → (StandsSteady x.seen m → replayed m.state.durable these ≡ Some e) → is_sound_at old.nodes.master ≡ true → StandsWhole (step_of happening) old a b
-  stands_whole happening m after these e at to fault leaves but fits sound = by (had m at)
+  stands_whole : (happening : Happening) (m after : MasterOf D) (t : Turn) → HearsNamed moment happening old × HearsWithin happening old → TurnsOf moment happening old m t → PlainAt happening → old.nodes.master ≡ Standing m → new.nodes.master ≡ Standing after → after.state.fault ≡ m.state.fault
+      → after.state.durable ≡ t.after.durable → IsAllBut (records_at (step_of happening) old) t.records → (StandsSteady x.seen m → AllFit m.state t) → is_sound_at old.nodes.master ≡ true → StandsWhole x.config.chunk (step_of happening) old new a b
+  stands_whole happening m after t within made plain at to fault leaves but fits sound = by (had m at)
     where
       off : (c : Bool) → not c ≡ true → c ≡ false
       off false h = refl
@@ -212,20 +231,26 @@ module _ (law : NewCallsDoAsAnswered) {D : Type 0} (x : Setup D) (old new : Hist
       sound_m : is_failed m.state.fault ≡ false
       sound_m = off (is_failed m.state.fault) (sym (ap is_sound_at at) ∙ sound)
 
+      sound_after : is_sound_at new.nodes.master ≡ true
+      sound_after = ap is_sound_at to ∙ ap not (ap is_failed fault ∙ sound_m)
+
       told_is : (c : Bool) → c ≡ false → MatchBool c (IsToldIn (text_seen x.seen after.journal) b.durable) (b.durable ≡ after.state.durable) → b.durable ≡ after.state.durable
       told_is true h is = absurd (true≢false h)
       told_is false h is = is
 
-      last : b.durable ≡ e
+      last : b.durable ≡ t.after.durable
       last = told_is (is_failed after.state.fault) (ap is_failed fault ∙ sound_m) (subst (λ p. IsToldAt x.seen p b.durable) to behind) ∙ leaves
 
-      by : Had law x a m → StandsWhole (step_of happening) old a b
-      by (inl has) = record { these = these; all = but; stand = ap (λ d. replayed d these) has.0 ∙ fits has.1 ∙ ap Some (sym last) }
+      by : Had law x a m → StandsWhole x.config.chunk (step_of happening) old new a b
+      by (inl has) =
+          let stand : replayed a.durable t.records ≡ Some b.durable = ap (λ d. replayed d t.records) has.0 ∙ fits has.1 ∙ ap Some (sym last) in
+          let goes = plain (by_happening x given old m t (length t.records) a.durable b.durable at sound_m has.1 (sym has.0) (omega arith) (ap (replayed a.durable) (take-length t.records) ∙ stand) new.nodes.master (λ h. refl) moment happening within made) in
+          record { these = t.records; all = but; stand = stand; goes = goes.0; commands = goes.0.others ∙ all_but_said (records_at (step_of happening) old) (take goes.0.written (records_at (step_of happening) old)) (goes.1 sound_after) }
       by (inr failed) = absurd (true≢false (sym failed ∙ sound_m))
 
   -- ---- a message comes to the master
 
-  module _ (id : MsgId) (message : Message) (found : message_of old.sent id ≡ Some message) (to : message.to ≡ nodes.Master) (named : IsNamed (HearsAt message moment)) where
+  module _ (id : MsgId) (message : Message) (found : message_of old.sent id ≡ Some message) (to : message.to ≡ nodes.Master) (named : IsNamed (HearsAt message moment)) (within : HearsNamed moment (happenings.Deliver id) old × HearsWithin (happenings.Deliver id) old) (plain : PlainAt (happenings.Deliver id)) where
     abbrev H : Happening
     H = happenings.Deliver id
 
@@ -258,7 +283,7 @@ module _ (law : NewCallsDoAsAnswered) {D : Type 0} (x : Setup D) (old new : Hist
     hears (Standing m) turn next at is (after, next_is, inl done) known =
         subst (Says H) (sym done.done.sends)
         (of_turn H m at
-        (stands_whole H m after (handle m.config m.state message moment).records (handle m.config m.state message moment).after.durable at (is ∙ next_is) done.fault (ap (λ (s : State). s.durable) done.done.after) (inl (sym (records_are m at)))
+        (stands_whole H m after (handle m.config m.state message moment) within (message, found, to, refl) plain at (is ∙ next_is) done.fault (ap (λ (s : State). s.durable) done.done.after) (inl (sym (records_are m at)))
         (λ has. (events_fit m.config m.state (HearsAt message moment) named has.steady.firm).fits)) (handle m.config m.state message moment).sent
         (subst (AllByRecursion (λ (n : Message). RepliesSo (AtStep (step_of H) old a m) n.body)) (said_is m at) (known m at)))
     hears (Standing m) turn next at is (after, next_is, inr (place, cut)) known = subst (Says H) (sym cut.cut.sends) (unsure_said message.body heard_is)
@@ -276,36 +301,37 @@ module _ (law : NewCallsDoAsAnswered) {D : Type 0} (x : Setup D) (old new : Hist
   tick_records : (m : MasterOf D) → old.nodes.master ≡ Standing m → records_at (step_of T) old ≡ (tick m.state moment).records
   tick_records m at = ap (λ p. records_of_tick p moment) at
 
-  abbrev Ticking : MasterOf D → List Message → Type 0
-  Ticking m messages = AllByRecursion (λ (n : Message). RepliesSo (AtStep (step_of T) old a m) n.body) messages
+  module _ (within : HearsNamed moment T old × HearsWithin T old) (plain : PlainAt T) where
+    abbrev Ticking : MasterOf D → List Message → Type 0
+    Ticking m messages = AllByRecursion (λ (n : Message). RepliesSo (AtStep (step_of T) old a m) n.body) messages
 
-  tick_done : (m after : MasterOf D) (turn : Told_turn) → old.nodes.master ≡ Standing m → new.nodes.master ≡ Standing after → after.state.fault ≡ m.state.fault → IsDone (tick m.state moment) turn.sent.items turn.said after.state → Known T → Says T turn.sent.items
-  tick_done m after turn at is fault done known =
-      subst (Says T) (sym done.sends)
-      (of_turn T m at (stands_whole T m after (tick m.state moment).records (tick m.state moment).after.durable at is fault (ap (λ (s : State). s.durable) done.after) (inl (sym (tick_records m at))) (λ has. (events_fit m.config m.state (TicksAt moment) tt has.steady.firm).fits))
-      (tick m.state moment).sent (subst (Ticking m) (tick_said m at) (known m at)))
+    tick_done : (m after : MasterOf D) (turn : Told_turn) → old.nodes.master ≡ Standing m → new.nodes.master ≡ Standing after → after.state.fault ≡ m.state.fault → IsDone (tick m.state moment) turn.sent.items turn.said after.state → Known T → Says T turn.sent.items
+    tick_done m after turn at is fault done known =
+        subst (Says T) (sym done.sends)
+        (of_turn T m at (stands_whole T m after (tick m.state moment) within (inl refl) plain at is fault (ap (λ (s : State). s.durable) done.after) (inl (sym (tick_records m at))) (λ has. (events_fit m.config m.state (TicksAt moment) tt has.steady.firm).fits))
+        (tick m.state moment).sent (subst (Ticking m) (tick_said m at) (known m at)))
 
-  as_ticks : (c : Bool) (m after : MasterOf D) (turn : Told_turn) → old.nodes.master ≡ Standing m → new.nodes.master ≡ Standing after → AnswersAs x.seen x.failures c (tick m.state moment) (pressed_all m.state moment) m turn after → Known T → Says T turn.sent.items
-  as_ticks true m after turn at is (inl done) known = tick_done m after turn at is done.fault done.done known
-  as_ticks true m after turn at is (inr (place, cut)) known = subst (Says T) (sym cut.cut.sends) tt
-  as_ticks false m after turn at is (inl done) known = tick_done m after turn at is done.fault done.done known
-  as_ticks false m after turn at is (inr (place, cut)) known = subst (Says T) (sym cut.cut.sends) tt
+    as_ticks : (c : Bool) (m after : MasterOf D) (turn : Told_turn) → old.nodes.master ≡ Standing m → new.nodes.master ≡ Standing after → AnswersAs x.seen x.failures c (tick m.state moment) (pressed_all m.state moment) m turn after → Known T → Says T turn.sent.items
+    as_ticks true m after turn at is (inl done) known = tick_done m after turn at is done.fault done.done known
+    as_ticks true m after turn at is (inr (place, cut)) known = subst (Says T) (sym cut.cut.sends) tt
+    as_ticks false m after turn at is (inl done) known = tick_done m after turn at is done.fault done.done known
+    as_ticks false m after turn at is (inr (place, cut)) known = subst (Says T) (sym cut.cut.sends) tt
 
-  lacking_ticks : (m after : MasterOf D) (turn : Told_turn) → old.nodes.master ≡ Standing m → new.nodes.master ≡ Standing after → is_failed m.state.fault ≡ false → MasterAnswers x.seen x.failures None (lacking (pressed_all m.state moment)) m (Ok turn) after → Known T → Says T turn.sent.items
-  lacking_ticks m after turn at is sound (inl done) known =
-      let written = tick_behind m.state moment sound in
-      subst (Says T) (sym done.done.sends)
-      (of_turn T m at
-      (stands_whole T m after (pressed_all m.state moment).records (pressed_all m.state moment).after.durable at is done.fault (ap (λ (s : State). s.durable) done.done.after)
-      (subst (λ rs. IsAllBut rs (pressed_all m.state moment).records) (sym (tick_records m at)) written.records) (λ has. steps_fit m.state moment has.steady.firm))
-      (pressed_all m.state moment).sent (first_all (λ (n : Message). RepliesSo (AtStep (step_of T) old a m) n.body) (pressed_all m.state moment).sent written.sent (subst (Ticking m) (tick_said m at ∙ written.says) (known m at))))
-  lacking_ticks m after turn at is sound (inr (place, cut)) known = subst (Says T) (sym cut.cut.sends) tt
+    lacking_ticks : (m after : MasterOf D) (turn : Told_turn) → old.nodes.master ≡ Standing m → new.nodes.master ≡ Standing after → is_failed m.state.fault ≡ false → MasterAnswers x.seen x.failures None (lacking (pressed_all m.state moment)) m (Ok turn) after → Known T → Says T turn.sent.items
+    lacking_ticks m after turn at is sound (inl done) known =
+        let written = tick_behind m.state moment sound in
+        subst (Says T) (sym done.done.sends)
+        (of_turn T m at
+        (stands_whole T m after (lacking (pressed_all m.state moment)) within (inr refl) plain at is done.fault (ap (λ (s : State). s.durable) done.done.after)
+        (subst (λ rs. IsAllBut rs (pressed_all m.state moment).records) (sym (tick_records m at)) written.records) (λ has. steps_fit m.state moment has.steady.firm))
+        (pressed_all m.state moment).sent (first_all (λ (n : Message). RepliesSo (AtStep (step_of T) old a m) n.body) (pressed_all m.state moment).sent written.sent (subst (Ticking m) (tick_said m at ∙ written.says) (known m at))))
+    lacking_ticks m after turn at is sound (inr (place, cut)) known = subst (Says T) (sym cut.cut.sends) tt
 
-  ticks : (place : MasterPlace D) (turn : Told_turn) (next : MasterPlace D) → old.nodes.master ≡ place → new.nodes.master ≡ next → MasterTicks x.seen x.failures moment place (Ok turn) next → Known T → Says T turn.sent.items
-  ticks (Standing m) turn next at is (after, next_is, inl whole) known = as_ticks (writes_one m.state (pressed_all m.state moment)) m after turn at (is ∙ next_is) whole known
-  ticks (Standing m) turn next at is (after, next_is, inr (sound, is_due, none, answers)) known = lacking_ticks m after turn at (is ∙ next_is) sound answers known
-  ticks (Closed first second) turn next at is meets known = subst (Says T) (sym meets.1) tt
-  ticks Away turn next at is meets known = subst (Says T) (sym meets.1) tt
+    ticks : (place : MasterPlace D) (turn : Told_turn) (next : MasterPlace D) → old.nodes.master ≡ place → new.nodes.master ≡ next → MasterTicks x.seen x.failures moment place (Ok turn) next → Known T → Says T turn.sent.items
+    ticks (Standing m) turn next at is (after, next_is, inl whole) known = as_ticks (writes_one m.state (pressed_all m.state moment)) m after turn at (is ∙ next_is) whole known
+    ticks (Standing m) turn next at is (after, next_is, inr (sound, is_due, none, answers)) known = lacking_ticks m after turn at (is ∙ next_is) sound answers known
+    ticks (Closed first second) turn next at is meets known = subst (Says T) (sym meets.1) tt
+    ticks Away turn next at is meets known = subst (Says T) (sym meets.1) tt
 
   -- ---- it is started again
 
@@ -321,21 +347,21 @@ module _ (law : NewCallsDoAsAnswered) {D : Type 0} (x : Setup D) (old new : Hist
 
   -- ---- all that happens
 
-  by_part : (happening : Happening) (outcome : Upshot) → HearsNamed moment happening old → Known happening → Part x.seen x.failures x.armed old moment happening outcome new.nodes → Says happening (sent_by outcome)
-  by_part happening outcome named known (parts.Heard id message turn place it found to does tells same) =
+  by_part : (happening : Happening) (outcome : Upshot) → HearsNamed moment happening old × HearsWithin happening old → PlainAt happening → Known happening → Part x.seen x.failures x.armed old moment happening outcome new.nodes → Says happening (sent_by outcome)
+  by_part happening outcome within plain known (parts.Heard id message turn place it found to does tells same) =
       subst (λ h. Says h (sent_by outcome)) (sym it)
       (subst (Says (happenings.Deliver id)) (sym (ap sent_by tells))
-      (hears id message found to (subst (λ h. HearsNamed moment h old) it named message found to) old.nodes.master turn place refl (ap (λ (n : Nodes D). n.master) same) does (subst Known it known)))
-  by_part happening outcome named known (parts.Ticked turn place it does tells same) =
-      subst (λ h. Says h (sent_by outcome)) (sym it) (subst (Says T) (sym (ap sent_by tells)) (ticks old.nodes.master turn place refl (ap (λ (n : Nodes D). n.master) same) does (subst Known it known)))
-  by_part happening outcome named known (parts.Opened turn place it does tells same) = subst (Says happening) (sym (ap sent_by tells)) (reopens_said happening old.nodes.config old.nodes.master turn place does)
-  by_part happening outcome named known (parts.Armed disk call it none same) = subst (Says happening) (sym none) tt
-  by_part happening outcome named known (parts.Served by clients master) = none_said happening (sent_by outcome) (servers_none (sent_by outcome) by)
-  by_part happening outcome named known (parts.Asked req request n it there fresh sends same) = subst (Says happening) (sym sends) (none_said happening (messages_of _ request) (request_none _ request))
-  by_part happening outcome named known (parts.Told id message client n it found there none same) = subst (Says happening) (sym none) tt
-  by_part happening outcome named known (parts.Rested none same) = subst (Says happening) (sym none) tt
+      (hears id message found to ((subst (λ h. HearsNamed moment h old × HearsWithin h old) it within).0 message found to) (subst (λ h. HearsNamed moment h old × HearsWithin h old) it within) (subst PlainAt it plain) old.nodes.master turn place refl (ap (λ (n : Nodes D). n.master) same) does (subst Known it known)))
+  by_part happening outcome within plain known (parts.Ticked turn place it does tells same) =
+      subst (λ h. Says h (sent_by outcome)) (sym it) (subst (Says T) (sym (ap sent_by tells)) (ticks (subst (λ h. HearsNamed moment h old × HearsWithin h old) it within) (subst PlainAt it plain) old.nodes.master turn place refl (ap (λ (n : Nodes D). n.master) same) does (subst Known it known)))
+  by_part happening outcome within plain known (parts.Opened turn place it does tells same) = subst (Says happening) (sym (ap sent_by tells)) (reopens_said happening old.nodes.config old.nodes.master turn place does)
+  by_part happening outcome within plain known (parts.Armed disk call it none same) = subst (Says happening) (sym none) tt
+  by_part happening outcome within plain known (parts.Served by clients master) = none_said happening (sent_by outcome) (servers_none (sent_by outcome) by)
+  by_part happening outcome within plain known (parts.Asked req request n it there fresh sends same) = subst (Says happening) (sym sends) (none_said happening (messages_of _ request) (request_none _ request))
+  by_part happening outcome within plain known (parts.Told id message client n it found there none same) = subst (Says happening) (sym none) tt
+  by_part happening outcome within plain known (parts.Rested none same) = subst (Says happening) (sym none) tt
 
-pub sent_plain : NewCallsDoAsAnswered → {D : Type 0} (x : Setup D) → SentAreAsPlain x
-sent_plain law x old new a b event said r moves h =
-    by_part law x old new a b event.moment moves.told (λ m at. has_at x old a m law r at) event.happening h.outcome (step_within x r.begins.given (Comes event) old new (reached_well x old a r) moves.steps).0
-    (λ m at. replies_plain law x old new a b (Comes event) m r moves at) (part_of x.seen x.failures x.armed old event.moment event.happening h.by h.outcome new.nodes h.at)
+pub sent_plain : NewCallsDoAsAnswered → HaveSizes → AreNumbered → {D : Type 0} (x : Setup D) → EachIsOfAPrepare x → GivesSettledBack x → GivesNoOtherBack x → PutWereTold x → SentAreAsPlain x
+sent_plain law sizes edits x of_prepare settled_back no_other were_told old new a b event said r moves h =
+    by_part law x r.begins.given old new a b event.moment moves.told (λ m at. has_at x old a m law r at) event.happening h.outcome (step_within x r.begins.given (Comes event) old new (reached_well x old a r) moves.steps)
+    (λ w. turn_there sizes edits x of_prepare settled_back no_other (Comes event) old new a b r moves were_told w) (λ m at. replies_plain law x old new a b (Comes event) m r moves at) (part_of x.seen x.failures x.armed old event.moment event.happening h.by h.outcome new.nodes h.at)

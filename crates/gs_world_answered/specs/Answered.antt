@@ -66,17 +66,19 @@ AtStep step old a m req result = IsReplyAsPlain m a (records_at step old) (momen
 
 -- ---- what is really sent
 
--- The turn was done: so these of its records stand, all or all but a checkpoint. A master of which a disk had failed has none.
-pub record StandsWhole {D : Type 0} (step : Step) (old : History D) (a b : Account) : Type 0 where
+-- The turn was done: so these of its records stand, all or all but a checkpoint. And the plain machine goes on by them: its commands that edit no text are those that they say.
+pub record StandsWhole {D : Type 0} (size : ℕ) (step : Step) (old new : History D) (a b : Account) : Type 0 where
   pub these : List PlainEntry
   pub all : IsAllBut (records_at step old) these
   pub stand : replayed a.durable these ≡ Some b.durable
+  pub goes : IsPlainStep size step old new a b
+  pub commands : filter_map but_edit goes.commands ≡ filter_map command_of (records_at step old)
 
 -- it is what the turn of the step says; or it refuses the call that comes, since a disk fails at the turn, or no master stands
-pub data IsSentAsPlain {D : Type 0} (step : Step) (old : History D) (a b : Account) (req : ReqId) (result : Result Answer Refusal) : Type 0 where
-  OfTurn : (m : MasterOf D) → old.nodes.master ≡ Standing m → AtStep step old a m req result → (is_sound_at old.nodes.master ≡ true → StandsWhole step old a b) → IsSentAsPlain step old a b req result
-  Unsure : (call : Call) → heard_at step old ≡ Some (bodies.Call req call) → result ≡ Err refusals.Unsure → IsSentAsPlain step old a b req result
-  Closed : (call : Call) → heard_at step old ≡ Some (bodies.Call req call) → result ≡ Err refusals.Device → is_sound_at old.nodes.master ≡ false → IsSentAsPlain step old a b req result
+pub data IsSentAsPlain {D : Type 0} (size : ℕ) (step : Step) (old new : History D) (a b : Account) (req : ReqId) (result : Result Answer Refusal) : Type 0 where
+  OfTurn : (m : MasterOf D) → old.nodes.master ≡ Standing m → AtStep step old a m req result → (is_sound_at old.nodes.master ≡ true → StandsWhole size step old new a b) → IsSentAsPlain size step old new a b req result
+  Unsure : (call : Call) → heard_at step old ≡ Some (bodies.Call req call) → result ≡ Err refusals.Unsure → IsSentAsPlain size step old new a b req result
+  Closed : (call : Call) → heard_at step old ≡ Some (bodies.Call req call) → result ≡ Err refusals.Device → is_sound_at old.nodes.master ≡ false → IsSentAsPlain size step old new a b req result
 
 module _ {D : Type 0} (x : Setup D) where
   -- ---- what is to hold
@@ -89,9 +91,9 @@ module _ {D : Type 0} (x : Setup D) where
   -- and each that is really sent
   abbrev pub SentAreAsPlain : Type 0
   SentAreAsPlain = (old new : History D) (a b : Account) (event : Event) (said : Result (Unit {0}) Refusal) → IsReached x old a → Moves x (Comes event) old a new b → (h : Happens x.seen x.failures x.armed event old said new) →
-      AllByRecursion (λ (message : Message). RepliesSo (IsSentAsPlain (Comes event) old a b) message.body) (sent_by h.outcome)
+      AllByRecursion (λ (message : Message). RepliesSo (IsSentAsPlain x.config.chunk (Comes event) old new a b) message.body) (sent_by h.outcome)
 
-  -- The commands of the plain machine's step that edit no text are those that the records say, where all stand, but perhaps a checkpoint.
+  -- So of each step of the plain machine that is given: its commands that edit no text are those that the records say, where it goes by all of them, but perhaps a checkpoint.
   abbrev pub CommandsAreOfRecords : Type 0
   CommandsAreOfRecords = (old new : History D) (a b : Account) (step : Step) (p : IsPlainStep x.config.chunk step old new a b) → IsAllBut (records_at step old) (take p.written (records_at step old)) →
       filter_map but_edit p.commands ≡ filter_map command_of (records_at step old)

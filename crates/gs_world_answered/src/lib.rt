@@ -4,16 +4,25 @@
 ghost use Rattle.gs_world_answered.specs.Answered.{CommandsAreOfRecords, RepliesAreAsPlain, SentAreAsPlain};
 ghost use Rattle.gs_world_chunks.specs.Running.{Setup};
 
+use gs_block::promises::configurations_have_sizes;
 use gs_master_plain::calls_of_the_tree_do_what_they_answer;
+use gs_server_laws::a_message_edits_a_replica_by_what_it_says;
+use gs_world_chunks::{a_rollback_gives_back_what_was_settled, each_rollback_is_of_a_prepare};
+use gs_world_plain::copies_were_told_to_be_such;
 
 /// In each run of a store, whatever disks of its master fail, each reply that the turn of a step says to a call of the tree is what the plain tree answers, whatever texts the chunks have, or a refusal by the store: to a call
 /// that comes by the names of the plain view, and to a snapshot that has waited by those to which the records of the step lead that stand before its own. The records say the command that the call is, where it is accepted, and no other
-/// is for it; where it is refused none is. Or it is a reply that is kept, given once more. So is each reply that is really sent, and then the records of its turn stand; or it refuses the call that comes, since a disk fails at the turn,
-/// or since no master stands. And where the plain machine goes on at the step by all these records, its commands that edit no text are those that they say.
+/// is for it; where it is refused none is. Or it is a reply that is kept, given once more. So is each reply that is really sent; and then the records of its turn stand, and the plain machine goes on at the step by them: its commands
+/// that edit no text are those that they say. Or such a reply refuses the call that comes, since a disk fails at the turn, or since no master stands. And so of each step of the plain machine that goes by all records.
 pub fn replies_are_the_plain_machines<D>()
     ensures replies { (x : Setup D) → RepliesAreAsPlain x }
     ensures sent { (x : Setup D) → SentAreAsPlain x }
     ensures commands { (x : Setup D) → CommandsAreOfRecords x }
 {
     calls_of_the_tree_do_what_they_answer();
+    configurations_have_sizes();
+    a_message_edits_a_replica_by_what_it_says();
+    each_rollback_is_of_a_prepare::<D>();
+    a_rollback_gives_back_what_was_settled::<D>();
+    copies_were_told_to_be_such::<D>();
 }

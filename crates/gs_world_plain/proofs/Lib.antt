@@ -3,14 +3,14 @@ mod Ending
 mod Beginning
 mod Runs
 mod Machine
-mod Writing
+pub mod Writing
 mod Unleased
 mod Onward
 mod Shapes
 mod Undone
 mod Shared
 mod Committed
-mod Stepped
+pub mod Stepped
 mod Unlisted
 mod Fresh
 mod Copies

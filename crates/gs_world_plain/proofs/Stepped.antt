@@ -48,7 +48,7 @@ use Rattle.gs_world_plain.proofs.Ending.{commits_lead, committed_is, committed_n
 use Rattle.gs_world_plain.proofs.Onward.{grows, had, has, kept_before, kept_behind, none_new}
 use Rattle.gs_world_plain.proofs.Shapes.{all_keep_texts, all_within, commit_is_back, finalize_ends, go_taken, none_begins, none_is_back, prepare_begins, same_phase_over, then_replays}
 use Rattle.gs_world_plain.proofs.Shared.{alone_within}
-use Rattle.gs_world_plain.proofs.Writing.{Keeps, Turns, Writes, writes}
+use Rattle.gs_world_plain.proofs.Writing.{Keeps, Turns, Writes, writes, WritesTurn}
 use Rattle.gs_world_plain.proofs.Cut.{CutLeaves, Leads, Scanned, cut_leaves, taken, taken_of}
 use Rattle.gs_world_plain.proofs.Scans.{OfScan, of_scan}
 use Rattle.gs_world_lift.proofs.CutRows.{is_silent}
@@ -122,6 +122,17 @@ module _ (sizes : HaveSizes) (law : AreNumbered) {D : Type 0} (x : Setup D) (of_
     grows = λ chunk goes_on listed. grows sizes law x step old new a b r moves chunk listed goes_on;
   }
 
+  -- a plain step, of all records where no disk has failed behind it, but perhaps for a checkpoint
+  abbrev Covers : ℕ → Type 0
+  Covers many = is_sound_at new.nodes.master ≡ true → IsAllBut (records_at step old) (take many (records_at step old))
+
+  abbrev pub PlainWith : Type 0
+  PlainWith = (p : IsPlainStep size step old new a b) × (is_sound_at new.nodes.master ≡ true → IsAllBut (records_at step old) (take p.written (records_at step old)))
+
+  plain_with : (many : ℕ) → Covers many → replayed a.durable (take many (records_at step old)) ≡ Some b.durable → (c : AreCommandsOf size a b (take many (records_at step old))) → EndsAs size a b c.commands → PlainWith
+  unfolding plain_by
+  plain_with many covers replays c ends = (plain_by many (λ sound. inr (covers sound)) replays c ends, covers)
+
   -- ---- within an epoch
 
   -- a chunk that is put at the end of a file has no text
@@ -158,8 +169,8 @@ module _ (sizes : HaveSizes) (law : AreNumbered) {D : Type 0} (x : Setup D) (of_
   abbrev PutTexts : List PlainEntry → Type 0
   PutTexts records = rolls_back a.durable b.durable ≡ false → AllByRecursion (OfPut HasTextOf) records
 
-  within : (many : ℕ) → IsWhole many → PutTexts (take many (records_at step old)) → AllByRecursion (IsEntry Two) (take many (records_at step old)) → GoWithin a.durable (take many (records_at step old)) → replayed a.durable (take many (records_at step old)) ≡ Some b.durable → IsPlainStep size step old new a b
-  within many whole puts written go replays =
+  within : (many : ℕ) → PutTexts (take many (records_at step old)) → AllByRecursion (IsEntry Two) (take many (records_at step old)) → GoWithin a.durable (take many (records_at step old)) → replayed a.durable (take many (records_at step old)) ≡ Some b.durable → (c : AreCommandsOf size a b (take many (records_at step old))) × EndsAs size a b c.commands
+  within many puts written go replays =
       let records = take many (records_at step old) in
       let phase = same_phase_over a.durable b.durable records first_kept written go replays in
       let goes_on = none_is_back a.durable b.durable phase in
@@ -174,7 +185,7 @@ module _ (sizes : HaveSizes) (law : AreNumbered) {D : Type 0} (x : Setup D) (of_
         grows = of_places b last_kept (λ chunk. settled_edits a chunk ++ newly_settled a b chunk ≡ settled_edits b chunk) (λ chunk listed. grows sizes law x step old new a b r moves chunk listed goes_on);
         before = before_same (none_begins a.durable b.durable phase);
       }) in
-      plain_by many whole replays leads (within_ends size a b leads.commands phase records all leads.others)
+      (leads, within_ends size a b leads.commands phase records all leads.others)
 
   -- ---- by one record
 
@@ -240,38 +251,38 @@ module _ (sizes : HaveSizes) (law : AreNumbered) {D : Type 0} (x : Setup D) (of_
 
   -- ---- a turn
 
-  by_one : (many : ℕ) (entry : PlainEntry) → entry ∷ [] ≡ take many (records_at step old) → IsAllBut (records_at step old) (entry ∷ []) → replayed a.durable (entry ∷ []) ≡ Some b.durable → (applied a.durable entry ≡ Some b.durable → (c : AreCommandsOf size a b (entry ∷ [])) × EndsAs size a b c.commands) → IsPlainStep size step old new a b
+  by_one : (many : ℕ) (entry : PlainEntry) → entry ∷ [] ≡ take many (records_at step old) → IsAllBut (records_at step old) (entry ∷ []) → replayed a.durable (entry ∷ []) ≡ Some b.durable → (applied a.durable entry ≡ Some b.durable → (c : AreCommandsOf size a b (entry ∷ [])) × EndsAs size a b c.commands) → PlainWith
   by_one many entry is but replays leads =
       let by_records = subst (λ records. (c : AreCommandsOf size a b records) × EndsAs size a b c.commands) is (leads (one_applies a.durable b.durable entry replays)) in
-      plain_by many (λ sound. inr (subst (IsAllBut (records_at step old)) is but)) (ap (replayed a.durable) (sym is) ∙ replays) by_records.0 by_records.1
+      plain_with many (λ sound. subst (IsAllBut (records_at step old)) is but) (ap (replayed a.durable) (sym is) ∙ replays) by_records.0 by_records.1
 
   -- nothing stands
   none_stands : a.durable ≡ b.durable → IsPlainStep size step old new a b
-  none_stands same = within 0 (λ sound. inl refl) (λ goes_on. tt) tt tt (ap Some same)
+  none_stands same = (let c = within 0 (λ goes_on. tt) tt tt (ap Some same) in plain_by 0 (λ sound. inl refl) (ap Some same) c.0 c.1)
 
   -- so many records stand of one
-  one_or_none : (many all : ℕ) (entry : PlainEntry) → entry ∷ [] ≡ take all (records_at step old) → IsAllBut (records_at step old) (entry ∷ []) → replayed a.durable (take many (entry ∷ [])) ≡ Some b.durable → (applied a.durable entry ≡ Some b.durable → (c : AreCommandsOf size a b (entry ∷ [])) × EndsAs size a b c.commands) → IsPlainStep size step old new a b
-  one_or_none zero all entry is but stands leads = none_stands (durable_is stands)
-  one_or_none (suc zero) all entry is but stands leads = by_one all entry is but stands leads
-  one_or_none (suc (suc many)) all entry is but stands leads = by_one all entry is but stands leads
+  one_or_none : (many all : ℕ) (entry : PlainEntry) → entry ∷ [] ≡ take all (records_at step old) → IsAllBut (records_at step old) (entry ∷ []) → (is_sound_at new.nodes.master ≡ true → many ≡ length (entry ∷ [])) → replayed a.durable (take many (entry ∷ [])) ≡ Some b.durable → (applied a.durable entry ≡ Some b.durable → (c : AreCommandsOf size a b (entry ∷ [])) × EndsAs size a b c.commands) → PlainWith
+  one_or_none zero all entry is but whole stands leads = (none_stands (durable_is stands), λ sound. absurd (let none = whole sound in omega arith))
+  one_or_none (suc zero) all entry is but whole stands leads = by_one all entry is but stands leads
+  one_or_none (suc (suc many)) all entry is but whole stands leads = by_one all entry is but stands leads
 
-  by_move : (many all : ℕ) (config : _) (s : State) (move : Move) → is_bound move ≡ true → (move_turn config s move).records ≡ take all (records_at step old) → IsAllBut (records_at step old) (move_turn config s move).records → AllByRecursion (IsEntry Two) (move_turn config s move).records → replayed a.durable (take many (move_turn config s move).records) ≡ Some b.durable → IsPlainStep size step old new a b
-  by_move many all config s (Prepares req moment) bound is but written stands =
-      one_or_none many all _ is but stands (λ applies. (let c = prepared _ _ _ written.0 applies in (c, prepare_ends size a b c.commands _ _ _ applies c.others (kept_then _ _ _ applies))))
-  by_move many all config s (Finalizes req) bound is but written stands = one_or_none many all _ is but stands (λ applies. (let c = finalized _ written.0 applies in (c, finalize_ends_as size a b c.commands _ applies)))
-  by_move many all config s (CommitsRollback req names) bound is but written stands =
-      one_or_none many all _ is but stands (λ applies. (let c = rolled_back _ _ written.0 applies in (c, commit_ends size a b c.commands _ _ first_kept applies c.others (restored_then _ _ applies))))
-  by_move many all config s move bound is but written stands = absurd (false≢true bound)
+  by_move : (many all : ℕ) (config : _) (s : State) (move : Move) → is_bound move ≡ true → (move_turn config s move).records ≡ take all (records_at step old) → IsAllBut (records_at step old) (move_turn config s move).records → AllByRecursion (IsEntry Two) (move_turn config s move).records → (is_sound_at new.nodes.master ≡ true → many ≡ length (move_turn config s move).records) → replayed a.durable (take many (move_turn config s move).records) ≡ Some b.durable → PlainWith
+  by_move many all config s (Prepares req moment) bound is but written whole stands =
+      one_or_none many all _ is but whole stands (λ applies. (let c = prepared _ _ _ written.0 applies in (c, prepare_ends size a b c.commands _ _ _ applies c.others (kept_then _ _ _ applies))))
+  by_move many all config s (Finalizes req) bound is but written whole stands = one_or_none many all _ is but whole stands (λ applies. (let c = finalized _ written.0 applies in (c, finalize_ends_as size a b c.commands _ applies)))
+  by_move many all config s (CommitsRollback req names) bound is but written whole stands =
+      one_or_none many all _ is but whole stands (λ applies. (let c = rolled_back _ _ written.0 applies in (c, commit_ends size a b c.commands _ _ first_kept applies c.others (restored_then _ _ applies))))
+  by_move many all config s move bound is but written whole stands = absurd (false≢true bound)
 
   -- of a turn so many records stand
   by_pace : (many all : ℕ) (config : _) (heard : Heard) (s : State) (t : Turn) → PutTexts (take many t.records) → Paced config heard s t → s.durable ≡ a.durable → t.records ≡ take all (records_at step old) → IsAllBut (records_at step old) t.records → (is_sound_at new.nodes.master ≡ true → many ≡ length t.records) → AllByRecursion (IsEntry Two) t.records → many ≤ length t.records
-      → replayed a.durable (take many t.records) ≡ Some b.durable → IsPlainStep size step old new a b
+      → replayed a.durable (take many t.records) ≡ Some b.durable → PlainWith
   by_pace many all config heard s t puts (Goes u v chain) first is but whole written low stands =
       let same : take many v.records ≡ take many (records_at step old) = taken_of many all v.records (records_at step old) is low in
-      let so : IsWhole many = λ sound. inr (subst (IsAllBut (records_at step old)) (sym (ap (λ n. take n v.records) (whole sound) ∙ take_all (length v.records) v.records (omega arith)) ∙ same) but) in
-      within many so (subst PutTexts same puts) (subst (AllByRecursion (IsEntry Two)) same (taken (IsEntry Two) many v.records written))
-      (subst (GoWithin a.durable) same (go_taken a.durable v.records many (subst (λ d. GoWithin d v.records) first (chain_within config heard u v chain written).0))) (ap (replayed a.durable) (sym same) ∙ stands)
-  by_pace many all config heard s t puts (Bounds u move said made bound) first is but whole written low stands = by_move many all config u move bound is but written stands
+      let so : Covers many = λ sound. subst (IsAllBut (records_at step old)) (sym (ap (λ n. take n v.records) (whole sound) ∙ take_all (length v.records) v.records (omega arith)) ∙ same) but in
+      let c = within many (subst PutTexts same puts) (subst (AllByRecursion (IsEntry Two)) same (taken (IsEntry Two) many v.records written))
+      (subst (GoWithin a.durable) same (go_taken a.durable v.records many (subst (λ d. GoWithin d v.records) first (chain_within config heard u v chain written).0))) (ap (replayed a.durable) (sym same) ∙ stands) in plain_with many so (ap (replayed a.durable) (sym same) ∙ stands) c.0 c.1
+  by_pace many all config heard s t puts (Bounds u move said made bound) first is but whole written low stands = by_move many all config u move bound is but written whole stands
 
   -- ---- a copy that takes the place of a chunk
 
@@ -380,13 +391,18 @@ module _ (sizes : HaveSizes) (law : AreNumbered) {D : Type 0} (x : Setup D) (of_
   cut_puts m heard records at first told (Scanned removed forgotten many well are fit) goes_on =
       subst (AllByRecursion (OfPut HasTextOf)) (sym are) (taken (OfPut HasTextOf) many (map (Edited own_request) (scan_edits removed forgotten)) (scan_put HasTextOf (scan_edits removed forgotten) (of_scan removed forgotten)))
 
+  -- by a turn
+  pub turn_there : WritesTurn (records_at step old) old.nodes.master new.nodes.master a.durable b.durable → PlainWith
+  turn_there w =
+      let well = once_stands w.m.config w.heard w.m.state w.t w.turn w.written (subst IsKept (sym w.first) first_kept) in
+      let cut = cut_leaves w.m.config w.heard w.m.state w.t w.many b.durable well.turn w.low (ap (λ d. replayed d (take w.many w.t.records)) w.first ∙ w.stands) in
+      let told = subst (AllByRecursion ToldPut) (sym (taken_of w.many w.all w.t.records (records_at step old) w.are w.low)) (take_told w.many (records_at step old) (were_told old new a b step r moves)) in
+      by_pace w.many w.all w.m.config w.heard w.m.state w.t (cut_puts w.m w.heard (take w.many w.t.records) w.at w.first told cut) (paced w.m.config w.heard w.m.state w.t w.turn) w.first w.are w.but w.whole w.written w.low w.stands
+
   same_there : Writes (records_at step old) old.nodes.master new.nodes.master a.durable b.durable → IsPlainStep size step old new a b
   same_there (Keeps same) = none_stands (sym same)
   same_there (Turns m heard t many all at first turn written low stands are but whole) =
-      let well = once_stands m.config heard m.state t turn written (subst IsKept (sym first) first_kept) in
-      let cut = cut_leaves m.config heard m.state t many b.durable well.turn low (ap (λ d. replayed d (take many t.records)) first ∙ stands) in
-      let told = subst (AllByRecursion ToldPut) (sym (taken_of many all t.records (records_at step old) are low)) (take_told many (records_at step old) (were_told old new a b step r moves)) in
-      by_pace many all m.config heard m.state t (cut_puts m heard (take many t.records) at first told cut) (paced m.config heard m.state t turn) first are but whole written low stands
+      (turn_there (record { m = m; heard = heard; t = t; many = many; all = all; at = at; first = first; turn = turn; written = written; low = low; stands = stands; are = are; but = but; whole = whole })).0
 
   pub step_plain : IsPlainStep size step old new a b
   step_plain =

@@ -54,6 +54,26 @@ pub data Writes {D : Type 0} (records : List PlainEntry) (old new : MasterPlace 
   Turns : (m : MasterOf D) (heard : Heard) (t : Turn) (many all : ℕ) → as_left old ≡ Standing m → m.state.durable ≡ d → EndsOnce m.config (IsMade m.config heard) m.state t → IsWritten t → many ≤ length t.records → replayed d (take many t.records) ≡ Some e
       → t.records ≡ take all records → IsAllBut records t.records → (is_sound_at new ≡ true → many ≡ length t.records) → Writes records old new d e
 
+-- that it has done a turn
+pub record WritesTurn {D : Type 0} (records : List PlainEntry) (old new : MasterPlace D) (d e : Durable) : Type 0 where
+  pub m : MasterOf D
+  pub heard : Heard
+  pub t : Turn
+  pub many : ℕ
+  pub all : ℕ
+  pub at : as_left old ≡ Standing m
+  pub first : m.state.durable ≡ d
+  pub turn : EndsOnce m.config (IsMade m.config heard) m.state t
+  pub written : IsWritten t
+  pub low : many ≤ length t.records
+  pub stands : replayed d (take many t.records) ≡ Some e
+  pub are : t.records ≡ take all records
+  pub but : IsAllBut records t.records
+  pub whole : is_sound_at new ≡ true → many ≡ length t.records
+
+of_turn : {D : Type 0} (records : List PlainEntry) (old new : MasterPlace D) (d e : Durable) → WritesTurn records old new d e → Writes records old new d e
+of_turn records old new d e w = Turns w.m w.heard w.t w.many w.all w.at w.first w.turn w.written w.low w.stands w.are w.but w.whole
+
 -- ---- lists of records
 
 first_of_both : (xs ys : List PlainEntry) → xs ≡ take (length xs) (xs ++ ys)
@@ -112,13 +132,28 @@ module _ {D : Type 0} (x : Setup D) (given : IsGiven x) where
     left = ap as_left at ∙ left_sound x.seen m sound
 
     abbrev W : List PlainEntry → Type 0
-    W records = Writes records old.nodes.master new d e
+    W records = WritesTurn records old.nodes.master new d e
 
     turns : (heard : Heard) (u : Turn) (all : ℕ) (records : List PlainEntry) → t.records ≡ u.records → EndsOnce m.config (IsMade m.config heard) m.state u → IsWritten u → u.records ≡ take all records → IsAllBut records u.records → W records
     turns heard u all records is once written are but =
-        Turns m heard u many all left same once written (subst (λ (xs : List PlainEntry). many ≤ length xs) is low) (subst (λ (xs : List PlainEntry). replayed d (take many xs) ≡ Some e) is stand) are but (λ sound. whole sound ∙ ap (λ (xs : List PlainEntry). length xs) is)
+        record {
+          m = m;
+          heard = heard;
+          t = u;
+          many = many;
+          all = all;
+          at = left;
+          first = same;
+          turn = once;
+          written = written;
+          low = subst (λ (xs : List PlainEntry). many ≤ length xs) is low;
+          stands = subst (λ (xs : List PlainEntry). replayed d (take many xs) ≡ Some e) is stand;
+          are = are;
+          but = but;
+          whole = λ sound. whole sound ∙ ap (λ (xs : List PlainEntry). length xs) is;
+        }
 
-    by_happening : (moment : Moment) (happening : Happening) → HearsNamed moment happening old × HearsWithin happening old → TurnsOf moment happening old m t → W (records_at (Comes (record { moment = moment; happening = happening })) old)
+    pub by_happening : (moment : Moment) (happening : Happening) → HearsNamed moment happening old × HearsWithin happening old → TurnsOf moment happening old m t → W (records_at (Comes (record { moment = moment; happening = happening })) old)
     by_happening moment (happenings.Deliver id) within (message, found, to, is) =
         let named = within.0 message found to in
         let low_body : IsHeardBody m.state.durable.names message.body = subst (λ p. IsHeardAt p message.body) at (within.1 message found to) in
@@ -148,7 +183,8 @@ module _ {D : Type 0} (x : Setup D) (given : IsGiven x) where
   by_part step old new d e well within has (inl same) all = Keeps same
   by_part (Comes event) old new d e well within has (inr part) all =
       let left = ap as_left part.place ∙ left_sound x.seen part.master part.sound in
-      by_happening old part.master part.turn part.many d e part.place part.sound (subst (LastsSteady x.seen) left (well_steady x old well)) (subst (λ p. HasDurable x.seen p d) left has) part.within part.stand new all event.moment event.happening within part.made
+      of_turn (records_at (Comes event) old) old.nodes.master new d e
+      (by_happening old part.master part.turn part.many d e part.place part.sound (subst (LastsSteady x.seen) left (well_steady x old well)) (subst (λ p. HasDurable x.seen p d) left has) part.within part.stand new all event.moment event.happening within part.made)
   by_part (Takes client) old new d e well within has (inr part) all = absurd part.made
 
   -- so it is of each step, of what the disks told before it and tell behind it
