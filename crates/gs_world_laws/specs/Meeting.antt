@@ -1,6 +1,6 @@
 -- What a script meets: a store without its disks as it is seen of a way, the ways that are met, and what is taken of them: that their masters are
 -- steady, and what they hear is within its types.
-use Rattle.std.specs.Prelude.{◌≡◌, ◌≢◌, ◌⊎◌, ◌≤◌, ◌+◌, ℕ, true, false, List, [], ◌∷◌, map, Option, Some}
+use Rattle.std.specs.Prelude.{◌≡◌, ◌≢◌, ◌⊎◌, ◌≤◌, ◌+◌, ℕ, true, false, List, [], ◌∷◌, map, Some}
 use Rattle.std.specs.List.{AllByRecursion}
 use Rattle.gs_base.specs.Told.{IsNumber}
 use Rattle.gs_base.specs.declared.config.Config.{Config}
@@ -35,7 +35,6 @@ use Rattle.gs_world.specs.Lasting.{StandsFirm, failures_at}
 use Rattle.gs_world.specs.Runs.{Goes, Step, Comes, Takes}
 use Rattle.gs_world.specs.Sent.{IsSent, Sent}
 use Rattle.gs_shell_script.specs.Run.{memory_text}
-use Rattle.gs_shell.specs.Serving.{Serves}
 use Rattle.gs_master_spec.specs.Applied.{records_behind}
 use Rattle.gs_master_spec.specs.State.{State}
 use Rattle.gs_nodes.specs.Nodes.{Nodes}
