@@ -1,15 +1,12 @@
 -- What scripts of lines of the tree and of an upgrade are answered.
-use Rattle.std.specs.Prelude.{[], ◌+◌, ◌++◌, ◌∷◌, ◌≡◌, ◌≢◌, List, Option, Some, false, take, true, ℕ}
+use Rattle.std.specs.Prelude.{[], ◌+◌, ◌++◌, ◌∷◌, ◌≡◌, ◌≢◌, List, Option, Some, take, true, ℕ}
 use Rattle.std.specs.List.{AllByRecursion}
 use Rattle.gs_base.specs.Refusals.{refusal_text}
 use Rattle.gs_base.specs.declared.config.Config.{Config}
 use Rattle.gs_base.specs.declared.refusal.Refusal.TheVariants as refusals
 use Rattle.gs_shell.specs.Serving.{Serves, StopsServing}
-use Rattle.gs_shell_desk.specs.Ways.{way_of}
-use Rattle.gs_shell_desk.specs.declared.desk.Desk.{Desk}
-use Rattle.gs_shell_script.specs.Run.{lines_of, memory_text}
+use Rattle.gs_shell_script.specs.Run.{lines_of}
 use Rattle.gs_shell_script.specs.declared.RunFault.TheVariants as fault
-use Rattle.gs_world.specs.Lasting.{failures_at}
 use Rattle.gs_world_laws.specs.Meeting.{WentWell}
 use Rattle.gs_shell_plain.specs.Machines.{is_plain_line, machine_answers, new_machine}
 

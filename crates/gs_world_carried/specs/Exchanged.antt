@@ -8,8 +8,6 @@ use Rattle.gs_base.specs.declared.numbers.ReqId.{ReqId}
 use Rattle.gs_client.specs.Nodes.{Node}
 use Rattle.gs_client.specs.declared.link.Reply.{Reply}
 use Rattle.gs_client.specs.declared.link.Reply.TheVariants as replies
-use Rattle.gs_msg.specs.declared.event.Event.{Event}
-use Rattle.gs_msg.specs.declared.event.Happening.TheVariants as happenings
 use Rattle.gs_msg.specs.declared.event.Request.{Request}
 use Rattle.gs_nodes.specs.Happenings.{client_in}
 use Rattle.gs_shell_desk.specs.Ways.{Carries, Way}
