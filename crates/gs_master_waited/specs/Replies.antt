@@ -42,11 +42,11 @@ abbrev pub is_other_wait : Waiting → Bool
 is_other_wait (waits.Snapshot from to) = false
 is_other_wait waiting = true
 
--- Where this is heard, if anything is: a reply is to the call of the tree that comes, and so; or to a snapshot that has waited, and so; or it is one that is kept, once more; or it is to a call that isn't of the tree, which comes, or has waited.
+-- Where this is heard, if anything is: a reply is to the call of the tree that comes, and so; or to a snapshot that has waited, and so; or it is one that is kept, once more, to a call that comes again; or it is to a call that isn't of the tree, which comes, or has waited.
 pub data IsAsPlain (s : State) (t : Turn) (moment : Moment) (heard : Option Body) (req : ReqId) (result : Result Answer Refusal) : Type 0 where
   Came : (call : Call) → heard ≡ Some (bodies.Call req call) → ComesPlainly s t moment req call result → IsAsPlain s t moment heard req result
   HadWaited : (from to : Path) → WaitsSo s req (waits.Snapshot from to) → GoesOnPlainly s t req from to result → IsAsPlain s t moment heard req result
-  Again : WasKept s req result → IsAsPlain s t moment heard req result
+  Again : (call : Call) → heard ≡ Some (bodies.Call req call) → WasKept s req result → IsAsPlain s t moment heard req result
   OtherCame : (call : Call) → heard ≡ Some (bodies.Call req call) → is_of_tree call ≡ false → IsAsPlain s t moment heard req result
   OtherWaited : (waiting : Waiting) → WaitsSo s req waiting → is_other_wait waiting ≡ true → IsAsPlain s t moment heard req result
 

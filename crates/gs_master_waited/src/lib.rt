@@ -2,7 +2,7 @@
 #![tactic(auto)]
 
 ghost use Rattle.gs_master_waited.specs.Replies.{MessagesReplyAsPlain, TicksReplyAsPlain};
-ghost use Rattle.gs_master_waited.specs.Steady.{MessagesReplyPlainly, TicksReplyPlainly};
+ghost use Rattle.gs_master_waited.specs.Steady.{MessagesAreMeek, MessagesReplyPlainly, TicksAreMeek, TicksReplyPlainly};
 ghost use Rattle.gs_master_waited.specs.Waited.{MessagesAnswerWaited, TicksAnswerWaited};
 
 use gs_master_plain::calls_of_the_tree_do_what_they_answer;
@@ -15,7 +15,7 @@ pub fn snapshots_that_waited_are_answered_plainly()
 {}
 
 /// So each reply of an event, whoever gets it: it is what the plain tree answers to the call of the tree that comes, or to a snapshot that has waited, with the command that its records say, or a refusal by the store; or it is
-/// kept, and given once more; or it is to a call that isn't of the tree.
+/// kept, and given once more to a call that comes again; or it is to a call that isn't of the tree.
 pub fn replies_to_calls_of_the_tree_are_plain()
     ensures messages { MessagesReplyAsPlain }
     ensures ticks { TicksReplyAsPlain }
@@ -24,10 +24,12 @@ pub fn replies_to_calls_of_the_tree_are_plain()
 }
 
 /// A master whose state stands, as it does in each run, has the counts of chunks that its tree has, and no snapshot that waits names anything hidden: so each of its replies is such, by what is durable and by what the records of its
-/// event lead to. So is each of one of which a disk has failed: that answers no more than that, or what it keeps.
+/// event lead to. So is each of one of which a disk has failed: that records nothing, and replies to nobody but the call that comes, which it refuses, or to which it gives what it keeps.
 pub fn a_master_that_stands_replies_plainly()
     ensures messages { MessagesReplyPlainly }
     ensures ticks { TicksReplyPlainly }
+    ensures failed { MessagesAreMeek }
+    ensures failed_ticks { TicksAreMeek }
 {
     calls_of_the_tree_do_what_they_answer();
 }
