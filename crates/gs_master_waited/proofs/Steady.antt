@@ -1,7 +1,7 @@
 -- Each reply of a master whose state stands, or of which a disk has failed.
 use Rattle.std.proofs.Common.{◌≡◌, ◌⊎◌, inl, inr, ◌∙◌, ◌&&◌, ◌||◌, ◌++◌, ℕ, Bool, true, false, not, List, [], ◌∷◌, length, refl, ap, sym, subst, arith}
 use Rattle.std.specs.Prelude.{filter_map, is_some, option_and_then, take, unwrap_or, Option, Some, None, Result, Ok, Err, if◌then◌else◌}
-use Rattle.std.specs.List.{AllByRecursion, list_any}
+use Rattle.std.specs.List.{AllByRecursion, list_all, list_any}
 use Rattle.std.proofs.Math.Seq.{take-append_seam}
 use Rattle.std.proofs.lemmas.Bool.{false≢true}
 use Rattle.gs_base.specs.declared.config.Config.{Config}
@@ -42,7 +42,7 @@ use Rattle.gs_master_spec.specs.declared.pending.Waiting.TheVariants as waits
 use Rattle.gs_master_waited.proofs.Coming.{kept_is}
 use Rattle.gs_master_waited.proofs.Replying.{messages_reply, ticks_reply}
 use Rattle.gs_master_waited.specs.Replies as replies
-use Rattle.gs_master_waited.specs.Replies.{IsAsPlain, RepliesAsPlain, WasKept}
+use Rattle.gs_master_waited.specs.Replies.{IsAsPlain, RepliesAsPlain, WasKept, is_its_own}
 use Rattle.gs_master_waited.specs.Steady as steady
 use Rattle.gs_master_waited.specs.Steady.{ArePlainReplies, IsMeek, IsMeekReply, IsPlainCall, IsPlainReply, MessagesAreMeek, MessagesReplyPlainly, TicksAreMeek, TicksReplyPlainly}
 use Rattle.gs_master_waited.specs.Waited.{GoesOnPlainly, IsAmong, RepliesSo, WaitsSo, led, made_by}
@@ -94,7 +94,7 @@ module _ (s : State) (t : Turn) (moment : Moment) (heard : Option Body) (counted
       stands = kept (length goes.before) (led s.durable goes.before) (ap (λ xs. replayed s.durable (take (length goes.before) xs)) goes.parts ∙ ap (replayed s.durable) (take-append_seam goes.before rest) ∙ fit)
 
   reply : (req : ReqId) (result : Result Answer Refusal) → IsAsPlain s t moment heard req result → IsPlainReply s.durable s t.records moment heard req result
-  reply req result (replies.Came call is comes) = steady.Came call is (record { tree = comes.tree; plainly = λ text plain said. comes.plainly text plain counted said; does = comes.does })
+  reply req result (replies.Came call is comes) = steady.Came call is (record { tree = comes.tree; plainly = λ text plain said. comes.plainly text plain counted said; does = comes.does; own = comes.own })
   reply req result (replies.HadWaited from to waiting goes) = steady.HadWaited from to waiting (copied req from to result waiting goes)
   reply req result (replies.Again call is was) = steady.Again call is was
   reply req result (replies.OtherCame call is other) = steady.OtherCame call is other
@@ -162,7 +162,7 @@ tick_meek s moment failed =
 module _ (d : Durable) (s : State) (moment : Moment) (heard : Option Body) where
   meek_call : (records : List PlainEntry) (req : ReqId) (call : Call) (result : Result Answer Refusal) → records ≡ [] → is_of_tree call ≡ true → is_refused_by_store result ≡ true → IsPlainCall d s records moment req call result
   meek_call records req call (Ok answer) none tree refused = absurd (false≢true refused)
-  meek_call records req call (Err refusal) none tree refused = record { tree = tree; plainly = λ text plain said. inl refused; does = ap (filter_map command_of) none }
+  meek_call records req call (Err refusal) none tree refused = record { tree = tree; plainly = λ text plain said. inl refused; does = ap (filter_map command_of) none; own = ap (list_all (is_its_own req)) none }
 
   meek_plain : (records : List PlainEntry) → records ≡ [] → (req : ReqId) (result : Result Answer Refusal) → IsMeekReply s heard req result → IsPlainReply d s records moment heard req result
   meek_plain records none req result (call, is, inr kept) = steady.Again call is kept

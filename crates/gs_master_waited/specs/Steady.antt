@@ -2,7 +2,7 @@
 use Rattle.std.specs.Prelude.{[], ◌++◌, ◌∷◌, ◌≡◌, ◌⊎◌, Err, List, None, Option, Result, Some, codes, false, filter_map, refl, true, ℕ}
 use Rattle.std.proofs.Common.{inl}
 use Rattle.std.specs.FinMap as fin
-use Rattle.std.specs.List.{AllByRecursion}
+use Rattle.std.specs.List.{AllByRecursion, list_all}
 use Rattle.gs_base.specs.declared.config.Config.{Config}
 use Rattle.gs_base.specs.declared.numbers.Moment.{Moment}
 use Rattle.gs_base.specs.declared.numbers.ReqId.{ReqId}
@@ -29,20 +29,21 @@ use Rattle.gs_master_spec.specs.Handling.{handle, tick}
 use Rattle.gs_master_spec.specs.State.{State, Turn, is_failed}
 use Rattle.gs_master_spec.specs.declared.pending.Waiting.{Waiting}
 use Rattle.gs_master_spec.specs.declared.pending.Waiting.TheVariants as waits
-use Rattle.gs_master_waited.specs.Replies.{WasKept, is_other_wait}
+use Rattle.gs_master_waited.specs.Replies.{WasKept, is_its_own, is_other_wait}
 use Rattle.gs_master_waited.specs.Waited.{EditsNone, RepliesSo, WaitsSo, made_by}
 
 -- To a call, by names, at a moment, and with this number for what is hidden next: what the plain tree answers, whatever texts the chunks have, or a refusal of which that knows nothing.
 abbrev pub IsPlainly : NamesView → (moment number : ℕ) → Call → Result Answer Refusal → Type 0
 IsPlainly names moment number call result = (text : ℕ → List ℕ) (plain : Result Answer Refusal) → plain_answer (mapped_rows text (fin.entries names.tree)) moment number call ≡ Some plain → (is_refused_by_store result ≡ true) ⊎ (result ≡ plain)
 
--- A call of the tree that comes: by what is durable where it comes. The records say the command that it is, or, where it is refused, none.
+-- A call of the tree that comes: by what is durable where it comes. The records say the command that it is, or, where it is refused, none; and each of them is under its number.
 pub record IsPlainCall (d : Durable) (s : State) (records : List PlainEntry) (moment : Moment) (req : ReqId) (call : Call) (result : Result Answer Refusal) : Type 0 where
   pub tree : is_of_tree call ≡ true
   pub plainly : IsPlainly d.names moment.0 d.next_hidden call result
   pub does : filter_map command_of records ≡ done_if (done_by s moment call) result
+  pub own : list_all (is_its_own req) records ≡ true
 
--- A snapshot that has waited: by what the records before its own lead to. Where it is made its own says the command that it is; and no other edits for it.
+-- A snapshot that has waited: where it is made, by what the records before its own lead to, which says the command that it is; where it is refused, by what those up to some place lead to. No other edits for it.
 pub record IsPlainCopy (d : Durable) (records : List PlainEntry) (req : ReqId) (from to : Path) (result : Result Answer Refusal) : Type 0 where
   pub before : List PlainEntry
   pub behind : List PlainEntry

@@ -72,7 +72,7 @@ IsAmong p (q ∷ pending) = (q ≡ p) ⊎ IsAmong p pending
 abbrev pub WaitsSo : State → ReqId → Waiting → Type 0
 WaitsSo s req waiting = IsAmong (record { req = req; waits = waiting }) s.volatile.pending
 
--- Behind the first records of a turn it is answered: as by the names that stand there, where it names nothing hidden. What it records is the command that it is, where it is made; and no other record of the turn is an edit for it.
+-- Behind the first records of a turn it is answered: as by the names that stand there, where it names nothing hidden. What it records is the command that it is, where it is made, and the first are those before it; where it is refused, they are those up to some place. No other record of the turn is an edit for it.
 pub record GoesOnPlainly (s : State) (t : Turn) (req : ReqId) (from to : Path) (result : Result Answer Refusal) : Type 0 where
   pub before : List PlainEntry
   pub behind : List PlainEntry

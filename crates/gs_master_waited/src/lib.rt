@@ -7,14 +7,15 @@ ghost use Rattle.gs_master_waited.specs.Waited.{MessagesAnswerWaited, TicksAnswe
 
 use gs_master_plain::calls_of_the_tree_do_what_they_answer;
 
-/// A snapshot that has waited is answered as the plain tree answers it, by the names that stand behind the records that its event makes before, whatever texts the chunks have, or refused by the store. Where it is made its record says
-/// the command that it is, and no other record of the event edits for it; where it is refused none does. Several may go on in one event, each by what those before it have left.
+/// A snapshot that has waited is answered as the plain tree answers it, by the names that stand behind the first records of its event, whatever texts the chunks have, or refused by the store. Where it is made these are the records
+/// before its own, which says the command that it is, and no other record of the event edits for it; where it is refused they are those up to some place, and none does. Several may go on in one event, each by what those before it have
+/// left.
 pub fn snapshots_that_waited_are_answered_plainly()
     ensures messages { MessagesAnswerWaited }
     ensures ticks { TicksAnswerWaited }
 {}
 
-/// So each reply of an event, whoever gets it: it is what the plain tree answers to the call of the tree that comes, or to a snapshot that has waited, with the command that its records say, or a refusal by the store; or it is
+/// So each reply of an event, whoever gets it: it is what the plain tree answers to the call of the tree that comes, or to a snapshot that has waited, with the command that its records say, each under its number, or a refusal by the store; or it is
 /// kept, and given once more to a call that comes again; or it is to a call that isn't of the tree.
 pub fn replies_to_calls_of_the_tree_are_plain()
     ensures messages { MessagesReplyAsPlain }
