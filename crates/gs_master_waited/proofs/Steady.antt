@@ -45,7 +45,7 @@ use Rattle.gs_master_waited.specs.Replies as replies
 use Rattle.gs_master_waited.specs.Replies.{IsAsPlain, RepliesAsPlain, WasKept, is_its_own}
 use Rattle.gs_master_waited.specs.Steady as steady
 use Rattle.gs_master_waited.specs.Steady.{ArePlainReplies, IsMeek, IsMeekReply, IsPlainCall, IsPlainReply, MessagesAreMeek, MessagesReplyPlainly, TicksAreMeek, TicksReplyPlainly}
-use Rattle.gs_master_waited.specs.Waited.{GoesOnPlainly, IsAmong, RepliesSo, WaitsSo, led, made_by}
+use Rattle.gs_master_waited.specs.Waited.{GoesOnPlainly, IsAmong, RepliesSo, WaitsSo, led}
 
 -- ---- records that fit
 
@@ -76,6 +76,8 @@ module _ (s : State) (t : Turn) (moment : Moment) (heard : Option Body) (counted
   copied req from to result waiting goes = record {
     before = goes.before;
     behind = goes.behind;
+    made = goes.made;
+    is_made = goes.is_made;
     parts = goes.parts;
     none_before = goes.none_before;
     none_behind = goes.none_behind;
@@ -85,7 +87,7 @@ module _ (s : State) (t : Turn) (moment : Moment) (heard : Option Body) (counted
   }
     where
       rest : List PlainEntry
-      rest = made_by req from to result ++ goes.behind
+      rest = goes.made ++ goes.behind
 
       fit : replayed s.durable goes.before ≡ Some (led s.durable goes.before)
       fit = first_fit goes.before rest s.durable t.after.durable (ap (replayed s.durable) (sym goes.parts) ∙ fits)

@@ -30,7 +30,7 @@ use Rattle.gs_master_spec.specs.State.{State, Turn, is_failed}
 use Rattle.gs_master_spec.specs.declared.pending.Waiting.{Waiting}
 use Rattle.gs_master_spec.specs.declared.pending.Waiting.TheVariants as waits
 use Rattle.gs_master_waited.specs.Replies.{WasKept, is_its_own, is_other_wait}
-use Rattle.gs_master_waited.specs.Waited.{EditsNone, RepliesSo, WaitsSo, made_by}
+use Rattle.gs_master_waited.specs.Waited.{IsMadeBy, RepliesSo, TellsNone, WaitsSo}
 
 -- To a call, by names, at a moment, and with this number for what is hidden next: what the plain tree answers, whatever texts the chunks have, or a refusal of which that knows nothing.
 abbrev pub IsPlainly : NamesView → (moment number : ℕ) → Call → Result Answer Refusal → Type 0
@@ -43,13 +43,15 @@ pub record IsPlainCall (d : Durable) (s : State) (records : List PlainEntry) (mo
   pub does : filter_map command_of records ≡ done_if (done_by s moment call) result
   pub own : list_all (is_its_own req) records ≡ true
 
--- A snapshot that has waited: where it is made, by what the records before its own lead to, which says the command that it is; where it is refused, by what those up to some place lead to. No other edits for it.
+-- A snapshot that has waited: by what the records before its own lead to, which says the command that it is, where it is made, and else its refusal; where that isn't recorded, by what those up to some place lead to. No other is for it.
 pub record IsPlainCopy (d : Durable) (records : List PlainEntry) (req : ReqId) (from to : Path) (result : Result Answer Refusal) : Type 0 where
   pub before : List PlainEntry
   pub behind : List PlainEntry
-  pub parts : records ≡ before ++ (made_by req from to result ++ behind)
-  pub none_before : EditsNone req before
-  pub none_behind : EditsNone req behind
+  pub made : List PlainEntry
+  pub is_made : IsMadeBy req from to result made
+  pub parts : records ≡ before ++ (made ++ behind)
+  pub none_before : TellsNone req before
+  pub none_behind : TellsNone req behind
   pub stands : Durable
   pub fits : replayed d before ≡ Some stands
   pub plainly : (moment number : ℕ) → IsPlainly stands.names moment number (calls.Snapshot from to) result
@@ -105,4 +107,4 @@ what_the_store_refuses_is_right_for_each names moment number call text plain is 
 
 -- a copy that is refused by the store at the beginning of its event, where that records nothing
 a_copy_without_room : (d : Durable) (req : ReqId) → IsPlainCopy d [] req f f (Err refusals.Full)
-a_copy_without_room d req = record { before = []; behind = []; parts = refl; none_before = refl; none_behind = refl; stands = d; fits = refl; plainly = λ moment number text plain is. inl refl }
+a_copy_without_room d req = record { before = []; behind = []; made = []; is_made = inl refl; parts = refl; none_before = refl; none_behind = refl; stands = d; fits = refl; plainly = λ moment number text plain is. inl refl }

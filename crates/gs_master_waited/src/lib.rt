@@ -7,9 +7,9 @@ ghost use Rattle.gs_master_waited.specs.Waited.{MessagesAnswerWaited, TicksAnswe
 
 use gs_master_plain::calls_of_the_tree_do_what_they_answer;
 
-/// A snapshot that has waited is answered as the plain tree answers it, by the names that stand behind the first records of its event, whatever texts the chunks have, or refused by the store. Where it is made these are the records
-/// before its own, which says the command that it is, and no other record of the event edits for it; where it is refused they are those up to some place, and none does. Several may go on in one event, each by what those before it have
-/// left.
+/// A snapshot that has waited is answered as the plain tree answers it, by the names that stand behind the first records of its event, whatever texts the chunks have, or refused by the store. These are the records before its own,
+/// which says the command that it is where it is made, and else its refusal; where that isn't recorded they are those up to some place. No other record of the event edits for it, or refuses it. Several may go on in one event, each by
+/// what those before it have left.
 pub fn snapshots_that_waited_are_answered_plainly()
     ensures messages { MessagesAnswerWaited }
     ensures ticks { TicksAnswerWaited }
