@@ -47,6 +47,7 @@ use Rattle.gs_master_spec.specs.Volatile.{is_pending}
 use Rattle.gs_master_spec.specs.Working.{begin_pending, begins_snapshot, is_wanted_at, snapshot_if, unquiet}
 use Rattle.gs_master_spec.specs.declared.pending.Waiting.TheVariants as waits
 use Rattle.gs_master_spec.specs.declared.reply.KeptReply.{KeptReply}
+use Rattle.gs_master_waited.proofs.Owning.{calls_own, refused_own}
 use Rattle.gs_master_waited.specs.Replies.{ComesPlainly, WasKept}
 use Rattle.gs_master_waited.specs.Waited.{IsPlainBy, RepliesSo}
 
@@ -66,7 +67,7 @@ module _ (law : NewCallsDoAsAnswered) (config : Config) (s : State) (req : ReqId
   Comes t result = ComesPlainly s t moment req call result
 
   at_once : is_of_tree call ≡ true → IsAtOnce s call → (result : Result Answer Refusal) × ((new_call config s req moment call).sent ≡ reply_to req result ∷ []) × Comes (new_call config s req moment call) result
-  at_once tree once = (does.result, does.sent, record { tree = tree; plainly = λ text plain has is. by text plain has is; does = does.does })
+  at_once tree once = (does.result, does.sent, record { tree = tree; plainly = λ text plain has is. by text plain has is; does = does.does; own = calls_own config s req moment call tree once })
     where
       does : DoesAsAnswered req (done_by s moment call) (new_call config s req moment call)
       does = law config s req moment call tree once
@@ -90,7 +91,7 @@ module _ (config : Config) (s : State) (req : ReqId) (moment : Moment) (from to 
   IsPlainly result = IsPlainBy s.durable.names moment.0 s.durable.next_hidden its_call result
 
   refused_each : (e : Refusal) → IsPlainly (Err e) → Each (refused s req e)
-  refused_each e is = ((refl, record { tree = refl; plainly = is; does = by_test (keeps_refusal s req e && fits s.log (Said req e ∷ [])) }), tt)
+  refused_each e is = ((refl, record { tree = refl; plainly = is; does = by_test (keeps_refusal s req e && fits s.log (Said req e ∷ [])); own = refused_own s req e }), tt)
     where
       by_test : (b : Bool) → filter_map command_of (if b then Said req e ∷ [] else []) ≡ []
       by_test true = refl
@@ -209,7 +210,7 @@ module _ (law : NewCallsDoAsAnswered) (config : Config) (s : State) (req : ReqId
       each (m ∷ ms) all = (one m.body all.0, each ms all.1)
 
   again_its : (call : Call) (e : Refusal) → is_of_tree call ≡ true → is_refused_by_store (Err e) ≡ true → Its call (replied_again s req (Err e))
-  again_its call e tree is = ((refl, inl (record { tree = tree; plainly = λ text plain has said. inl is; does = refl })), tt)
+  again_its call e tree is = ((refl, inl (record { tree = tree; plainly = λ text plain has said. inl is; does = refl; own = refl })), tt)
 
   taken_its : (call : Call) (how : Numbered) → numbered (last_reply s req.client) req.number ≡ how → is_of_tree call ≡ true → Its call (taken_as config s req moment call how)
   taken_its call New is tree = its_of call (new_call config s req moment call) (new_plain call tree)

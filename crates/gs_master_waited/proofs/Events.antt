@@ -30,7 +30,7 @@ use Rattle.gs_master_waited.proofs.Going.{node_so, steps_so}
 use Rattle.gs_master_waited.proofs.Plainly.{refused_plainly}
 use Rattle.gs_master_waited.proofs.Waiting as turns
 use Rattle.gs_master_waited.proofs.Waiting.{Here, OnlySays, Others, answered_then, here_once, is_here, is_other}
-use Rattle.gs_master_waited.specs.Waited.{AnswersWaited, EditsNone, GoesOnPlainly, MessagesAnswerWaited, RepliesSo, TicksAnswerWaited, WaitsSo}
+use Rattle.gs_master_waited.specs.Waited.{AnswersWaited, TellsNone, GoesOnPlainly, MessagesAnswerWaited, RepliesSo, TicksAnswerWaited, WaitsSo}
 
 -- ---- lists
 
@@ -62,7 +62,7 @@ module _ (own : ReqId) (source place : Path) where
   device : (s : State) → Outcome s (replied_again s own (Err refusals.Device))
   device s = inr (record {
     result = Err refusals.Device;
-    goes = record { before = []; behind = []; parts = refl; none_before = refl; none_behind = refl; plainly = refused_plainly source place s.durable.names refusals.Device refl };
+    goes = record { before = []; behind = []; made = []; is_made = inl refl; parts = refl; none_before = refl; none_behind = refl; plainly = refused_plainly source place s.durable.names refusals.Device refl };
     sent = ((λ same. refl), tt);
   })
 
@@ -96,7 +96,7 @@ module _ (own : ReqId) (source place : Path) where
   -- a checkpoint says nothing, and edits nothing
   record Quiet (t : Turn) : Type 0 where
     pub sent : SaidSo (Others own) t.sent
-    pub none : EditsNone own t.records
+    pub none : TellsNone own t.records
 
   written_quiet : (u : State) (refusal : Option Refusal) → Quiet (record (written_unless u refusal) { said = None })
   written_quiet u None = record { sent = tt; none = refl }

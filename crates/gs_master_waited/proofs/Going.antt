@@ -1,5 +1,5 @@
 -- Each turn of the master while one snapshot waits, definition by definition.
-use Rattle.std.proofs.Common.{◌==◌, ◌&&◌, ◌||◌, ◌+◌, ℕ, Bool, true, false, not, List, [], ◌∷◌, length, map, filter}
+use Rattle.std.proofs.Common.{◌==◌, ◌&&◌, ◌||◌, ◌+◌, ℕ, Bool, true, false, not, List, [], ◌∷◌, ap, length, map, filter}
 use Rattle.std.specs.Prelude.{flat_map, is_none, nat_le, nat_lt, slice_get, Option, Some, None, Result, Ok, Err, if◌then◌else◌}
 use Rattle.std.specs.List.{AllByRecursion, list_all, list_any}
 use Rattle.std.specs.FinMap as fin
@@ -81,7 +81,7 @@ use Rattle.gs_master_spec.specs.Volatile.{all_changed, let_go, let_go_of, withou
 use Rattle.gs_master_waited.proofs.Plainly.{IsPlainCopy, copies_plainly, refused_plainly}
 use Rattle.gs_master_waited.proofs.Waiting as turns
 use Rattle.gs_master_waited.proofs.Waiting.{Away, EndsOther, Here, Others, answered_then, end_away, ends_then, part_here, planned, so_of, still, then_answered, then_comes, then_silent, then_so, then_stays}
-use Rattle.gs_master_waited.specs.Waited.{EditsNone}
+use Rattle.gs_master_waited.specs.Waited.{IsMadeBy}
 
 requests_so : (P : ReqId → Type 0) (ps : List Pending) → AllIn P ps → AllByRecursion P (requests_of ps)
 requests_so P [] all = tt
@@ -390,18 +390,22 @@ module _ (own : ReqId) (source place : Path) where
 
   -- ---- its own end
 
-  said_none : (keeps : Bool) (log : Log) (refusal : Refusal) → EditsNone own (said_records keeps log own refusal)
-  said_none keeps log refusal = by_test (keeps && fits log (Said own refusal ∷ []))
+  said_made : (keeps : Bool) (log : Log) (refusal : Refusal) → IsMadeBy own source place (Err refusal) (said_records keeps log own refusal)
+  said_made keeps log refusal = by_test (keeps && fits log (Said own refusal ∷ []))
     where
-      by_test : (b : Bool) → EditsNone own (if b then Said own refusal ∷ [] else [])
-      by_test true = refl
-      by_test false = refl
+      by_test : (b : Bool) → IsMadeBy own source place (Err refusal) (if b then Said own refusal ∷ [] else [])
+      by_test true = inr refl
+      by_test false = inl refl
+
+  nothing_more : {A : Type 0} (xs : List A) → xs ≡ xs ++ []
+  nothing_more [] = refl
+  nothing_more (x ∷ xs) = ap (λ ys. x ∷ ys) (nothing_more xs)
 
   refused_own : (s : State) (refusal : Refusal) → IsPlainCopy source place s.durable.names (Err refusal) → Ends s (ended_by s own refusal)
   refused_own s refusal plainly = (
     record {
       result = Err refusal;
-      goes = record { before = []; behind = (ended_by s own refusal).records; parts = refl; none_before = refl; none_behind = said_none (keeps_refusal s own refusal) s.log refusal; plainly = plainly };
+      goes = record { before = []; behind = []; made = (ended_by s own refusal).records; is_made = said_made (keeps_refusal s own refusal) s.log refusal; parts = nothing_more (ended_by s own refusal).records; none_before = refl; none_behind = refl; plainly = plainly };
       sent = ((λ same. refl), tt);
     },
     subst (λ cs. Away own (all_changed s.volatile cs).pending) (append_assoc (said_changes (keeps_refusal s own refusal) s.log own refusal) (let_go s.volatile own) (changes.End own ∷ []))
@@ -417,7 +421,7 @@ module _ (own : ReqId) (source place : Path) where
       pick (Ends s) (fits s.log (turned s (edit_plan own (Snapshot source place) answers.Nothing [])).records) (turned s (edit_plan own (Snapshot source place) answers.Nothing [])) (ended_by s own refusals.Full) (
         record {
           result = Ok answers.Nothing;
-          goes = record { before = []; behind = []; parts = refl; none_before = refl; none_behind = refl; plainly = copies_plainly source place s.durable.names (Ok names) is };
+          goes = record { before = []; behind = []; made = Edited own (Snapshot source place) ∷ []; is_made = refl; parts = refl; none_before = refl; none_behind = refl; plainly = copies_plainly source place s.durable.names (Ok names) is };
           sent = ((λ same. refl), tt);
         },
         end_away own [] s.volatile,

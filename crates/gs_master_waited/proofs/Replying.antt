@@ -72,7 +72,7 @@ its_plain s t moment req call all = each_of t.sent all
   where
     by : (result : Result Answer Refusal) → ComesPlainly s t moment req call result ⊎ WasKept s req result → IsAsPlain s t moment (Some (bodies.Call req call)) req result
     by result (inl comes) = Came call refl comes
-    by result (inr kept) = Again kept
+    by result (inr kept) = Again call refl kept
 
     one_of : (body : Body) → RepliesSo (λ other result. (other ≡ req) × (ComesPlainly s t moment req call result ⊎ WasKept s req result)) body → RepliesSo (IsAsPlain s t moment (Some (bodies.Call req call))) body
     one_of (bodies.Reply other result) is = subst (λ r. IsAsPlain s t moment (Some (bodies.Call req call)) r result) (sym is.0) (by result is.1)

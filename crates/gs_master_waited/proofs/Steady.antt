@@ -1,7 +1,7 @@
 -- Each reply of a master whose state stands, or of which a disk has failed.
 use Rattle.std.proofs.Common.{◌≡◌, ◌⊎◌, inl, inr, ◌∙◌, ◌&&◌, ◌||◌, ◌++◌, ℕ, Bool, true, false, not, List, [], ◌∷◌, length, refl, ap, sym, subst, arith}
-use Rattle.std.specs.Prelude.{is_some, option_and_then, take, unwrap_or, Option, Some, None, Result, Err, if◌then◌else◌}
-use Rattle.std.specs.List.{AllByRecursion, list_any}
+use Rattle.std.specs.Prelude.{filter_map, is_some, option_and_then, take, unwrap_or, Option, Some, None, Result, Ok, Err, if◌then◌else◌}
+use Rattle.std.specs.List.{AllByRecursion, list_all, list_any}
 use Rattle.std.proofs.Math.Seq.{take-append_seam}
 use Rattle.std.proofs.lemmas.Bool.{false≢true}
 use Rattle.gs_base.specs.declared.config.Config.{Config}
@@ -28,6 +28,7 @@ use Rattle.gs_master_laws.specs.Standing.{CanWait, Event, IsNamed, Ticks, turn_o
 use Rattle.gs_master_laws.specs.Standing as events
 use Rattle.gs_master_laws.specs.Written.{IsHeardIn, IsSteady}
 use Rattle.gs_master_plain.specs.Answers.{is_refused_by_store}
+use Rattle.gs_master_plain.specs.Commands.{command_of}
 use Rattle.gs_master_plain.specs.Doing.{NewCallsDoAsAnswered, is_of_tree}
 use Rattle.gs_master_record.specs.Plain.{PlainEntry}
 use Rattle.gs_master_spec.specs.Applied.{applied, replayed}
@@ -41,10 +42,10 @@ use Rattle.gs_master_spec.specs.declared.pending.Waiting.TheVariants as waits
 use Rattle.gs_master_waited.proofs.Coming.{kept_is}
 use Rattle.gs_master_waited.proofs.Replying.{messages_reply, ticks_reply}
 use Rattle.gs_master_waited.specs.Replies as replies
-use Rattle.gs_master_waited.specs.Replies.{IsAsPlain, RepliesAsPlain, WasKept}
+use Rattle.gs_master_waited.specs.Replies.{IsAsPlain, RepliesAsPlain, WasKept, is_its_own}
 use Rattle.gs_master_waited.specs.Steady as steady
-use Rattle.gs_master_waited.specs.Steady.{ArePlainReplies, IsPlainReply, IsSteadyOrFailed, MessagesReplyPlainly, TicksReplyPlainly}
-use Rattle.gs_master_waited.specs.Waited.{GoesOnPlainly, IsAmong, RepliesSo, WaitsSo, led, made_by}
+use Rattle.gs_master_waited.specs.Steady.{ArePlainReplies, IsMeek, IsMeekReply, IsPlainCall, IsPlainReply, MessagesAreMeek, MessagesReplyPlainly, TicksAreMeek, TicksReplyPlainly}
+use Rattle.gs_master_waited.specs.Waited.{GoesOnPlainly, IsAmong, RepliesSo, WaitsSo, led}
 
 -- ---- records that fit
 
@@ -75,6 +76,8 @@ module _ (s : State) (t : Turn) (moment : Moment) (heard : Option Body) (counted
   copied req from to result waiting goes = record {
     before = goes.before;
     behind = goes.behind;
+    made = goes.made;
+    is_made = goes.is_made;
     parts = goes.parts;
     none_before = goes.none_before;
     none_behind = goes.none_behind;
@@ -84,7 +87,7 @@ module _ (s : State) (t : Turn) (moment : Moment) (heard : Option Body) (counted
   }
     where
       rest : List PlainEntry
-      rest = made_by req from to result ++ goes.behind
+      rest = goes.made ++ goes.behind
 
       fit : replayed s.durable goes.before ≡ Some (led s.durable goes.before)
       fit = first_fit goes.before rest s.durable t.after.durable (ap (replayed s.durable) (sym goes.parts) ∙ fits)
@@ -92,121 +95,101 @@ module _ (s : State) (t : Turn) (moment : Moment) (heard : Option Body) (counted
       stands : IsKept (led s.durable goes.before)
       stands = kept (length goes.before) (led s.durable goes.before) (ap (λ xs. replayed s.durable (take (length goes.before) xs)) goes.parts ∙ ap (replayed s.durable) (take-append_seam goes.before rest) ∙ fit)
 
-  reply : (req : ReqId) (result : Result Answer Refusal) → IsAsPlain s t moment heard req result → IsPlainReply s t.records moment heard req result
-  reply req result (replies.Came call is comes) = steady.Came call is (record { tree = comes.tree; plainly = λ text plain said. comes.plainly text plain counted said; does = comes.does })
+  reply : (req : ReqId) (result : Result Answer Refusal) → IsAsPlain s t moment heard req result → IsPlainReply s.durable s t.records moment heard req result
+  reply req result (replies.Came call is comes) = steady.Came call is (record { tree = comes.tree; plainly = λ text plain said. comes.plainly text plain counted said; does = comes.does; own = comes.own })
   reply req result (replies.HadWaited from to waiting goes) = steady.HadWaited from to waiting (copied req from to result waiting goes)
-  reply req result (replies.Again was) = steady.Again was
+  reply req result (replies.Again call is was) = steady.Again call is was
   reply req result (replies.OtherCame call is other) = steady.OtherCame call is other
   reply req result (replies.OtherWaited waiting is other) = steady.OtherWaited waiting is other
 
-  all_replies : (ms : List Message) → AllByRecursion (λ (m : Message). RepliesSo (IsAsPlain s t moment heard) m.body) ms → ArePlainReplies s t.records moment heard ms
+  all_replies : (ms : List Message) → AllByRecursion (λ (m : Message). RepliesSo (IsAsPlain s t moment heard) m.body) ms → ArePlainReplies s.durable s t.records moment heard ms
   all_replies [] all = tt
   all_replies (m ∷ ms) all = (one m.body all.0, all_replies ms all.1)
     where
-      one : (body : Body) → RepliesSo (IsAsPlain s t moment heard) body → RepliesSo (IsPlainReply s t.records moment heard) body
+      one : (body : Body) → RepliesSo (IsAsPlain s t moment heard) body → RepliesSo (IsPlainReply s.durable s t.records moment heard) body
       one (bodies.Reply req result) is = reply req result is
       one body is = tt
 
 by_event : (config : Config) (s : State) (event : Event) (moment : Moment) (heard : Option Body) → IsNamed event → IsHeardIn s event → IsSteady s → RepliesAsPlain s (turn_of config s event) moment heard
-    → ArePlainReplies s (turn_of config s event).records moment heard (turn_of config s event).sent
+    → ArePlainReplies s.durable s (turn_of config s event).records moment heard (turn_of config s event).sent
 by_event config s event moment heard named low firm all =
     all_replies s (turn_of config s event) moment heard firm.firm.stands.kept.names.counted (events_fit config s event named firm.firm).fits
     (λ place d fit. (events_written_at_places config s event place d (record { records = 0; size = 0; limit = 0; generation = 0 }) named low firm fit (omega arith) (omega arith)).firm.stands.kept) firm.firm.stands.calls (turn_of config s event).sent all
 
 -- ---- where a disk has failed
 
-module _ (config : Config) (s : State) (moment : Moment) (failed : is_failed s.fault ≡ true) where
-  abbrev Its : ReqId → Call → Turn → Type 0
-  Its req call t = ArePlainReplies s t.records moment (Some (bodies.Call req call)) t.sent
+-- its one reply refuses, or is the one that is kept
+meek_reply : (s : State) (req : ReqId) (call : Call) (result : Result Answer Refusal) → (is_refused_by_store result ≡ true) ⊎ WasKept s req result → IsMeek s (Some (bodies.Call req call)) (replied_again s req result)
+meek_reply s req call result is = record { none = refl; sent = ((call, refl, is), tt) }
 
+module _ (config : Config) (s : State) (moment : Moment) (failed : is_failed s.fault ≡ true) where
   module _ (req : ReqId) (call : Call) where
-    other_reply : (result : Result Answer Refusal) → is_of_tree call ≡ false → IsPlainReply s [] moment (Some (bodies.Call req call)) req result
-    other_reply result other = steady.OtherCame call refl other
+    abbrev Meek : Turn → Type 0
+    Meek t = IsMeek s (Some (bodies.Call req call)) t
 
-    refused_reply : (refusal : Refusal) → is_refused_by_store (Err refusal) ≡ true → IsPlainReply s [] moment (Some (bodies.Call req call)) req (Err refusal)
-    refused_reply refusal is = by_kind (is_of_tree call) refl
-      where
-        by_kind : (b : Bool) → is_of_tree call ≡ b → IsPlainReply s [] moment (Some (bodies.Call req call)) req (Err refusal)
-        by_kind true tree = steady.Came call refl (record { tree = tree; plainly = λ text plain said. inl is; does = refl })
-        by_kind false other = other_reply (Err refusal) other
+    device : Meek (replied_again s req (Err refusals.Device))
+    device = meek_reply s req call (Err refusals.Device) (inl refl)
 
-    device : Its req call (replied_again s req (Err refusals.Device))
-    device = (refused_reply refusals.Device refl, tt)
+    new_meek : Meek (new_call config s req moment call)
+    new_meek = subst (λ b. Meek (called_unless config s req moment call (first_of ((b, refusals.Device) ∷ (is_rolling s.durable.phase && not (is_always_taken call), refusals.RollingBack) ∷ (s.volatile.is_preparing && is_work call, refusals.Preparing) ∷ (is_locked s req call, refusals.Locked) ∷ (is_any_hidden call, refusals.HiddenName) ∷ [])))) (sym failed) (record { none = refl; sent = ((call, refl, inl refl), tt) })
 
-    new_failed : Its req call (new_call config s req moment call)
-    new_failed = subst (λ b. Its req call (called_unless config s req moment call (first_of ((b, refusals.Device) ∷ (is_rolling s.durable.phase && not (is_always_taken call), refusals.RollingBack) ∷ (s.volatile.is_preparing && is_work call, refusals.Preparing) ∷ (is_locked s req call, refusals.Locked) ∷ (is_any_hidden call, refusals.HiddenName) ∷ [])))) (sym failed) (refused_reply refusals.Device refl, tt)
+    taken_meek : (how : Numbered) → numbered (last_reply s req.client) req.number ≡ how → Meek (taken_as config s req moment call how)
+    taken_meek New is = new_meek
+    taken_meek (Again result) is = (let kept = kept_is (last_reply s req.client) req.number result is in meek_reply s req call result (inr (record { reply = kept.0; has = kept.1; number = kept.2; is = kept.3 })))
+    taken_meek Older is = meek_reply s req call (Err refusals.Old) (inl refl)
 
-    taken_failed : (how : Numbered) → numbered (last_reply s req.client) req.number ≡ how → Its req call (taken_as config s req moment call how)
-    taken_failed New is = new_failed
-    taken_failed (Again result) is = (let kept = kept_is (last_reply s req.client) req.number result is in (steady.Again (record { reply = kept.0; has = kept.1; number = kept.2; is = kept.3 }), tt))
-    taken_failed Older is = (refused_reply refusals.Old refl, tt)
-
-    call_failed : Its req call (call_turn config s req moment call)
-    call_failed =
+    call_meek : Meek (call_turn config s req moment call)
+    call_meek =
         let taken = taken_as config s req moment call (numbered (last_reply s req.client) req.number) in
-        pick (Its req call) (is_unopened s.fault) (replied_again s req (Err refusals.Device)) (if is_pending s.volatile.pending req then waits_still s req else taken) device
-        (pick (Its req call) (is_pending s.volatile.pending req) (waits_still s req) taken (pick (Its req call) (is_failed s.fault) (replied_again s req (Err refusals.Device)) (unmoved s) device tt)
-        (taken_failed (numbered (last_reply s req.client) req.number) refl))
+        pick Meek (is_unopened s.fault) (replied_again s req (Err refusals.Device)) (if is_pending s.volatile.pending req then waits_still s req else taken) device
+        (pick Meek (is_pending s.volatile.pending req) (waits_still s req) taken (pick Meek (is_failed s.fault) (replied_again s req (Err refusals.Device)) (unmoved s) device (record { none = refl; sent = tt }))
+        (taken_meek (numbered (last_reply s req.client) req.number) refl))
 
-  abbrev Plain : Body → NodeId → Type 0
-  Plain body from = ArePlainReplies s (from_node config s moment body from).records moment (Some body) (from_node config s moment body from).sent
-
-  node_failed : (body : Body) (from : NodeId) → Plain body from
-  node_failed body nodes.Master = tt
-  node_failed body (nodes.Server server) = subst (λ b. ArePlainReplies s (if b then met_by s refusals.Device else server_turn s server moment body).records moment (Some body) (if b then met_by s refusals.Device else server_turn s server moment body).sent) (sym failed) tt
-  node_failed (bodies.Call req call) (nodes.Client client) = call_failed req call
-  node_failed body (nodes.Client client) = tt
-
-tick_failed : (s : State) (moment : Moment) → is_failed s.fault ≡ true → ArePlainReplies s (tick s moment).records moment None (tick s moment).sent
-unfolding tick
-tick_failed s moment failed =
-    let done = and_then (and_then (for_each s (proposals s) (pressed moment)) granted) written_if_due in
-    subst (λ b. ArePlainReplies s (if b then met_by s refusals.Device else done).records moment None (if b then met_by s refusals.Device else done).sent) (sym failed) tt
-
-message_failed : (config : Config) (s : State) (message : Message) (moment : Moment) → is_failed s.fault ≡ true → ArePlainReplies s (handle config s message moment).records moment (Some message.body) (handle config s message moment).sent
-unfolding handle
-message_failed config s message moment failed = node_failed config s moment failed message.body message.from
-
--- ---- and that is a refusal, or it is kept, and nothing is recorded
-
-abbrev pub IsMeek : State → Turn → Type 0
-IsMeek s t = (t.records ≡ []) × AllByRecursion (λ (m : Message). RepliesSo (λ req result. (is_refused_by_store result ≡ true) ⊎ WasKept s req result) m.body) t.sent
-
-module _ (config : Config) (s : State) (moment : Moment) (failed : is_failed s.fault ≡ true) where
-  new_meek : (req : ReqId) (call : Call) → IsMeek s (new_call config s req moment call)
-  new_meek req call = subst (λ b. IsMeek s (called_unless config s req moment call (first_of ((b, refusals.Device) ∷ (is_rolling s.durable.phase && not (is_always_taken call), refusals.RollingBack) ∷ (s.volatile.is_preparing && is_work call, refusals.Preparing) ∷ (is_locked s req call, refusals.Locked) ∷ (is_any_hidden call, refusals.HiddenName) ∷ [])))) (sym failed) (refl, (inl refl, tt))
-
-  taken_meek : (req : ReqId) (call : Call) (how : Numbered) → numbered (last_reply s req.client) req.number ≡ how → IsMeek s (taken_as config s req moment call how)
-  taken_meek req call New is = new_meek req call
-  taken_meek req call (Again result) is = (let kept = kept_is (last_reply s req.client) req.number result is in (refl, (inr (record { reply = kept.0; has = kept.1; number = kept.2; is = kept.3 }), tt)))
-  taken_meek req call Older is = (refl, (inl refl, tt))
-
-  call_meek : (req : ReqId) (call : Call) → IsMeek s (call_turn config s req moment call)
-  call_meek req call =
-      let taken = taken_as config s req moment call (numbered (last_reply s req.client) req.number) in
-      pick (IsMeek s) (is_unopened s.fault) (replied_again s req (Err refusals.Device)) (if is_pending s.volatile.pending req then waits_still s req else taken) (refl, (inl refl, tt))
-      (pick (IsMeek s) (is_pending s.volatile.pending req) (waits_still s req) taken (pick (IsMeek s) (is_failed s.fault) (replied_again s req (Err refusals.Device)) (unmoved s) (refl, (inl refl, tt)) (refl, tt))
-      (taken_meek req call (numbered (last_reply s req.client) req.number) refl))
-
-  node_meek : (body : Body) (from : NodeId) → IsMeek s (from_node config s moment body from)
-  node_meek body nodes.Master = (refl, tt)
-  node_meek body (nodes.Server server) = subst (λ b. IsMeek s (if b then met_by s refusals.Device else server_turn s server moment body)) (sym failed) (refl, tt)
+  node_meek : (body : Body) (from : NodeId) → IsMeek s (Some body) (from_node config s moment body from)
+  node_meek body nodes.Master = record { none = refl; sent = tt }
+  node_meek body (nodes.Server server) = subst (λ b. IsMeek s (Some body) (if b then met_by s refusals.Device else server_turn s server moment body)) (sym failed) (record { none = refl; sent = tt })
   node_meek (bodies.Call req call) (nodes.Client client) = call_meek req call
-  node_meek body (nodes.Client client) = (refl, tt)
+  node_meek body (nodes.Client client) = record { none = refl; sent = tt }
 
-pub message_meek : (config : Config) (s : State) (message : Message) (moment : Moment) → is_failed s.fault ≡ true → IsMeek s (handle config s message moment)
+pub message_meek : MessagesAreMeek
 unfolding handle
 message_meek config s message moment failed = node_meek config s moment failed message.body message.from
 
-pub tick_meek : (s : State) (moment : Moment) → is_failed s.fault ≡ true → IsMeek s (tick s moment)
+pub tick_meek : TicksAreMeek
 unfolding tick
-tick_meek s moment failed = (let done = and_then (and_then (for_each s (proposals s) (pressed moment)) granted) written_if_due in subst (λ b. IsMeek s (if b then met_by s refusals.Device else done)) (sym failed) (refl, tt))
+tick_meek s moment failed =
+    let done = and_then (and_then (for_each s (proposals s) (pressed moment)) granted) written_if_due in subst (λ b. IsMeek s None (if b then met_by s refusals.Device else done)) (sym failed) (record { none = refl; sent = tt })
+
+-- so each of its replies is plain, by whatever is durable
+module _ (d : Durable) (s : State) (moment : Moment) (heard : Option Body) where
+  meek_call : (records : List PlainEntry) (req : ReqId) (call : Call) (result : Result Answer Refusal) → records ≡ [] → is_of_tree call ≡ true → is_refused_by_store result ≡ true → IsPlainCall d s records moment req call result
+  meek_call records req call (Ok answer) none tree refused = absurd (false≢true refused)
+  meek_call records req call (Err refusal) none tree refused = record { tree = tree; plainly = λ text plain said. inl refused; does = ap (filter_map command_of) none; own = ap (list_all (is_its_own req)) none }
+
+  meek_plain : (records : List PlainEntry) → records ≡ [] → (req : ReqId) (result : Result Answer Refusal) → IsMeekReply s heard req result → IsPlainReply d s records moment heard req result
+  meek_plain records none req result (call, is, inr kept) = steady.Again call is kept
+  meek_plain records none req result (call, is, inl refused) = by_kind (is_of_tree call) refl
+    where
+      by_kind : (b : Bool) → is_of_tree call ≡ b → IsPlainReply d s records moment heard req result
+      by_kind true tree = steady.Came call is (meek_call records req call result none tree refused)
+      by_kind false other = steady.OtherCame call is other
+
+  pub meek_replies : (t : Turn) → IsMeek s heard t → ArePlainReplies d s t.records moment heard t.sent
+  meek_replies t meek = each t.sent meek.sent
+    where
+      one : (body : Body) → RepliesSo (IsMeekReply s heard) body → RepliesSo (IsPlainReply d s t.records moment heard) body
+      one (bodies.Reply req result) is = meek_plain t.records meek.none req result is
+      one body is = tt
+
+      each : (ms : List Message) → AllByRecursion (λ (m : Message). RepliesSo (IsMeekReply s heard) m.body) ms → ArePlainReplies d s t.records moment heard ms
+      each [] all = tt
+      each (m ∷ ms) all = (one m.body all.0, each ms all.1)
 
 -- ---- so each reply
 
 pub messages_plainly : NewCallsDoAsAnswered → MessagesReplyPlainly
 messages_plainly law config s message moment named low (inl firm) = by_event config s (events.Comes message moment) moment (Some message.body) named low firm (messages_reply law config s message moment firm.firm.stands.apart)
-messages_plainly law config s message moment named low (inr failed) = message_failed config s message moment failed
+messages_plainly law config s message moment named low (inr failed) = meek_replies s.durable s moment (Some message.body) (handle config s message moment) (message_meek config s message moment failed)
 
 -- a tick goes by no sizes
 some_config : Config
@@ -214,4 +197,4 @@ some_config = record { servers = 1; racks = 1; replicas = 1; block = 1; chunk = 
 
 pub ticks_plainly : TicksReplyPlainly
 ticks_plainly s moment (inl firm) = by_event some_config s (Ticks moment) moment None tt tt firm (ticks_reply s moment firm.firm.stands.apart)
-ticks_plainly s moment (inr failed) = tick_failed s moment failed
+ticks_plainly s moment (inr failed) = meek_replies s.durable s moment None (tick s moment) (tick_meek s moment failed)

@@ -29,7 +29,7 @@ use Rattle.gs_master_spec.specs.declared.pending.Waiting.{Waiting}
 use Rattle.gs_master_spec.specs.declared.pending.Waiting.TheVariants as waits
 use Rattle.gs_master_state.specs.Sane.{are_apart}
 use Rattle.gs_master_waited.proofs.Plainly.{IsPlainCopy}
-use Rattle.gs_master_waited.specs.Waited.{EditsNone, GoesOnPlainly, IsAmong, RepliesSo, edits_for, led, made_by}
+use Rattle.gs_master_waited.specs.Waited.{TellsNone, GoesOnPlainly, IsAmong, RepliesSo, tells_for, led}
 
 -- ---- what is durable behind records
 
@@ -43,8 +43,8 @@ led_on d xs ys = fold-append (λ e entry. unwrap_or (applied e entry) e) d xs ys
 
 -- ---- which edits are for whom
 
-pub none_both : (req : ReqId) (xs ys : List PlainEntry) → EditsNone req xs → EditsNone req ys → EditsNone req (xs ++ ys)
-none_both req xs ys a b = list_any-append (edits_for req) xs ys ∙ ap (λ c. c || list_any (edits_for req) ys) a ∙ b
+pub none_both : (req : ReqId) (xs ys : List PlainEntry) → TellsNone req xs → TellsNone req ys → TellsNone req (xs ++ ys)
+none_both req xs ys a b = list_any-append (tells_for req) xs ys ∙ ap (λ c. c || list_any (tells_for req) ys) a ∙ b
 
 -- ---- a request, and all others
 
@@ -62,9 +62,9 @@ module _ (own : ReqId) where
   pub is_other : (req : ReqId) → same_op own req ≡ false → Others req
   is_other req apart same = true≢false (sym (itself own) ∙ ap (same_op own) (sym same) ∙ apart)
 
-  pub untold : (entries : List PlainEntry) → AreEntries Others entries → EditsNone own entries
+  pub untold : (entries : List PlainEntry) → AreEntries Others entries → TellsNone own entries
   untold [] are = refl
-  untold (Edited by edit ∷ entries) are = ap (λ b. b || list_any (edits_for own) entries) (by_kind are.0) ∙ untold entries are.1
+  untold (Edited by edit ∷ entries) are = ap (λ b. b || list_any (tells_for own) entries) (by_kind are.0) ∙ untold entries are.1
     where
       never : (b : Bool) → (b && false) ≡ false
       never true = refl
@@ -73,7 +73,7 @@ module _ (own : ReqId) where
       by_kind : ((tells_nobody edit ≡ true) × ((req : ReqId) × Others req)) ⊎ Others by → (same_op own by && not (tells_nobody edit)) ≡ false
       by_kind (inl own_edit) = ap (λ b. same_op own by && not b) own_edit.0 ∙ never (same_op own by)
       by_kind (inr other) = ap (λ b. b && not (tells_nobody edit)) (other_is by other)
-  untold (Said to refusal ∷ entries) are = untold entries are.1
+  untold (Said to refusal ∷ entries) are = ap (λ b. b || list_any (tells_for own) entries) (other_is to are.0) ∙ untold entries are.1
   untold (Prepare epoch moment chunks ∷ entries) are = untold entries are.1
   untold (Finalize epoch ∷ entries) are = untold entries are.1
   untold (RollbackBegin epoch ∷ entries) are = untold entries are.1
@@ -249,7 +249,7 @@ module _ (own : ReqId) where
 
     pub record Silent (s : State) (t : Turn) : Type 0 where
       pub sent : SaidSo Others t.sent
-      pub none : EditsNone own t.records
+      pub none : TellsNone own t.records
       pub leads : t.after.durable ≡ led s.durable t.records
 
     pub record Answered (s : State) (t : Turn) : Type 0 where
@@ -300,7 +300,9 @@ module _ (own : ReqId) where
       goes = record {
         before = t.records ++ b.goes.before;
         behind = b.goes.behind;
-        parts = ap (λ xs. t.records ++ xs) b.goes.parts ∙ sym (append_assoc t.records b.goes.before (made_by own from to b.result ++ b.goes.behind));
+        made = b.goes.made;
+        is_made = b.goes.is_made;
+        parts = ap (λ xs. t.records ++ xs) b.goes.parts ∙ sym (append_assoc t.records b.goes.before (b.goes.made ++ b.goes.behind));
         none_before = none_both own t.records b.goes.before a.none b.goes.none_before;
         none_behind = b.goes.none_behind;
         plainly = subst (λ (d : Durable). IsPlainCopy from to d.names b.result) (ap (λ d. led d b.goes.before) a.leads ∙ sym (led_on s.durable t.records b.goes.before)) b.goes.plainly;
@@ -308,13 +310,15 @@ module _ (own : ReqId) where
       sent = both_so _ t.sent (f t.after).sent (silent_says b.result t.sent a.sent) b.sent;
     }
 
-    pub answered_then : (s : State) (t : Turn) (f : State → Turn) → Answered s t → SaidSo Others (f t.after).sent → EditsNone own (f t.after).records → Answered s (and_then t f)
+    pub answered_then : (s : State) (t : Turn) (f : State → Turn) → Answered s t → SaidSo Others (f t.after).sent → TellsNone own (f t.after).records → Answered s (and_then t f)
     answered_then s t f a said none = record {
       result = a.result;
       goes = record {
         before = a.goes.before;
         behind = a.goes.behind ++ (f t.after).records;
-        parts = ap (λ xs. xs ++ (f t.after).records) a.goes.parts ∙ append_assoc a.goes.before (made_by own from to a.result ++ a.goes.behind) (f t.after).records ∙ ap (λ xs. a.goes.before ++ xs) (append_assoc (made_by own from to a.result) a.goes.behind (f t.after).records);
+        made = a.goes.made;
+        is_made = a.goes.is_made;
+        parts = ap (λ xs. xs ++ (f t.after).records) a.goes.parts ∙ append_assoc a.goes.before (a.goes.made ++ a.goes.behind) (f t.after).records ∙ ap (λ xs. a.goes.before ++ xs) (append_assoc a.goes.made a.goes.behind (f t.after).records);
         none_before = a.goes.none_before;
         none_behind = none_both own a.goes.behind (f t.after).records a.goes.none_behind none;
         plainly = a.goes.plainly;

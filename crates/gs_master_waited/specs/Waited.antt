@@ -1,6 +1,6 @@
 -- What the master answers to a snapshot that has waited, and what it records for it.
 use Rattle.std.specs.Prelude.{[], ◌&&◌, ◌++◌, ◌∷◌, ◌≡◌, ◌⊎◌, Bool, Err, List, Ok, Result, Some, codes, false, filter_map, fold, not, refl, true, unwrap_or, ℕ}
-use Rattle.std.proofs.Common.{inl}
+use Rattle.std.proofs.Common.{ap, inl, inr}
 use Rattle.std.specs.FinMap as fin
 use Rattle.std.specs.List.{AllByRecursion, list_any}
 use Rattle.gs_base.specs.declared.config.Config.{Config}
@@ -49,18 +49,19 @@ IsPlainBy names moment number call result = (text : ℕ → List ℕ) (plain : R
 abbrev pub led : Durable → List PlainEntry → Durable
 led d records = fold (λ e entry. unwrap_or (applied e entry) e) d records
 
--- a record is an edit by which this request is answered, and none of the master's own
-abbrev pub edits_for : ReqId → PlainEntry → Bool
-edits_for req (Edited by edit) = same_op req by && not (tells_nobody edit)
-edits_for req entry = false
+-- a record is an edit by which this request is answered, and none of the master's own; or it tells its refusal
+abbrev pub tells_for : ReqId → PlainEntry → Bool
+tells_for req (Edited by edit) = same_op req by && not (tells_nobody edit)
+tells_for req (Said by refusal) = same_op req by
+tells_for req entry = false
 
-abbrev pub EditsNone : ReqId → List PlainEntry → Type 0
-EditsNone req records = list_any (edits_for req) records ≡ false
+abbrev pub TellsNone : ReqId → List PlainEntry → Type 0
+TellsNone req records = list_any (tells_for req) records ≡ false
 
--- where a snapshot is made, the record of its edit, and where it is refused none
-abbrev pub made_by : ReqId → (from to : Path) → Result Answer Refusal → List PlainEntry
-made_by req from to (Ok answer) = Edited req (Snapshot from to) ∷ []
-made_by req from to (Err refusal) = []
+-- where a snapshot is made, the record of its edit; where it is refused, that of its refusal, or none where that isn't recorded
+abbrev pub IsMadeBy : ReqId → (from to : Path) → Result Answer Refusal → List PlainEntry → Type 0
+IsMadeBy req from to (Ok answer) made = made ≡ Edited req (Snapshot from to) ∷ []
+IsMadeBy req from to (Err refusal) made = (made ≡ []) ⊎ (made ≡ Said req refusal ∷ [])
 
 -- ---- a snapshot that has waited
 
@@ -72,13 +73,15 @@ IsAmong p (q ∷ pending) = (q ≡ p) ⊎ IsAmong p pending
 abbrev pub WaitsSo : State → ReqId → Waiting → Type 0
 WaitsSo s req waiting = IsAmong (record { req = req; waits = waiting }) s.volatile.pending
 
--- Behind the first records of a turn it is answered: as by the names that stand there, where it names nothing hidden. What it records is the command that it is, where it is made; and no other record of the turn is an edit for it.
+-- Behind the first records of a turn it is answered: as by the names that stand there, where it names nothing hidden. Behind these stands what it records: the command that it is, where it is made, and else its refusal, if that is recorded; where it isn't, they are those up to some place. No other record of the turn is for it.
 pub record GoesOnPlainly (s : State) (t : Turn) (req : ReqId) (from to : Path) (result : Result Answer Refusal) : Type 0 where
   pub before : List PlainEntry
   pub behind : List PlainEntry
-  pub parts : t.records ≡ before ++ (made_by req from to result ++ behind)
-  pub none_before : EditsNone req before
-  pub none_behind : EditsNone req behind
+  pub made : List PlainEntry
+  pub is_made : IsMadeBy req from to result made
+  pub parts : t.records ≡ before ++ (made ++ behind)
+  pub none_before : TellsNone req before
+  pub none_behind : TellsNone req behind
   pub plainly : is_any_hidden (calls.Snapshot from to) ≡ false → (moment number : ℕ) → IsPlainBy (led s.durable before).names moment number (calls.Snapshot from to) result
 
 -- a message that is a reply is such
@@ -109,22 +112,22 @@ d = codes "d" ∷ []
 abbrev e : Path
 e = codes "e" ∷ []
 
-what_is_made_is_one_command : filter_map command_of (made_by a_request d e (Ok answers.Nothing)) ≡ commands.Snapshot d e ∷ []
-what_is_made_is_one_command = refl
+what_is_made_is_one_command : (made : List PlainEntry) → IsMadeBy a_request d e (Ok answers.Nothing) made → filter_map command_of made ≡ commands.Snapshot d e ∷ []
+what_is_made_is_one_command made is = ap (filter_map command_of) is
 
-what_is_refused_makes_nothing : made_by a_request d e (Err refusals.Exists) ≡ []
-what_is_refused_makes_nothing = refl
+a_refusal_may_be_recorded : IsMadeBy a_request d e (Err refusals.Exists) (Said a_request refusals.Exists ∷ [])
+a_refusal_may_be_recorded = inr refl
 
-its_own_edit : edits_for a_request (Edited a_request (Snapshot d e)) ≡ true
+its_own_edit : tells_for a_request (Edited a_request (Snapshot d e)) ≡ true
 its_own_edit = refl
 
-a_refusal_is_no_edit : edits_for a_request (Said a_request refusals.Exists) ≡ false
-a_refusal_is_no_edit = refl
+its_own_refusal : tells_for a_request (Said a_request refusals.Exists) ≡ true
+its_own_refusal = refl
 
-another_ones : edits_for a_request (Edited (record { client = record { 0 = 1 }; number = 8 }) (Snapshot d e)) ≡ false
+another_ones : tells_for a_request (Edited (record { client = record { 0 = 1 }; number = 8 }) (Snapshot d e)) ≡ false
 another_ones = refl
 
-a_copy_on_write_is_the_masters_own : edits_for own_request (Edited own_request (Cow d 0 7 8)) ≡ false
+a_copy_on_write_is_the_masters_own : tells_for own_request (Edited own_request (Cow d 0 7 8)) ≡ false
 a_copy_on_write_is_the_masters_own = refl
 
 -- no upgrade stands in a new store, so none ends

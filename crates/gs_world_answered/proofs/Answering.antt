@@ -16,22 +16,18 @@ use Rattle.gs_msg.specs.declared.message.Message.{Message}
 use Rattle.gs_msg.specs.declared.node.NodeId.{NodeId}
 use Rattle.gs_msg.specs.declared.node.NodeId.TheVariants as nodes
 use Rattle.gs_msg.specs.declared.node.StoreNode.TheVariants as keepers
-use Rattle.gs_path.specs.Path.{Path}
 use Rattle.gs_master.specs.Journaled.{text_seen}
 use Rattle.gs_master.specs.Masters.{MasterOf}
 use Rattle.gs_master_laws.specs.Standing.{Comes as HearsAt, IsNamed}
 use Rattle.gs_master_laws.specs.Written.{IsHeardBody}
-use Rattle.gs_master_plain.specs.Answers.{is_refused_by_store}
 use Rattle.gs_master_plain.specs.Commands.{command_of}
 use Rattle.gs_master_plain.specs.Doing.{NewCallsDoAsAnswered}
 use Rattle.gs_master_record.specs.Plain.{PlainEntry, Whole}
 use Rattle.gs_master_spec.specs.Durable.{Durable}
 use Rattle.gs_master_spec.specs.Handling.{handle, tick}
-use Rattle.gs_master_spec.specs.State.{is_failed}
-use Rattle.gs_master_waited.proofs.Steady.{message_meek, messages_plainly, tick_meek, ticks_plainly}
-use Rattle.gs_master_waited.specs.Replies.{WasKept}
-use Rattle.gs_master_waited.specs.Steady as steady
-use Rattle.gs_master_waited.specs.Steady.{ArePlainReplies, IsPlainCall, IsPlainCopy, IsPlainReply, IsPlainly, IsSteadyOrFailed}
+use Rattle.gs_master_spec.specs.State.{Turn, is_failed}
+use Rattle.gs_master_waited.proofs.Steady.{meek_replies, message_meek, messages_plainly, tick_meek, ticks_plainly}
+use Rattle.gs_master_waited.specs.Steady.{ArePlainReplies, IsMeek, IsMeekReply, IsPlainReply}
 use Rattle.gs_master_waited.specs.Waited.{RepliesSo}
 use Rattle.gs_nodes.specs.declared.place.MasterPlace.TheVariants.{Standing}
 use Rattle.gs_world.specs.Histories.{History}
@@ -47,54 +43,28 @@ use Rattle.gs_world_chunks.specs.Running.{IsReached, IsToldAt, Setup}
 use Rattle.gs_world_laws.specs.Steady.{HearsWithin, IsHeardAt, LastsSteady, StandsSteady, StepWithin}
 use Rattle.gs_world_lift.specs.Left.{as_left, left_of}
 use Rattle.gs_world_plain.specs.Written.{IsAllBut, messages_at, messages_of_message, messages_of_tick, records_at, records_of_message, records_of_tick}
-use Rattle.gs_world_answered.specs.Answered as answered
-use Rattle.gs_world_answered.specs.Answered.{AnswersCall, AtStep, CommandsAreOfRecords, IsReplyAsPlain, RepliesAreAsPlain, heard_at, moment_at}
+use Rattle.gs_world_answered.specs.Answered.{AnswersPlainly, AtStep, CommandsAreOfRecords, RepliesAreAsPlain, heard_at, moment_at}
 
 -- ---- replies, by the account
 
 module _ {D : Type 0} (m : MasterOf D) (a : Account) (records : List PlainEntry) (moment : Moment) (heard : Option Body) where
   abbrev Plain : ReqId → Result Answer Refusal → Type 0
-  Plain req result = IsReplyAsPlain m a records moment heard req result
+  Plain req result = AnswersPlainly m a records moment heard req result
 
   abbrev AllPlain : List Message → Type 0
   AllPlain messages = AllByRecursion (λ (n : Message). RepliesSo Plain n.body) messages
 
-  -- of a master that has what the account has
-  by_account : a.durable ≡ m.state.durable → (req : ReqId) (result : Result Answer Refusal) → IsPlainReply m.state records moment heard req result → Plain req result
-  by_account same req result (steady.Came call is comes) = answered.Came call is (record { tree = comes.tree; plainly = subst (λ (d : Durable). IsPlainly d.names moment.0 d.next_hidden call result) (sym same) comes.plainly; does = comes.does })
-  by_account same req result (steady.HadWaited from to waiting copy) = answered.HadWaited from to waiting (subst (λ (d : Durable). IsPlainCopy d records req from to result) (sym same) copy)
-  by_account same req result (steady.Again was) = answered.Again was
-  by_account same req result (steady.OtherCame call is other) = answered.OtherCame call is other
-  by_account same req result (steady.OtherWaited waiting is other) = answered.OtherWaited waiting is other
+  -- where a disk has failed
+  abbrev AllMeek : List Message → Type 0
+  AllMeek messages = is_failed m.state.fault ≡ true → (records ≡ []) × AllByRecursion (λ (n : Message). RepliesSo (IsMeekReply m.state heard) n.body) messages
 
-  -- of one of which a disk has failed
-  refused_copy : (req : ReqId) (from to : Path) (result : Result Answer Refusal) → records ≡ [] → is_refused_by_store result ≡ true → IsPlainCopy a.durable records req from to result
-  refused_copy req from to (Ok answer) none is = absurd (false≢true is)
-  refused_copy req from to (Err refusal) none is = record { before = []; behind = []; parts = none; none_before = refl; none_behind = refl; stands = a.durable; fits = refl; plainly = λ moment number text plain said. inl is }
-
-  by_failed : records ≡ [] → (req : ReqId) (result : Result Answer Refusal) → (is_refused_by_store result ≡ true) ⊎ WasKept m.state req result → IsPlainReply m.state records moment heard req result → Plain req result
-  by_failed none req result (inr kept) is = answered.Again kept
-  by_failed none req result (inl refused) (steady.Came call is comes) = answered.Came call is (record { tree = comes.tree; plainly = λ text plain said. inl refused; does = comes.does })
-  by_failed none req result (inl refused) (steady.HadWaited from to waiting copy) = answered.HadWaited from to waiting (refused_copy req from to result none refused)
-  by_failed none req result (inl refused) (steady.Again was) = answered.Again was
-  by_failed none req result (inl refused) (steady.OtherCame call is other) = answered.OtherCame call is other
-  by_failed none req result (inl refused) (steady.OtherWaited waiting is other) = answered.OtherWaited waiting is other
-
-  all_account : a.durable ≡ m.state.durable → (messages : List Message) → ArePlainReplies m.state records moment heard messages → AllPlain messages
-  all_account same [] all = tt
-  all_account same (n ∷ messages) all = (one n.body all.0, all_account same messages all.1)
+  all_plain : (messages : List Message) → ArePlainReplies a.durable m.state records moment heard messages → AllMeek messages → AllPlain messages
+  all_plain [] all meek = tt
+  all_plain (n ∷ messages) all meek = (one n.body all.0 (λ failed. ((meek failed).0, (meek failed).1.0)), all_plain messages all.1 (λ failed. ((meek failed).0, (meek failed).1.1)))
     where
-      one : (body : Body) → RepliesSo (IsPlainReply m.state records moment heard) body → RepliesSo Plain body
-      one (bodies.Reply req result) is = by_account same req result is
-      one body is = tt
-
-  all_failed : records ≡ [] → (messages : List Message) → AllByRecursion (λ (n : Message). RepliesSo (λ req result. (is_refused_by_store result ≡ true) ⊎ WasKept m.state req result) n.body) messages → ArePlainReplies m.state records moment heard messages → AllPlain messages
-  all_failed none [] meek all = tt
-  all_failed none (n ∷ messages) meek all = (one n.body meek.0 all.0, all_failed none messages meek.1 all.1)
-    where
-      one : (body : Body) → RepliesSo (λ req result. (is_refused_by_store result ≡ true) ⊎ WasKept m.state req result) body → RepliesSo (IsPlainReply m.state records moment heard) body → RepliesSo Plain body
-      one (bodies.Reply req result) meek is = by_failed none req result meek is
-      one body meek is = tt
+      one : (body : Body) → RepliesSo (IsPlainReply a.durable m.state records moment heard) body → (is_failed m.state.fault ≡ true → (records ≡ []) × RepliesSo (IsMeekReply m.state heard) body) → RepliesSo Plain body
+      one (bodies.Reply req result) is meek = record { plain = is; failed = meek }
+      one body is meek = tt
 
 -- ---- steps
 
@@ -110,17 +80,25 @@ module _ (law : NewCallsDoAsAnswered) {D : Type 0} (x : Setup D) (a : Account) (
       by true failed lasts told = inr failed
       by false sound lasts told = inl (told, lasts)
 
+  -- by what the account has
+  by_account : (t : Turn) (moment : Moment) (heard : Option Body) → a.durable ≡ m.state.durable → ArePlainReplies m.state.durable m.state t.records moment heard t.sent → ArePlainReplies a.durable m.state t.records moment heard t.sent
+  by_account t moment heard same all = subst (λ (d : Durable). ArePlainReplies d m.state t.records moment heard t.sent) (sym same) all
+
+  turn_plain : (t : Turn) (moment : Moment) (heard : Option Body) → ((is_failed m.state.fault ≡ true) → IsMeek m.state heard t) → (StandsSteady x.seen m → ArePlainReplies m.state.durable m.state t.records moment heard t.sent) → Had →
+      AllPlain m a t.records moment heard t.sent
+  turn_plain t moment heard meek plain has = all_plain m a t.records moment heard t.sent (by has) (λ failed. ((meek failed).none, (meek failed).sent))
+    where
+      by : Had → ArePlainReplies a.durable m.state t.records moment heard t.sent
+      by (inl has) = by_account t moment heard has.0 (plain has.1)
+      by (inr failed) = meek_replies a.durable m.state moment heard t (meek failed)
+
   message_plain : (message : Message) (moment : Moment) → IsNamed (HearsAt message moment) → IsHeardBody m.state.durable.names message.body → Had →
       AllPlain m a (handle m.config m.state message moment).records moment (Some message.body) (handle m.config m.state message moment).sent
-  message_plain message moment named low (inl has) =
-      all_account m a (handle m.config m.state message moment).records moment (Some message.body) has.0 (handle m.config m.state message moment).sent (messages_plainly law m.config m.state message moment named low (inl has.1.steady))
-  message_plain message moment named low (inr failed) =
-      let meek = message_meek m.config m.state message moment failed in
-      all_failed m a (handle m.config m.state message moment).records moment (Some message.body) meek.0 (handle m.config m.state message moment).sent meek.1 (messages_plainly law m.config m.state message moment named low (inr failed))
+  message_plain message moment named low has =
+      turn_plain (handle m.config m.state message moment) moment (Some message.body) (λ failed. message_meek m.config m.state message moment failed) (λ stands. messages_plainly law m.config m.state message moment named low (inl stands.steady)) has
 
   tick_plain : (moment : Moment) → Had → AllPlain m a (tick m.state moment).records moment None (tick m.state moment).sent
-  tick_plain moment (inl has) = all_account m a (tick m.state moment).records moment None has.0 (tick m.state moment).sent (ticks_plainly m.state moment (inl has.1.steady))
-  tick_plain moment (inr failed) = (let meek = tick_meek m.state moment failed in all_failed m a (tick m.state moment).records moment None meek.0 (tick m.state moment).sent meek.1 (ticks_plainly m.state moment (inr failed)))
+  tick_plain moment has = turn_plain (tick m.state moment) moment None (λ failed. tick_meek m.state moment failed) (λ stands. ticks_plainly m.state moment (inl stands.steady)) has
 
   module _ (old : History D) (at : old.nodes.master ≡ Standing m) (has : Had) where
     abbrev AtHeard : Moment → Option Message → Type 0

@@ -1,5 +1,5 @@
 -- Each reply that is sent at a step is of its turn; or it refuses the call that comes, since a disk fails, or no master stands.
-use Rattle.std.proofs.Common.{◌≡◌, inl, inr, ◌∙◌, ◌++◌, ℕ, Bool, true, false, not, List, [], ◌∷◌, refl, ap, sym, subst}
+use Rattle.std.proofs.Common.{◌≡◌, inl, inr, ◌∙◌, ◌++◌, ◌<◌, ℕ, Bool, true, false, not, List, [], ◌∷◌, refl, ap, sym, subst}
 use Rattle.std.specs.Prelude.{option_map, MatchBool, Option, Some, None, Result, Ok, Err, if◌then◌else◌}
 use Rattle.std.specs.List.{AllByRecursion}
 use Rattle.std.proofs.lemmas.Bool.{false≢true, true≢false}
@@ -31,6 +31,7 @@ use Rattle.gs_master_spec.specs.State.{Log, State, Turn, and_then, first_of, is_
 use Rattle.gs_master_spec.specs.Upgrades.{tell_all}
 use Rattle.gs_master_spec.specs.Whole.{checkpoint_of}
 use Rattle.gs_master_asked.proofs.Answering.{pick}
+use Rattle.gs_master_waited.proofs.Steady.{message_meek}
 use Rattle.gs_master_waited.specs.Waited.{RepliesSo}
 use Rattle.gs_msg.specs.declared.body.Body.{Body}
 use Rattle.gs_msg.specs.declared.body.Body.TheVariants as bodies
@@ -269,10 +270,14 @@ module _ (law : NewCallsDoAsAnswered) {D : Type 0} (x : Setup D) (given : IsGive
     records_are : (m : MasterOf D) → old.nodes.master ≡ Standing m → records_at (step_of H) old ≡ (handle m.config m.state message moment).records
     records_are m at = ap (records_of_message old.nodes.master moment) its ∙ ap (λ p. records_of_message p moment (Some message)) at
 
-    -- a disk fails
-    unsure_said : (body : Body) → heard_at (step_of H) old ≡ Some body → Says H (unsure (caller_of body))
-    unsure_said (bodies.Call req call) heard = (answered.Unsure call heard refl, tt)
-    unsure_said body heard = tt
+    -- a disk fails: of none that had failed, since that records nothing
+    unsure_said : is_sound_at old.nodes.master ≡ true → is_sound_at new.nodes.master ≡ false → (body : Body) → heard_at (step_of H) old ≡ Some body → Says H (unsure (caller_of body))
+    unsure_said before behind (bodies.Call req call) heard = (answered.Unsure call heard refl before behind, tt)
+    unsure_said before behind body heard = tt
+
+    was_sound : (m : MasterOf D) (place : ℕ) → place < length (handle m.config m.state message moment).records → (b : Bool) → is_failed m.state.fault ≡ b → not b ≡ true
+    was_sound m place within false fault = refl
+    was_sound m place within true fault = (let none = ap length (message_meek m.config m.state message moment fault).none in absurd (omega arith))
 
     -- none stands
     closed_said : is_sound_at old.nodes.master ≡ false → (body : Body) → heard_at (step_of H) old ≡ Some body → Says H (refusal_of_call (caller_of body))
@@ -286,7 +291,9 @@ module _ (law : NewCallsDoAsAnswered) {D : Type 0} (x : Setup D) (given : IsGive
         (stands_whole H m after (handle m.config m.state message moment) within (message, found, to, refl) plain at (is ∙ next_is) done.fault (ap (λ (s : State). s.durable) done.done.after) (inl (sym (records_are m at)))
         (λ has. (events_fit m.config m.state (HearsAt message moment) named has.steady.firm).fits)) (handle m.config m.state message moment).sent
         (subst (AllByRecursion (λ (n : Message). RepliesSo (AtStep (step_of H) old a m) n.body)) (said_is m at) (known m at)))
-    hears (Standing m) turn next at is (after, next_is, inr (place, cut)) known = subst (Says H) (sym cut.cut.sends) (unsure_said message.body heard_is)
+    hears (Standing m) turn next at is (after, next_is, inr (place, cut)) known =
+        subst (Says H) (sym cut.cut.sends)
+        (unsure_said (ap is_sound_at at ∙ was_sound m place cut.cut.within (is_failed m.state.fault) refl) (ap is_sound_at (is ∙ next_is) ∙ ap (λ (s : State). not (is_failed s.fault)) cut.cut.after) message.body heard_is)
     hears (Closed first second) turn next at is meets known = subst (Says H) (sym meets.1) (closed_said (ap is_sound_at at) message.body heard_is)
     hears Away turn next at is meets known = subst (Says H) (sym meets.1) (closed_said (ap is_sound_at at) message.body heard_is)
 

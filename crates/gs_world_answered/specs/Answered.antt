@@ -1,5 +1,5 @@
 -- What the master answers in a run to calls of the tree: what the plain machine answers that the store shows, with the command that it does then.
-use Rattle.std.specs.Prelude.{◌≡◌, ◌⊎◌, Err, List, None, Option, Result, Some, false, filter_map, option_map, refl, take, true, ℕ}
+use Rattle.std.specs.Prelude.{[], ◌≡◌, ◌⊎◌, Err, List, None, Option, Result, Some, false, filter_map, option_map, refl, take, true, ℕ}
 use Rattle.std.specs.List.{AllByRecursion}
 use Rattle.gs_base.specs.declared.numbers.ClientId.{ClientId}
 use Rattle.gs_base.specs.declared.numbers.Moment.{Moment}
@@ -9,14 +9,11 @@ use Rattle.gs_base.specs.declared.refusal.Refusal.TheVariants as refusals
 use Rattle.gs_master.specs.Masters.{MasterOf}
 use Rattle.gs_master_plain.specs.Answers.{is_refused_by_store, plain_answer}
 use Rattle.gs_master_plain.specs.Commands.{but_edit, command_of}
-use Rattle.gs_master_plain.specs.Doing.{done_by, done_if, is_of_tree}
 use Rattle.gs_master_record.specs.Plain.{PlainEntry}
 use Rattle.gs_master_spec.specs.Applied.{replayed}
-use Rattle.gs_master_spec.specs.declared.pending.Waiting.{Waiting}
-use Rattle.gs_master_spec.specs.declared.pending.Waiting.TheVariants as waits
-use Rattle.gs_master_waited.specs.Replies.{WasKept, is_other_wait}
-use Rattle.gs_master_waited.specs.Steady.{IsPlainCopy, IsPlainly}
-use Rattle.gs_master_waited.specs.Waited.{RepliesSo, WaitsSo}
+use Rattle.gs_master_spec.specs.State.{is_failed}
+use Rattle.gs_master_waited.specs.Steady.{IsMeekReply, IsPlainReply, IsPlainly}
+use Rattle.gs_master_waited.specs.Waited.{RepliesSo}
 use Rattle.gs_msg.specs.declared.answer.Answer.{Answer}
 use Rattle.gs_msg.specs.declared.body.Body.{Body}
 use Rattle.gs_msg.specs.declared.body.Body.TheVariants as bodies
@@ -24,7 +21,6 @@ use Rattle.gs_msg.specs.declared.call.Call.{Call}
 use Rattle.gs_msg.specs.declared.event.Event.{Event}
 use Rattle.gs_msg.specs.declared.message.Message.{Message}
 use Rattle.gs_nodes.specs.declared.place.MasterPlace.TheVariants.{Standing}
-use Rattle.gs_path.specs.Path.{Path}
 use Rattle.gs_world.specs.Histories.{Happens, History}
 use Rattle.gs_world.specs.Runs.{Comes, Step, Takes}
 use Rattle.gs_world_asked.specs.Answered.{sent_by}
@@ -46,23 +42,14 @@ moment_at (Takes client) = record { 0 = 0 }
 
 -- ---- a reply
 
--- A call of the tree that comes: by the names that the account has, and so by the plain view of the store. The records of the step say the command that it is, or, where it is refused, none.
-pub record AnswersCall {D : Type 0} (m : MasterOf D) (a : Account) (records : List PlainEntry) (moment : Moment) (req : ReqId) (call : Call) (result : Result Answer Refusal) : Type 0 where
-  pub tree : is_of_tree call ≡ true
-  pub plainly : IsPlainly a.durable.names moment.0 a.durable.next_hidden call result
-  pub does : filter_map command_of records ≡ done_if (done_by m.state moment call) result
-
--- It is to a call of the tree that comes; or to a snapshot that has waited, by the names to which the records before its own lead; or it is one that is kept, once more; or it is to a call that isn't of the tree.
-pub data IsReplyAsPlain {D : Type 0} (m : MasterOf D) (a : Account) (records : List PlainEntry) (moment : Moment) (heard : Option Body) (req : ReqId) (result : Result Answer Refusal) : Type 0 where
-  Came : (call : Call) → heard ≡ Some (bodies.Call req call) → AnswersCall m a records moment req call result → IsReplyAsPlain m a records moment heard req result
-  HadWaited : (from to : Path) → WaitsSo m.state req (waits.Snapshot from to) → IsPlainCopy a.durable records req from to result → IsReplyAsPlain m a records moment heard req result
-  Again : WasKept m.state req result → IsReplyAsPlain m a records moment heard req result
-  OtherCame : (call : Call) → heard ≡ Some (bodies.Call req call) → is_of_tree call ≡ false → IsReplyAsPlain m a records moment heard req result
-  OtherWaited : (waiting : Waiting) → WaitsSo m.state req waiting → is_other_wait waiting ≡ true → IsReplyAsPlain m a records moment heard req result
+-- It is by what the account has, and so, where names go by what is shown, by the plain view of the store. Of a master of which a disk has failed nothing is recorded, and it replies to the call that comes alone: it refuses, or gives what it keeps.
+pub record AnswersPlainly {D : Type 0} (m : MasterOf D) (a : Account) (records : List PlainEntry) (moment : Moment) (heard : Option Body) (req : ReqId) (result : Result Answer Refusal) : Type 0 where
+  pub plain : IsPlainReply a.durable m.state records moment heard req result
+  pub failed : is_failed m.state.fault ≡ true → (records ≡ []) × IsMeekReply m.state heard req result
 
 -- so at a step of a master that stands
 abbrev pub AtStep : {D : Type 0} → Step → History D → Account → MasterOf D → ReqId → Result Answer Refusal → Type 0
-AtStep step old a m req result = IsReplyAsPlain m a (records_at step old) (moment_at step) (heard_at step old) req result
+AtStep step old a m req result = AnswersPlainly m a (records_at step old) (moment_at step) (heard_at step old) req result
 
 -- ---- what is really sent
 
@@ -74,10 +61,10 @@ pub record StandsWhole {D : Type 0} (size : ℕ) (step : Step) (old new : Histor
   pub goes : IsPlainStep size step old new a b
   pub commands : filter_map but_edit goes.commands ≡ filter_map command_of (records_at step old)
 
--- it is what the turn of the step says; or it refuses the call that comes, since a disk fails at the turn, or no master stands
+-- It is what the turn of the step says, of which all stands where no disk had failed before. Or it refuses the call that comes, since a disk fails at the turn, which none had before; or since no master stands.
 pub data IsSentAsPlain {D : Type 0} (size : ℕ) (step : Step) (old new : History D) (a b : Account) (req : ReqId) (result : Result Answer Refusal) : Type 0 where
   OfTurn : (m : MasterOf D) → old.nodes.master ≡ Standing m → AtStep step old a m req result → (is_sound_at old.nodes.master ≡ true → StandsWhole size step old new a b) → IsSentAsPlain size step old new a b req result
-  Unsure : (call : Call) → heard_at step old ≡ Some (bodies.Call req call) → result ≡ Err refusals.Unsure → IsSentAsPlain size step old new a b req result
+  Unsure : (call : Call) → heard_at step old ≡ Some (bodies.Call req call) → result ≡ Err refusals.Unsure → is_sound_at old.nodes.master ≡ true → is_sound_at new.nodes.master ≡ false → IsSentAsPlain size step old new a b req result
   Closed : (call : Call) → heard_at step old ≡ Some (bodies.Call req call) → result ≡ Err refusals.Device → is_sound_at old.nodes.master ≡ false → IsSentAsPlain size step old new a b req result
 
 module _ {D : Type 0} (x : Setup D) where
