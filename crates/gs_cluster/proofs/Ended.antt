@@ -1,5 +1,5 @@
 -- What the threads and callers of a cluster leave is a run of a store, and the nodes that it leads to.
-use Rattle.std.proofs.Common.{◌≡◌, ◌≢◌, ◌∙◌, ◌+◌, ℕ, List, [], ◌∷◌, Some, Err, length, map, refl, sym, ap, subst, slice_get}
+use Rattle.std.proofs.Common.{◌≡◌, ◌≢◌, ◌∙◌, ◌+◌, ℕ, List, [], ◌∷◌, Some, Err, length, map, refl, sym, ap, subst, slice_get, arith}
 use Rattle.gs_base.specs.declared.config.Config.{Config}
 use Rattle.gs_base.specs.declared.refusal.Refusal.{Refusal}
 use Rattle.gs_msg.specs.declared.event.DiskId.{DiskId}
@@ -68,6 +68,10 @@ module _ {D : Type 0} (seen : D → List ℕ) (failures : D → ℕ) where
       run = run_of;
       ends = λ armed. sym (from (run_of armed).end.nodes (sized seen failures armed setting w.nodes (places_of w.nodes) w.numbers (run_of armed) ∙ sym sizes) (roles_are armed));
     }
+
+  -- where all nodes are there, all callers are
+  pub all_callers : (setting : Setting) (callers : List (Kept (Role D))) (threads : ℕ) → threads + length callers ≡ length (all_ids setting) → threads + setting.clients ≡ length (all_ids setting) → length callers ≡ setting.clients
+  all_callers setting callers threads all many = let given : ℕ = length callers in let clients : ℕ = setting.clients in omega arith
 
   -- why it didn't end well
   pub not_finished : {A : Type 0} (Fine : A → Type 0) (setting : Setting) (callers : List (Kept (Role D))) (threads : ℕ) (refusal : Refusal)

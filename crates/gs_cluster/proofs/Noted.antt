@@ -90,7 +90,7 @@ module _ {D : Type 0} (seen : D → List ℕ) (failures : D → ℕ) (setting : 
   pub for_none : (members : List (Member (Role D))) (notes : List Notes) → Whole_of given members notes → Whole_of [] members notes
   for_none members notes w = record { nodes = w.nodes; among = λ k a. absurd (none-some k a.1); numbers = w.numbers; kept = w.kept; match = w.match; are = w.are; told = w.told }
 
-  pub finishes : (members : List (Member (Role D))) (notes : List Notes) → Whole_of given members notes → (all : ℕ) (result : Result (Whole D) Refusal) → IsStore seen failures setting members notes result
+  pub finishes : (members : List (Member (Role D))) (notes : List Notes) → Whole_of given members notes → (all : ℕ) → length given ≡ all → (result : Result (Whole D) Refusal) → IsStore seen failures setting members notes result
       → FinishedWhole seen failures setting given all result
-  finishes members notes w all (Ok whole) store = store given w
-  finishes members notes w all (Err refusal) is = subst (λ r. FinishedWhole seen failures setting given all (Err r)) (sym is) tt
+  finishes members notes w all long (Ok whole) store = (long, store given w)
+  finishes members notes w all long (Err refusal) is = subst (λ r. FinishedWhole seen failures setting given all (Err r)) (sym is) tt

@@ -23,7 +23,7 @@ module _ {D : Type 0} (seen : D → List ℕ) (failures : D → ℕ) (setting : 
     pub run : (armed : DiskId → ℕ → MasterPlace D → MasterPlace D) → IsStoreRun seen failures armed setting kept (places_of kept)
     pub ends : (armed : DiskId → ℕ → MasterPlace D → MasterPlace D) → (run armed).end.nodes ≡ nodes_of nodes
 
-  -- `Stray` is said only where these aren't as many as the clients.
+  -- They are given only where these are as many as the clients, and `Stray` is said only where they aren't.
   abbrev pub Finished : Result (Nodes D) Refusal → Type 0
   Finished result = EndsAs HasRun (length given) setting.clients result
 
@@ -36,6 +36,6 @@ module _ {D : Type 0} (seen : D → List ℕ) (failures : D → ℕ) (setting : 
     pub ends : (armed : DiskId → ℕ → MasterPlace D → MasterPlace D) → (run armed).end ≡ record { nodes = nodes_of whole.nodes; sent = whole.sent }
     pub events_are : whole.events.items ≡ map (λ (p : Place). event_of p.entry.took) (places_of kept)
 
-  -- `Stray` is said only where these aren't so many.
+  -- It is given only where these are so many, and `Stray` is said only where they aren't.
   abbrev pub FinishedWhole : ℕ → Result (Whole D) Refusal → Type 0
   FinishedWhole all result = EndsAs HasWholeRun (length given) all result

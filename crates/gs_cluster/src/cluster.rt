@@ -153,7 +153,8 @@ impl<N: Plan + Send + Sync + 'static, D: Disk + Drop + Send + 'static> Cluster<N
     }
 
     /// Ends the threads, and gives the nodes as they have become, the clients of the callers among them: what each has taken, in the order of
-    /// the clocks, is a run of a store from its beginning to these nodes. `Stray` where a caller is missing.
+    /// the clocks, is a run of a store from its beginning to these nodes. It is given only where no caller is missing; `Stray` only where they
+    /// aren't as many as the clients.
     pub fn finish<R: Threads + Wait + Clock + Drop>(
         self,
         rt: &R,
@@ -173,7 +174,7 @@ impl<N: Plan + Send + Sync + 'static, D: Disk + Drop + Send + 'static> Cluster<N
 
     /// Ends the threads as `finish` does, of nodes that were to keep notes, and gives with the nodes all that they have ever sent, and the events
     /// that led to them: in the order of the clocks they are a run of a store from its beginning to this one. `Memory` too where no notes were
-    /// wanted, or memory was wanting for one.
+    /// wanted, or memory was wanting for one. It is given only where no caller is missing.
     pub fn finish_whole<R: Threads + Wait + Clock + Drop>(
         self,
         rt: &R,

@@ -53,8 +53,8 @@ pub(crate) fn whole_of<N: Plan, D: Disk + Drop>(
 
 /// What all nodes of a store come to that no thread has, in whatever order they are: the nodes as they have become, all that they have ever
 /// sent, and the events that led to them. In the order of the clocks these are a run of a store from its beginning to this one. Its sizes
-/// are those with which the nodes began. `Stray` where a node is missing; `Memory` too where no notes were wanted, or memory was wanting for
-/// one.
+/// are those with which the nodes began. It is given only where no node is missing; `Stray` only where they aren't as many as there are;
+/// `Memory` too where no notes were wanted, or memory was wanting for one.
 pub fn gather<N: Plan, D: Disk + Drop>(
     alloc: Global,
     config: Config,

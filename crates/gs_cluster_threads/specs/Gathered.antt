@@ -12,9 +12,9 @@ use Rattle.gs_cluster_notes.specs.declared.notes.Notes.{Notes}
 use Rattle.gs_cluster_threads.specs.declared.gathering.Gathered.{Gathered}
 use Rattle.gs_cluster_threads.specs.declared.gathering.Member.{Member}
 
--- All is well, or memory is wanting. `Stray` is said only where so many nodes aren't as many as there have to be.
+-- All is well, or memory is wanting. A store is given only where as many are given as there have to be, and `Stray` is said only where they aren't.
 abbrev pub EndsAs : {A : Type 0} → (A → Type 0) → ℕ → ℕ → Result A Refusal → Type 0
-EndsAs Well many all (Ok a) = Well a
+EndsAs Well many all (Ok a) = (many ≡ all) × Well a
 EndsAs Well many all (Err refusals.Memory) = ⊤
 EndsAs Well many all (Err refusals.Stray) = many ≡ all → ⊥
 EndsAs Well many all (Err refusal) = ⊥

@@ -36,8 +36,8 @@ fn are_all<N: Plan, C: Core + Drop>(nodes: &Vec<Node<N, C>>) -> bool
     }
 }
 
-/// What these nodes have come to, in whatever order they are, and what each has noted: their histories match. `Stray` where they
-/// aren't as many as there are.
+/// What these nodes have come to, in whatever order they are, and what each has noted: their histories match. It is given only where
+/// none is missing; `Stray` only where they aren't as many as there are.
 pub fn gather<N: Plan, C: Core + Drop>(
     alloc: Global,
     nodes: Vec<Node<N, C>>,

@@ -112,7 +112,8 @@ impl<N: Plan + Send + Sync + 'static, C: Core + Drop + Send + 'static> Hosts<N, 
         }
     }
 
-    /// Ends the threads, and gives what all nodes have come to, those of the callers among them, and what each has noted. `Stray` where a caller is missing.
+    /// Ends the threads, and gives what all nodes have come to, those of the callers among them, and what each has noted. It is given only where none is
+    /// missing; `Stray` only where they aren't as many as there are.
     pub fn finish<R: Threads + Wait>(
         self,
         rt: &R,

@@ -1,4 +1,4 @@
-use Rattle.std.proofs.Common.{◌≡◌, ◌∙◌, Err, length, rules}
+use Rattle.std.proofs.Common.{◌≡◌, ◌∙◌, Err, length, rules, sym}
 use Rattle.gs_cluster_core.specs.Roles.{DoesAs, StartsAs}
 use Rattle.gs_cluster_core.specs.declared.role.Role.{Role}
 use Rattle.gs_cluster_history.specs.Setting.{all_ids}
@@ -22,9 +22,10 @@ returns-in_err-gathered g c =
 
 pub whole_of-requires-clause-whole : goal.whole_of-requires-clause-whole
 whole_of-requires-clause-whole g c =
-    for_none g.D.Disk.seen g.D.Disk.failures g.N.Plan.setting c.args.nodes.items c.in_ok-gathered.gathered.members.items c.in_ok-gathered.gathered.notes.items c.in_ok-gathered.ensures
+    for_none g.D.Disk.seen g.D.Disk.failures g.N.Plan.setting c.args.nodes.items c.in_ok-gathered.gathered.members.items c.in_ok-gathered.gathered.notes.items c.in_ok-gathered.ensures.1
 
 pub returns : goal.returns
 returns g c =
     let setting = g.N.Plan.setting in
-    finishes g.D.Disk.seen g.D.Disk.failures setting c.args.nodes.items c.in_ok-gathered.gathered.members.items c.in_ok-gathered.gathered.notes.items c.in_ok-gathered.ensures (length (all_ids setting)) c.whole_of.result c.whole_of.ensures
+    finishes g.D.Disk.seen g.D.Disk.failures setting c.args.nodes.items c.in_ok-gathered.gathered.members.items c.in_ok-gathered.gathered.notes.items c.in_ok-gathered.ensures.1 (length (all_ids setting))
+    (sym c.args.nodes.ok.0 ∙ c.in_ok-gathered.ensures.0) c.whole_of.result c.whole_of.ensures

@@ -1,7 +1,7 @@
 use Rattle.std.proofs.Common.{◌≡◌, Err, map, rules, vec_len}
 use Rattle.gs_cluster.specs.Finished.{HasWholeRun}
 use Rattle.gs_cluster.specs.declared.caller.Caller.{Caller}
-use Rattle.gs_cluster.proofs.Ended.{not_finished}
+use Rattle.gs_cluster.proofs.Ended.{all_callers, not_finished}
 use Rattle.gs_cluster.proofs.Noted.{finishes, for_none}
 use Rattle.gs_cluster.proofs.cluster.Cluster.finish_whole.Goals as goal
 
@@ -17,10 +17,11 @@ returns-in_err-gathered g c =
 pub whole_of-requires-clause-whole : goal.whole_of-requires-clause-whole
 whole_of-requires-clause-whole g c =
     let callers = map (λ (k : Caller g.row.N.Denot g.row.D.Denot g.row.R.Denot). k.node) c.args.callers.items in
-    for_none g.D.Disk.seen g.D.Disk.failures g.N.Plan.setting callers c.in_ok-gathered.gathered.members.items c.in_ok-gathered.gathered.notes.items c.in_ok-gathered.ensures
+    for_none g.D.Disk.seen g.D.Disk.failures g.N.Plan.setting callers c.in_ok-gathered.gathered.members.items c.in_ok-gathered.gathered.notes.items c.in_ok-gathered.ensures.1
 
 pub returns : goal.returns
 returns g c =
     let setting = g.N.Plan.setting in
     let callers = map (λ (k : Caller g.row.N.Denot g.row.D.Denot g.row.R.Denot). k.node) c.args.callers.items in
-    finishes g.D.Disk.seen g.D.Disk.failures setting callers c.in_ok-gathered.gathered.members.items c.in_ok-gathered.gathered.notes.items c.in_ok-gathered.ensures setting.clients c.whole_of.result c.whole_of.ensures
+    finishes g.D.Disk.seen g.D.Disk.failures setting callers c.in_ok-gathered.gathered.members.items c.in_ok-gathered.gathered.notes.items c.in_ok-gathered.ensures.1 setting.clients
+    (all_callers g.D.Disk.seen g.D.Disk.failures setting callers (vec_len c.args.self.hosts.handles) c.in_ok-gathered.ensures.0 c.args.self.many) c.whole_of.result c.whole_of.ensures
