@@ -46,9 +46,10 @@ refused_alike Well Fine many all few whole refusal said same = absurd said
 -- with none left, what all nodes come to is what the threads and the callers do
 pub ends_so : {C : Type 0} (Does : Took → C → Upshot → C → Type 0) (Starts : NodeId → C → List Message → Type 0) (all : List NodeId) (callers nodes : List (Kept C)) (threads asked many left place : ℕ)
     → Ending callers threads nodes many left place → left ≡ 0 → asked ≡ length callers → (result : Result (Gathered C) Refusal) → Gathers Does Starts all many nodes result → Gathers Does Starts all (threads + asked) callers result
-ends_so Does Starts all callers nodes threads asked many left place e none long (Ok gathered) (same, w) =
-    ((let h = e.all in let c : ℕ = length callers in omega arith),
-    record { nodes = w.nodes; among = λ k a. w.among k (e.among k a); numbers = w.numbers; kept = w.kept; match = w.match; are = w.are; told = w.told })
+ends_so Does Starts all callers nodes threads asked many left place e none long (Ok gathered) (same, w) = (
+  (let h = e.all in let c : ℕ = length callers in omega arith),
+  record { nodes = w.nodes; among = λ k a. w.among k (e.among k a); numbers = w.numbers; kept = w.kept; match = w.match; are = w.are; told = w.told },
+)
 ends_so {C} Does Starts all callers nodes threads asked many left place e none long (Err refusal) said =
     refused_alike (λ (g : Gathered C). IsWhole Does Starts all nodes g.members.items g.notes.items) (λ (g : Gathered C). IsWhole Does Starts all callers g.members.items g.notes.items) many (length all) (threads + asked) (length all) refusal said
     (λ same. let h = e.all in let c : ℕ = length callers in omega arith)

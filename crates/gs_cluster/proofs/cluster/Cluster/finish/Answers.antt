@@ -20,7 +20,8 @@ nodes_from-requires g c =
 
 pub returns : goal.returns
 returns g c =
-    let callers = map (λ (k : Caller g.row.N.Denot g.row.D.Denot g.row.R.Denot). k.node) c.args.callers.items in
-    (all_callers g.D.Disk.seen g.D.Disk.failures g.N.Plan.setting callers (vec_len c.args.self.hosts.handles) c.in_ok-members.ensures.0 c.args.self.many,
-    has_run g.D.Disk.seen g.D.Disk.failures c.matching_histories_are_a_run_of_the_store.ensures g.N.Plan.setting callers c.in_ok-members.field-0.members.items c.in_ok-members.field-0.notes.items c.in_ok-members.ensures.1
-    c.args.self.config c.in_ok-nodes_from.field-0 c.args.self.sizes c.in_ok-nodes_from.ensures)
+    let callers = map (λ (k : Caller g.row.N.Denot g.row.D.Denot g.row.R.Denot). k.node) c.args.callers.items in (
+      all_callers g.D.Disk.seen g.D.Disk.failures g.N.Plan.setting callers (vec_len c.args.self.hosts.handles) c.in_ok-members.ensures.0 c.args.self.many,
+      has_run g.D.Disk.seen g.D.Disk.failures c.matching_histories_are_a_run_of_the_store.ensures g.N.Plan.setting callers c.in_ok-members.field-0.members.items c.in_ok-members.field-0.notes.items c.in_ok-members.ensures.1
+          c.args.self.config c.in_ok-nodes_from.field-0 c.args.self.sizes c.in_ok-nodes_from.ensures,
+    )
