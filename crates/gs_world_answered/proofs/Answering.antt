@@ -1,8 +1,7 @@
 -- Each reply of each step of a run is as the plain machine answers.
 use Rattle.std.proofs.Common.{◌≡◌, ◌⊎◌, inl, inr, ◌∙◌, ◌++◌, Bool, true, false, List, [], ◌∷◌, refl, ap, sym, subst}
-use Rattle.std.specs.Prelude.{filter_map, option_map, take, MatchBool, Option, Some, None, Result, Ok, Err}
+use Rattle.std.specs.Prelude.{filter_map, option_map, take, MatchBool, Option, Some, None, Result}
 use Rattle.std.specs.List.{AllByRecursion}
-use Rattle.std.proofs.lemmas.Bool.{false≢true}
 use Rattle.std.proofs.lemmas.List.Elements.{filter_map-append}
 use Rattle.gs_base.specs.declared.numbers.Moment.{Moment}
 use Rattle.gs_base.specs.declared.numbers.ReqId.{ReqId}
@@ -43,7 +42,7 @@ use Rattle.gs_world_chunks.specs.Running.{IsReached, IsToldAt, Setup}
 use Rattle.gs_world_laws.specs.Steady.{HearsWithin, IsHeardAt, LastsSteady, StandsSteady, StepWithin}
 use Rattle.gs_world_lift.specs.Left.{as_left, left_of}
 use Rattle.gs_world_plain.specs.Written.{IsAllBut, messages_at, messages_of_message, messages_of_tick, records_at, records_of_message, records_of_tick}
-use Rattle.gs_world_answered.specs.Answered.{AnswersPlainly, AtStep, CommandsAreOfRecords, RepliesAreAsPlain, heard_at, moment_at}
+use Rattle.gs_world_answered.specs.Answered.{AnswersPlainly, AtStep, CommandsAreOfRecords, RepliesAreAsPlain}
 
 -- ---- replies, by the account
 
