@@ -1,5 +1,5 @@
 -- How a view is settled, and how the calls that waited for it go on or end.
-use Rattle.std.specs.Prelude.{◌≡◌, ◌&&◌, ◌||◌, ℕ, Bool, false, not, List, [], ◌∷◌, ◌++◌, map, filter, Option, Some, None, Result, Ok, Err, if◌then◌else◌, refl}
+use Rattle.std.specs.Prelude.{◌≡◌, ◌&&◌, ◌||◌, ℕ, Bool, false, not, List, [], ◌∷◌, ◌++◌, map, filter, Option, Some, None, option_and_then, Result, Ok, Err, if◌then◌else◌, refl}
 use Rattle.std.specs.List.{list_all}
 use Rattle.std.specs.FinMap as fin
 use Rattle.gs_base.specs.Members.{is_member}
@@ -20,7 +20,7 @@ use Rattle.gs_msg.specs.declared.message.Message.{Message}
 use Rattle.gs_view.specs.declared.poll.Poll.{Poll}
 use Rattle.gs_master_record.specs.Plain.{PlainEdit, AddChunk, Cow, Snapshot, PlainEntry, Edited}
 use Rattle.gs_master_spec.specs.Beginning.{next_stamp, has_versions, has_handle, begin_at, copy_plan, waits_on}
-use Rattle.gs_master_spec.specs.Chunks.{may_begin, Chunk, chunk_at, is_quiet, view_by, settling}
+use Rattle.gs_master_spec.specs.Chunks.{may_begin, Chunk, chunk_at, is_quiet, view_by, view_of, settling}
 use Rattle.gs_master_spec.specs.Durable.{prepared_view}
 use Rattle.gs_master_spec.specs.State.{State, Plan, Turn, turned, unmoved, and_then, for_each, if_room, about, reply_to, answer_changes, ended_by, all_ended_by, fits}
 use Rattle.gs_master_spec.specs.Undoing.{edited_names}
@@ -66,12 +66,24 @@ ended_by_edit s req edit answer before = edit_turn s req (edit_plan req edit ans
 abbrev pub extended : State → ReqId → Path → ℕ → View → Turn
 extended s req path chunk view = ended_by_edit s req (AddChunk path chunk) (answers.Location chunk view s.durable.epoch) (changes.Place chunk ∷ [])
 
--- the chunk is quiet: its members are told to copy it
-abbrev pub copied : State → ReqId → Path → ℕ → ℕ → View → Turn
-copied s req path index old view =
+-- the settled view of a chunk that the master knows, where it is quiet
+abbrev pub quiet_view : Chunk → Option View
+quiet_view c = if is_quiet c then view_of c else None
+
+abbrev pub quiet_view_at : State → ℕ → Option View
+quiet_view_at s chunk = option_and_then quiet_view (chunk_at s chunk)
+
+-- its members are told to copy a chunk that is quiet, and one that isn't is copied by nobody
+abbrev pub copied_where : State → ReqId → Path → ℕ → ℕ → Option View → Turn
+copied_where s req path index old None = ended_by s req refusals.NoReplica
+copied_where s req path index old (Some view) =
+    if_room_for s req (turned s (waits_on (copy_plan (next_stamp s.durable) old view s.durable.next_handle req) req (waits.Copy path index old s.durable.next_handle)))
+
+abbrev pub copied : State → ReqId → Path → ℕ → ℕ → Turn
+copied s req path index old =
     if not (may_begin s.durable.phase) then ended_by s req refusals.RollingBack
     else if not (has_handle s.durable && has_versions s.durable 1) then ended_by s req refusals.Exhausted
-    else if_room_for s req (turned s (waits_on (copy_plan (next_stamp s.durable) old view s.durable.next_handle req) req (waits.Copy path index old s.durable.next_handle)))
+    else copied_where s req path index old (quiet_view_at s old)
 
 -- a lease is asked for
 abbrev pub leased_next : ReqId → Path → ℕ → ℕ → State → Turn
@@ -119,7 +131,7 @@ replicated s req chunk target view =
 unfoldable pub goes_on : State → ReqId → View → Waiting → Turn
 goes_on s req view (waits.Extend path chunk) = extended s req path chunk view
 goes_on s req view (waits.Lease path index chunk) = ended_with s req (answers.Location chunk view s.durable.epoch)
-goes_on s req view (waits.Quiet path index chunk) = copied s req path index chunk view
+goes_on s req view (waits.Quiet path index chunk) = copied s req path index chunk
 goes_on s req view (waits.Copy path index old new) = replaced s req path index old new
 goes_on s req view (waits.Snapshot from to) = copied_tree s req from to
 goes_on s req view (waits.Replicate chunk target) = replicated s req chunk target view
@@ -188,3 +200,18 @@ a_grant_to_the_primary = refl
 
 no_grant_of_a_quiet_view : grants 7 (a_view None) ≡ []
 no_grant_of_a_quiet_view = refl
+
+abbrev settled_chunk : Option Term → Bool → Chunk
+settled_chunk term moving = record { settled = Some (record { view = a_view term; is_moving = moving }); asking = None }
+
+a_quiet_chunk_is_copied_by_its_members : quiet_view (settled_chunk None false) ≡ Some (a_view None)
+a_quiet_chunk_is_copied_by_its_members = refl
+
+no_copy_of_a_leased_chunk : quiet_view (settled_chunk (Some (record { primary = 0; end = record { 0 = 60 } })) false) ≡ None
+no_copy_of_a_leased_chunk = refl
+
+no_copy_of_a_chunk_that_moves : quiet_view (settled_chunk None true) ≡ None
+no_copy_of_a_chunk_that_moves = refl
+
+no_copy_of_a_chunk_without_a_view : quiet_view (record { settled = None; asking = None }) ≡ None
+no_copy_of_a_chunk_without_a_view = refl
