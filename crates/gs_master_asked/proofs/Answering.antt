@@ -45,7 +45,7 @@ use Rattle.gs_master_spec.specs.Chunks.{Chunk, chunk_at, heard_no, heard_yes, he
 use Rattle.gs_master_spec.specs.Durable.{is_rolling, prepared_view}
 use Rattle.gs_master_spec.specs.Handling.{Numbered, New, Again, Older, about_turn, call_turn, called, called_unless, from_client, from_node, granted, granted_at, granted_view, handle, numbered, pressed, pressed_at, pressed_if, proposals, replied_again, server_turn, taken_as, waits_still}
 use Rattle.gs_master_spec.specs.Hearing.{ask_plan, drops, end_told, heard, is_leased_under, is_lost_at, is_stray, learned, lost, made_quiet, next_epoch, promised_at, promised_for, reported, reported_now, sends, stepped, unpromised_at, unpromised_for}
-use Rattle.gs_master_spec.specs.Settling.{all_go_on, all_refused, concerned, copied, edit_plan, edit_turn, ended_by_edit, ended_with, goes_on, if_room_for, is_quiet_at, leased_next, own_request, replace_plan, replaced_if, requests_of, settle_plan, settled_by, settled_if, settled_on, source_chunks}
+use Rattle.gs_master_spec.specs.Settling.{all_go_on, all_refused, concerned, copied, copied_where, edit_plan, edit_turn, ended_by_edit, ended_with, goes_on, if_room_for, is_quiet_at, leased_next, own_request, replace_plan, replaced_if, requests_of, settle_plan, settled_by, settled_if, settled_on, source_chunks, quiet_view_at}
 use Rattle.gs_master_spec.specs.State.{Plan, State, Turn, about, all_ended_by, and_then, ended_by, first_of, fits, for_each, if_room, is_failed, is_unopened, last_reply, met_by, refused, reply_to, turned, unmoved}
 use Rattle.gs_master_spec.specs.Undoing.{all_undone, edited_names}
 use Rattle.gs_master_spec.specs.Upgrades.{accepted_plan, all_unquiet, answers_for, begin_tests, chunk_count, commit_if, commit_on, commit_tests, end_tests, finalize, is_last_epoch, prepare_begin, prepare_commit, rollback_begin, tell_all, told_of, unless, unrestored}
@@ -397,15 +397,19 @@ module _ (P : ReqId → Type 0) where
         (pick (So s) (not (has_versions s.durable 1)) (ended_by s req refusals.Exhausted) begin (ended_turn req is s refusals.Exhausted w)
         (for_room_so req is s (turned s plan) w (planned P s plan w (waits_further P req is (begin_at s chunk purposes.Lease (Some req)) (waits.Lease path index chunk) (begin_so P s chunk purposes.Lease (Some req))))))
 
-    copied_so : (s : State) (path : Path) (index old : ℕ) (view : View) → W s → So s (copied s req path index old view)
-    copied_so s path index old view w =
+    where_so : (s : State) (path : Path) (index old : ℕ) (quiet : Option View) → W s → So s (copied_where s req path index old quiet)
+    where_so s path index old None w = ended_turn req is s refusals.NoReplica w
+    where_so s path index old (Some view) w =
         let copy = copy_plan (next_stamp s.durable) old view s.durable.next_handle req in
         let plan : Plan = waits_on copy req (waits.Copy path index old s.durable.next_handle) in
-        let begin = if_room_for s req (turned s plan) in
+        for_room_so req is s (turned s plan) w (planned P s plan w (waits_further P req is copy (waits.Copy path index old s.durable.next_handle) (copy_so P (next_stamp s.durable) old view s.durable.next_handle req)))
+
+    copied_so : (s : State) (path : Path) (index old : ℕ) → W s → So s (copied s req path index old)
+    copied_so s path index old w =
+        let copy = copied_where s req path index old (quiet_view_at s old) in
         let left = has_handle s.durable && has_versions s.durable 1 in
-        pick (So s) (not (may_begin s.durable.phase)) (ended_by s req refusals.RollingBack) (if not left then ended_by s req refusals.Exhausted else begin) (ended_turn req is s refusals.RollingBack w)
-        (pick (So s) (not left) (ended_by s req refusals.Exhausted) begin (ended_turn req is s refusals.Exhausted w)
-        (for_room_so req is s (turned s plan) w (planned P s plan w (waits_further P req is copy (waits.Copy path index old s.durable.next_handle) (copy_so P (next_stamp s.durable) old view s.durable.next_handle req)))))
+        pick (So s) (not (may_begin s.durable.phase)) (ended_by s req refusals.RollingBack) (if not left then ended_by s req refusals.Exhausted else copy) (ended_turn req is s refusals.RollingBack w)
+        (pick (So s) (not left) (ended_by s req refusals.Exhausted) copy (ended_turn req is s refusals.Exhausted w) (where_so s path index old (quiet_view_at s old) w))
 
     edit_turn_so : (s : State) (edit : PlainEdit) (answer : Answer) (before : List Change) (names : Result NamesView Refusal) → AreChanges P before → W s → So s (edit_turn s req (edit_plan req edit answer before) names)
     edit_turn_so s edit answer before (Ok names) so w = for_room_so req is s (turned s (edit_plan req edit answer before)) w (planned P s (edit_plan req edit answer before) w (edit_so P req is edit answer before so))
@@ -426,7 +430,7 @@ module _ (P : ReqId → Type 0) where
     unfolding goes_on
     goes_on_so s view (waits.Extend path new) w = edit_turn_so s (AddChunk path new) (answers.Location new view s.durable.epoch) (changes.Place new ∷ []) (edited_names (AddChunk path new) s.durable.names) (tt, tt) w
     goes_on_so s view (waits.Lease path index found) w = ended_with_so s (answers.Location found view s.durable.epoch) w
-    goes_on_so s view (waits.Quiet path index quiet) w = copied_so s path index quiet view w
+    goes_on_so s view (waits.Quiet path index quiet) w = copied_so s path index quiet w
     goes_on_so s view (waits.Copy path index old new) w = replaced_so path index old new (edited_names (Cow path index old new) s.durable.names) s w
     goes_on_so s view (waits.Snapshot from to) w =
         pick (So s) (list_all (is_quiet_at s) (source_chunks s from)) (ended_by_edit s req (Snapshot from to) answers.Nothing []) (unmoved s)

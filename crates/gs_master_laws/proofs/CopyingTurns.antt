@@ -1,8 +1,8 @@
 -- The copies on write of which a firm master tells servers are of chunks at rest.
-use Rattle.std.proofs.Common.{◌≡◌, ◌∙◌, ◌==◌, ◌&&◌, ◌||◌, ◌++◌, ℕ, Bool, true, false, not, cond, List, [], ◌∷◌, filter, length, refl, ap, sym, subst}
+use Rattle.std.proofs.Common.{◌≡◌, ◌∙◌, ◌==◌, ◌&&◌, ◌||◌, ◌++◌, inl, inr, ℕ, Bool, true, false, not, cond, List, [], ◌∷◌, filter, length, refl, ap, sym, subst}
 use Rattle.gs_base.specs.declared.epoch.EpochEnd.{EpochEnd}
 use Rattle.gs_master_state.specs.Sane.{may_wait_for}
-use Rattle.std.specs.Prelude.{is_some, nat_lt, map, slice_get, option_and_then, option_map, unwrap_or, Option, Some, None, Result, Ok, Err, if◌then◌else◌}
+use Rattle.std.specs.Prelude.{◌⊎◌, is_some, nat_lt, map, slice_get, option_and_then, option_map, unwrap_or, Option, Some, None, Result, Ok, Err, if◌then◌else◌}
 use Rattle.std.specs.Cmp.{nat_cmp_total, tied_itself}
 use Rattle.std.specs.FinMap as fin
 use Rattle.std.specs.List.{AllByRecursion, list_all}
@@ -35,13 +35,13 @@ use Rattle.gs_msg.specs.declared.message.Message.{Message}
 use Rattle.gs_msg.specs.declared.node.NodeId.{NodeId}
 use Rattle.gs_msg.specs.declared.node.NodeId.TheVariants as nodes
 use Rattle.gs_master_record.specs.Plain.{PlainEdit, AddChunk, Cow, Snapshot, Edited}
-use Rattle.gs_master_spec.specs.Applied.{after_edit, applied, if_fits, may_edit, with_edit}
+use Rattle.gs_master_spec.specs.Applied.{after_edit, applied, if_fits, may_edit, view_in, with_edit}
 use Rattle.gs_master_spec.specs.Beginning.{next_stamp, has_versions, has_handle, begin_at, all_begun, copy_plan, waits_on}
-use Rattle.gs_master_spec.specs.Chunks.{Chunk, chunk_at, has_entry, may_begin, may_settle, hears, heard_yes, heard_no, is_target, proposed_in, settling, step_of_yes, step_of_no, view_by, step_at_tick, with_answers}
+use Rattle.gs_master_spec.specs.Chunks.{Chunk, chunk_at, has_entry, is_quiet, may_begin, may_settle, hears, heard_yes, heard_no, is_target, proposed_in, settling, step_of_yes, step_of_no, view_by, step_at_tick, with_answers}
 use Rattle.gs_master_spec.specs.Durable.{Durable, Settled, is_rolling, prepared_view}
 use Rattle.gs_master_spec.specs.Handling.{handle, about_turn, server_turn, from_client, from_node, pressed, pressed_at, pressed_if}
 use Rattle.gs_master_spec.specs.Hearing.{stepped, heard, ask_plan, promised, promised_for, promised_at, unpromised, unpromised_for, unpromised_at, sends, next_epoch, learned, drops, lost, is_lost_at, made_quiet, reported, reported_now, is_stray, is_leased_under, end_told}
-use Rattle.gs_master_spec.specs.Settling.{all_go_on, all_refused, concerned, copied, edit_plan, edit_turn, ended_by_edit, ended_with, goes_on, grant_of, if_room_for, is_copied_by, is_quiet_at, leased_next, own_request, replace_plan, replaced_if, requests_of, settle_plan, settled_by, settled_if, settled_on, source_chunks}
+use Rattle.gs_master_spec.specs.Settling.{all_go_on, all_refused, concerned, copied, copied_where, edit_plan, edit_turn, ended_by_edit, ended_with, goes_on, grant_of, if_room_for, is_copied_by, is_quiet_at, leased_next, own_request, replace_plan, replaced_if, requests_of, settle_plan, settled_by, settled_if, settled_on, source_chunks, quiet_view, quiet_view_at}
 use Rattle.gs_master_spec.specs.State.{State, Plan, Turn, turned, unmoved, and_then, fits, if_room, met_by, about, is_failed, ended_by}
 use Rattle.gs_master_spec.specs.Undoing.{edited_names}
 use Rattle.gs_master_spec.specs.Volatile.{is_call}
@@ -155,22 +155,41 @@ module _ (chunk : ℕ) (view : View) where
   ended_copied : (s : State) (req : ReqId) (refusal : Refusal) → Holds true s → Stays chunk view s → Copied (ended_by s req refusal)
   ended_copied s req refusal h k = record { sent = λ u still. (tt, tt); stays = ended_stays s req refusal h k }
 
-  copied_so : (s : State) (req : ReqId) (path : Path) (index : ℕ) → Holds true s → Stays chunk view s → view.term ≡ None → Copied (copied s req path index chunk view)
+  -- such a chunk is quiet on its view, or isn't quiet
+  quiet_on_it : (s : State) → Stays chunk view s → (quiet_view_at s chunk ≡ None) ⊎ (quiet_view_at s chunk ≡ Some view)
+  unfolding chunk_at
+  quiet_on_it s k = by_entry (has_entry s chunk) (fin.get s.durable.chunks chunk) k.has
+    where
+      by_entry : (known : Bool) (settled : Option Settled) → settled ≡ Some (settled_on_it view)
+          → let found = option_and_then quiet_view (if known then Some (record { settled = settled; asking = fin.get s.volatile.moving chunk }) else None) in (found ≡ None) ⊎ (found ≡ Some view)
+      by_entry false settled e = inl refl
+      by_entry true None e = absurd (false≢true (ap is_some e))
+      by_entry true (Some settled) e = by_rest (is_quiet (record { settled = Some settled; asking = fin.get s.volatile.moving chunk }))
+        where
+          by_rest : (quiet : Bool) → ((if quiet then Some settled.view else None) ≡ None) ⊎ ((if quiet then Some settled.view else None) ≡ Some view)
+          by_rest true = inr (ap view_in e)
+          by_rest false = inl refl
+
+  copied_so : (s : State) (req : ReqId) (path : Path) (index : ℕ) → Holds true s → Stays chunk view s → view.term ≡ None → Copied (copied s req path index chunk)
   copied_so s req path index h k none =
-      let new = s.durable.next_handle in
-      let plan = waits_on (copy_plan (next_stamp s.durable) chunk view new req) req (waits.Copy path index chunk new) in
-      let begin = if_room_for s req (turned s plan) in
-      let second = if not (has_handle s.durable && has_versions s.durable 1) then ended_by s req refusals.Exhausted else begin in
+      let copy = copied_where s req path index chunk (quiet_view_at s chunk) in
+      let second = if not (has_handle s.durable && has_versions s.durable 1) then ended_by s req refusals.Exhausted else copy in
       pick Copied (not (may_begin s.durable.phase)) (ended_by s req refusals.RollingBack) second (ended_copied s req refusals.RollingBack h k) (by_left (has_handle s.durable && has_versions s.durable 1) refl)
     where
-      by_left : (b : Bool) → (has_handle s.durable && has_versions s.durable 1) ≡ b
-          → let plan = waits_on (copy_plan (next_stamp s.durable) chunk view s.durable.next_handle req) req (waits.Copy path index chunk s.durable.next_handle) in Copied (if not b then ended_by s req refusals.Exhausted else if_room_for s req (turned s plan))
-      by_left true left =
+      on_view : (has_handle s.durable && has_versions s.durable 1) ≡ true → Copied (copied_where s req path index chunk (Some view))
+      on_view left =
           let plan = waits_on (copy_plan (next_stamp s.durable) chunk view s.durable.next_handle req) req (waits.Copy path index chunk s.durable.next_handle) in
           let leaves = new_leaves s chunk (settled_on_it view) h.stands.kept (and_parts (has_handle s.durable) (has_versions s.durable 1) left).0 k.has in
           pick Copied (fits s.log plan.records) (turned s plan) (ended_by s req refusals.Full)
           (record { sent = λ u still. copies_of u chunk s.durable.next_handle view (next_stamp s.durable) still.has none still.unasked; stays = record { has = leaves.0; unasked = leaves.1 _ k.unasked } })
           (ended_copied s req refusals.Full h k)
+
+      by_left : (b : Bool) → (has_handle s.durable && has_versions s.durable 1) ≡ b → Copied (if not b then ended_by s req refusals.Exhausted else copied_where s req path index chunk (quiet_view_at s chunk))
+      by_left true left = by_view (quiet_on_it s k)
+        where
+          by_view : (quiet_view_at s chunk ≡ None) ⊎ (quiet_view_at s chunk ≡ Some view) → Copied (copied_where s req path index chunk (quiet_view_at s chunk))
+          by_view (inl e) = subst (λ o. Copied (copied_where s req path index chunk o)) (sym e) (ended_copied s req refusals.NoReplica h k)
+          by_view (inr e) = subst (λ o. Copied (copied_where s req path index chunk o)) (sym e) (on_view left)
       by_left false left = ended_copied s req refusals.Exhausted h k
 
   -- ---- one after the other
@@ -208,7 +227,7 @@ module _ (chunk : ℕ) (view : View) where
   -- one that copies the chunk goes on
   goes_copied : (s : State) (req : ReqId) (waiting : Waiting) → may_wait_for chunk waiting ≡ true → Holds true s → Stays chunk view s → view.term ≡ None → is_quieting waiting ≡ true → Copied (goes_on s req view waiting)
   unfolding goes_on
-  goes_copied s req (waits.Quiet path index quiet) may h k none is = subst (λ q. Copied (copied s req path index q view)) (same_number quiet chunk may) (copied_so s req path index h k none)
+  goes_copied s req (waits.Quiet path index quiet) may h k none is = subst (λ q. Copied (copied s req path index q)) (same_number quiet chunk may) (copied_so s req path index h k none)
   goes_copied s req waiting may h k none is = absurd (false≢true is)
 
   all_rest : (calls : List Pending) (s : State) → Holds true s → Going chunk s.volatile calls → Ready chunk s.durable → Stays chunk view s → AreQuiet calls → Rests (all_go_on view calls s)

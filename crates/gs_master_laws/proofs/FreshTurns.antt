@@ -36,7 +36,7 @@ use Rattle.gs_master_spec.specs.Hearing.{stepped, heard, ask_plan, send_plan, is
 use Rattle.gs_master_laws.specs.Promises.{ProposesFresh, ProposesFreshAtTicks}
 use Rattle.gs_master_laws.proofs.Fresh.{IsFreshTurn, may_follow, fresh_at, same_fresh, then_fresh, each_fresh, test_fresh, either_fresh, turn_fresh, ended_fresh, all_ended_fresh, not_false, next_follows, all_begun_fresh}
 use Rattle.gs_master_laws.proofs.FreshCalls.{call_fresh}
-use Rattle.gs_master_spec.specs.Settling.{ended_with, end_plan, if_room_for, edit_plan, edit_turn, ended_by_edit, copied, leased_next, replaced_if, replace_plan, goes_on, own_request, is_quiet_at, source_chunks, settle_plan, all_refused, all_go_on, settled_on, settled_if, settled_by, concerned, requests_of}
+use Rattle.gs_master_spec.specs.Settling.{ended_with, end_plan, if_room_for, edit_plan, edit_turn, ended_by_edit, copied, copied_where, leased_next, replaced_if, replace_plan, goes_on, own_request, is_quiet_at, source_chunks, settle_plan, all_refused, all_go_on, settled_on, settled_if, settled_by, concerned, requests_of, quiet_view_at}
 use Rattle.gs_master_spec.specs.State.{State, Plan, Turn, turned, unmoved, and_then, for_each, fits, if_room, met_by, about, is_failed, ended_by, first_of}
 use Rattle.gs_master_spec.specs.Undoing.{edited_names}
 use Rattle.gs_view.specs.declared.poll.Poll.{Poll}
@@ -70,15 +70,19 @@ leased_fresh req path index chunk s =
     (test_fresh s (not (has_versions s.durable 1)) (ended_by s req refusals.Exhausted) begin (λ is. ended_fresh req refusals.Exhausted s)
     (λ is. room_fresh s req (turned s plan) (turn_fresh s plan (next_follows s.durable.next_version chunk (not_false (has_versions s.durable 1) is)))))
 
-copied_fresh : (req : ReqId) (path : Path) (index old : ℕ) (view : View) (s : State) → IsFreshTurn s (copied s req path index old view)
-copied_fresh req path index old view s =
+where_fresh : (req : ReqId) (path : Path) (index old : ℕ) (quiet : Option View) (s : State) → has_versions s.durable 1 ≡ true → IsFreshTurn s (copied_where s req path index old quiet)
+where_fresh req path index old None s left = ended_fresh req refusals.NoReplica s
+where_fresh req path index old (Some view) s left =
     let plan : Plan = waits_on (copy_plan (next_stamp s.durable) old view s.durable.next_handle req) req (waits.Copy path index old s.durable.next_handle) in
-    let begin = if_room_for s req (turned s plan) in
+    room_fresh s req (turned s plan) (turn_fresh s plan (next_follows s.durable.next_version s.durable.next_handle left))
+
+copied_fresh : (req : ReqId) (path : Path) (index old : ℕ) (s : State) → IsFreshTurn s (copied s req path index old)
+copied_fresh req path index old s =
+    let copy = copied_where s req path index old (quiet_view_at s old) in
     let left = has_handle s.durable && has_versions s.durable 1 in
-    either_fresh s (not (may_begin s.durable.phase)) (ended_by s req refusals.RollingBack) (if not left then ended_by s req refusals.Exhausted else begin) (ended_fresh req refusals.RollingBack s)
-    (test_fresh s (not left) (ended_by s req refusals.Exhausted) begin (λ is. ended_fresh req refusals.Exhausted s)
-    (λ is. room_fresh s req (turned s plan)
-    (turn_fresh s plan (next_follows s.durable.next_version s.durable.next_handle (and_parts (has_handle s.durable) (has_versions s.durable 1) (not_false left is)).1))))
+    either_fresh s (not (may_begin s.durable.phase)) (ended_by s req refusals.RollingBack) (if not left then ended_by s req refusals.Exhausted else copy) (ended_fresh req refusals.RollingBack s)
+    (test_fresh s (not left) (ended_by s req refusals.Exhausted) copy (λ is. ended_fresh req refusals.Exhausted s)
+    (λ is. where_fresh req path index old (quiet_view_at s old) s (and_parts (has_handle s.durable) (has_versions s.durable 1) (not_false left is)).1))
 
 replaced_fresh : (req : ReqId) (path : Path) (index old new : ℕ) (names : Result NamesView Refusal) (s : State) → IsFreshTurn s (replaced_if s req path index old new names)
 replaced_fresh req path index old new (Ok names) s =
@@ -93,7 +97,7 @@ unfolding goes_on
 goes_on_fresh req view (waits.Extend path chunk) s =
     edit_fresh s req (AddChunk path chunk) (answers.Location chunk view s.durable.epoch) (changes.Place chunk ∷ []) (edited_names (AddChunk path chunk) s.durable.names)
 goes_on_fresh req view (waits.Lease path index chunk) s = ended_with_fresh req (answers.Location chunk view s.durable.epoch) s
-goes_on_fresh req view (waits.Quiet path index chunk) s = copied_fresh req path index chunk view s
+goes_on_fresh req view (waits.Quiet path index chunk) s = copied_fresh req path index chunk s
 goes_on_fresh req view (waits.Copy path index old new) s = replaced_fresh req path index old new (edited_names (Cow path index old new) s.durable.names) s
 goes_on_fresh req view (waits.Snapshot from to) s =
     either_fresh s (list_all (is_quiet_at s) (source_chunks s from)) (ended_by_edit s req (Snapshot from to) answers.Nothing []) (unmoved s)

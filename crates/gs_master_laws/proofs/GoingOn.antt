@@ -22,7 +22,7 @@ use Rattle.gs_master_spec.specs.Beginning.{begin_at, copy_plan, has_handle, has_
 use Rattle.gs_master_spec.specs.Chunks.{may_begin}
 use Rattle.gs_master_spec.specs.Durable.{Durable, Settled, is_rolling}
 use Rattle.gs_master_state.specs.Sane.{may_wait_for}
-use Rattle.gs_master_spec.specs.Settling.{all_go_on, copied, copied_tree, edit_plan, edit_turn, ended_by_edit, ended_with, extended, goes_on, if_room_for, is_quiet_at, leased_next, own_request, replace_plan, replaced, replaced_if, source_chunks}
+use Rattle.gs_master_spec.specs.Settling.{all_go_on, copied, copied_where, copied_tree, edit_plan, edit_turn, ended_by_edit, ended_with, extended, goes_on, if_room_for, is_quiet_at, leased_next, own_request, replace_plan, replaced, replaced_if, source_chunks, quiet_view_at}
 use Rattle.gs_master_spec.specs.State.{State, Plan, Turn, turned, unmoved, and_then, fits, ended_by}
 use Rattle.gs_master_spec.specs.Undoing.{edited_names}
 use Rattle.gs_master_spec.specs.Volatile.{paths_of}
@@ -121,17 +121,22 @@ module _ (chunk : ℕ) where
   proposed_ready : (d : Durable) (new : ℕ) → Ready chunk d → Ready chunk (proposed d new d.next_version)
   proposed_ready d new r = record { rolling = r.rolling; known = proposed_some d new chunk (fin.get d.chunks new) refl ∙ r.known }
 
-  copied_steps : (s : State) (req : ReqId) (path : Path) (index old : ℕ) (view : View) → Ready chunk s.durable → Steps chunk s (copied s req path index old view)
-  copied_steps s req path index old view r =
+  where_steps : (s : State) (req : ReqId) (path : Path) (index old : ℕ) (quiet : Option View) → (has_handle s.durable && has_versions s.durable 1) ≡ true → Ready chunk s.durable → Steps chunk s (copied_where s req path index old quiet)
+  where_steps s req path index old None left r = ended_steps s req refusals.NoReplica r
+  where_steps s req path index old (Some view) left r =
       let plan = waits_on (copy_plan (next_stamp s.durable) old view s.durable.next_handle req) req (waits.Copy path index old s.durable.next_handle) in
       let new = s.durable.next_handle in
-      let begin = if_room_for s req (turned s plan) in
-      let second = if not (has_handle s.durable && has_versions s.durable 1) then ended_by s req refusals.Exhausted else begin in
-      test_steps s (not (may_begin s.durable.phase)) (ended_by s req refusals.RollingBack) second (λ _. ended_steps s req refusals.RollingBack r)
-      (λ _. test_steps s (not (has_handle s.durable && has_versions s.durable 1)) (ended_by s req refusals.Exhausted) begin (λ _. ended_steps s req refusals.Exhausted r)
-      (λ left. let parts = and_parts (has_handle s.durable) (has_versions s.durable 1) (not_false (has_handle s.durable && has_versions s.durable 1) left) in
+      let parts = and_parts (has_handle s.durable) (has_versions s.durable 1) left in
       room_steps s req (turned s plan) r (one_steps s (Propose new s.durable.next_version) plan (proposed s.durable new s.durable.next_version)
-      (proposes s.durable new zero r.rolling parts.1 (or_right (is_settled s.durable new) (is_fresh new new) (next_is_fresh new 1 (omega arith) parts.0))) (proposed_ready s.durable new r))))
+      (proposes s.durable new zero r.rolling parts.1 (or_right (is_settled s.durable new) (is_fresh new new) (next_is_fresh new 1 (omega arith) parts.0))) (proposed_ready s.durable new r))
+
+  copied_steps : (s : State) (req : ReqId) (path : Path) (index old : ℕ) → Ready chunk s.durable → Steps chunk s (copied s req path index old)
+  copied_steps s req path index old r =
+      let copy = copied_where s req path index old (quiet_view_at s old) in
+      let second = if not (has_handle s.durable && has_versions s.durable 1) then ended_by s req refusals.Exhausted else copy in
+      test_steps s (not (may_begin s.durable.phase)) (ended_by s req refusals.RollingBack) second (λ _. ended_steps s req refusals.RollingBack r)
+      (λ _. test_steps s (not (has_handle s.durable && has_versions s.durable 1)) (ended_by s req refusals.Exhausted) copy (λ _. ended_steps s req refusals.Exhausted r)
+      (λ left. where_steps s req path index old (quiet_view_at s old) (not_false (has_handle s.durable && has_versions s.durable 1) left) r))
 
   leased_steps : (s : State) (req : ReqId) (path : Path) (index : ℕ) → Ready chunk s.durable → Steps chunk s (leased_next req path index chunk s)
   leased_steps s req path index r =
@@ -164,7 +169,7 @@ module _ (chunk : ℕ) where
       let parts = and_parts (list_all is_visible (path ∷ [])) (new == chunk) may in
       subst (λ c. Steps chunk s (extended s req path c view)) (same_number new chunk parts.1) (extended_steps s req path view (left_true (is_visible path) parts.0) r)
   on_steps s req view (waits.Lease path index leased) may r = same_steps s (ended_with s req (answers.Location leased view s.durable.epoch)) refl refl r
-  on_steps s req view (waits.Quiet path index quiet) may r = copied_steps s req path index quiet view r
+  on_steps s req view (waits.Quiet path index quiet) may r = copied_steps s req path index quiet r
   on_steps s req view (waits.Copy path index old new) may r =
       let parts = and_parts (list_all is_visible (path ∷ [])) (new == chunk) may in
       subst (λ c. Steps chunk s (replaced s req path index old c)) (same_number new chunk parts.1) (replaced_steps s req path index old (left_true (is_visible path) parts.0) r (edited_names (Cow path index old chunk) s.durable.names) refl)

@@ -161,8 +161,8 @@ edit_on s req edit answer before (Err refusal) h = ended_on req refusal s h
 leased_on : (req : ReqId) (path : Path) (index chunk : ℕ) (s : State) → IsRolling s → GoesOn (leased_next req path index chunk s)
 leased_on req path index chunk s h = rw h (ended_on req refusals.RollingBack s h)
 
-copied_on : (req : ReqId) (path : Path) (index old : ℕ) (view : View) (s : State) → IsRolling s → GoesOn (copied s req path index old view)
-copied_on req path index old view s h = rw h (ended_on req refusals.RollingBack s h)
+copied_on : (req : ReqId) (path : Path) (index old : ℕ) (s : State) → IsRolling s → GoesOn (copied s req path index old)
+copied_on req path index old s h = rw h (ended_on req refusals.RollingBack s h)
 
 replaced_on : (req : ReqId) (path : Path) (index old new : ℕ) (names : Result NamesView Refusal) (s : State) → IsRolling s → GoesOn (replaced_if s req path index old new names)
 replaced_on req path index old new (Ok names) s h =
@@ -176,7 +176,7 @@ pub goes_on_on : (req : ReqId) (view : View) (waiting : Waiting) (s : State) →
 unfolding goes_on
 goes_on_on req view (waits.Extend path chunk) s h = edit_on s req (AddChunk path chunk) (answers.Location chunk view s.durable.epoch) (changes.Place chunk ∷ []) (edited_names (AddChunk path chunk) s.durable.names) h
 goes_on_on req view (waits.Lease path index chunk) s h = ended_with_on req (answers.Location chunk view s.durable.epoch) s h
-goes_on_on req view (waits.Quiet path index chunk) s h = copied_on req path index chunk view s h
+goes_on_on req view (waits.Quiet path index chunk) s h = copied_on req path index chunk s h
 goes_on_on req view (waits.Copy path index old new) s h = replaced_on req path index old new (edited_names (Cow path index old new) s.durable.names) s h
 goes_on_on req view (waits.Snapshot from to) s h =
     either_on (list_all (is_quiet_at s) (source_chunks s from)) (ended_by_edit s req (Snapshot from to) answers.Nothing []) (unmoved s)

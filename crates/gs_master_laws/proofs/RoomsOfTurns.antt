@@ -50,7 +50,7 @@ use Rattle.gs_master_spec.specs.Volatile.{servers_or_none, with_restored}
 use Rattle.std.proofs.lemmas.Bool.{false≢true, true≢false}
 use Rattle.std.proofs.lemmas.Bool.Decides.{nat_tests}
 use Rattle.std.specs.Prelude.{fold, is_some, nat_le}
-use Rattle.gs_master_spec.specs.Settling.{ended_with, end_plan, if_room_for, edit_plan, edit_turn, ended_by_edit, copied, leased_next, replaced_if, replace_plan, goes_on, own_request, is_quiet_at, source_chunks, settle_plan, all_refused, all_go_on, settled_on, settled_if, settled_by, concerned, requests_of}
+use Rattle.gs_master_spec.specs.Settling.{ended_with, end_plan, if_room_for, edit_plan, edit_turn, ended_by_edit, copied, copied_where, leased_next, replaced_if, replace_plan, goes_on, own_request, is_quiet_at, source_chunks, settle_plan, all_refused, all_go_on, settled_on, settled_if, settled_by, concerned, requests_of, quiet_view_at}
 use Rattle.gs_master_spec.specs.State.{State, Plan, Turn, turned, unmoved, and_then, for_each, fits, if_room, met_by, about, is_failed, ended_by, first_of}
 use Rattle.gs_master_spec.specs.Undoing.{edited_names}
 use Rattle.gs_view.specs.declared.poll.Poll.{Poll}
@@ -86,13 +86,18 @@ module _ (told : Bool) where
       (ended_roomy told req refusals.RollingBack s)
       (either_roomy told s (not (has_versions s.durable 1)) (ended_by s req refusals.Exhausted) begin (ended_roomy told req refusals.Exhausted s) (room_roomy s req (turned s plan) (plan_adds told s plan refl refl)))
 
-  copied_roomy : (req : ReqId) (path : Path) (index old : ℕ) (view : View) (s : State) → Roomy told s (copied s req path index old view)
-  copied_roomy req path index old view s =
+  where_roomy : (req : ReqId) (path : Path) (index old : ℕ) (quiet : Option View) (s : State) → Roomy told s (copied_where s req path index old quiet)
+  where_roomy req path index old None s = ended_roomy told req refusals.NoReplica s
+  where_roomy req path index old (Some view) s =
       let plan : Plan = waits_on (copy_plan (next_stamp s.durable) old view s.durable.next_handle req) req (waits.Copy path index old s.durable.next_handle) in
-      let begin = if_room_for s req (turned s plan) in
+      room_roomy s req (turned s plan) (plan_adds told s plan refl refl)
+
+  copied_roomy : (req : ReqId) (path : Path) (index old : ℕ) (s : State) → Roomy told s (copied s req path index old)
+  copied_roomy req path index old s =
+      let copy = copied_where s req path index old (quiet_view_at s old) in
       let left = has_handle s.durable && has_versions s.durable 1 in
-      either_roomy told s (not (may_begin s.durable.phase)) (ended_by s req refusals.RollingBack) (if not left then ended_by s req refusals.Exhausted else begin) (ended_roomy told req refusals.RollingBack s)
-      (either_roomy told s (not left) (ended_by s req refusals.Exhausted) begin (ended_roomy told req refusals.Exhausted s) (room_roomy s req (turned s plan) (plan_adds told s plan refl refl)))
+      either_roomy told s (not (may_begin s.durable.phase)) (ended_by s req refusals.RollingBack) (if not left then ended_by s req refusals.Exhausted else copy) (ended_roomy told req refusals.RollingBack s)
+      (either_roomy told s (not left) (ended_by s req refusals.Exhausted) copy (ended_roomy told req refusals.Exhausted s) (where_roomy req path index old (quiet_view_at s old) s))
 
   replaced_roomy : (req : ReqId) (path : Path) (index old new : ℕ) (names : Result NamesView Refusal) (s : State) → Roomy told s (replaced_if s req path index old new names)
   replaced_roomy req path index old new (Ok names) s = by_room (fits s.log (Edited own_request (Cow path index old new) ∷ [])) refl
@@ -108,7 +113,7 @@ module _ (told : Bool) where
   goes_on_roomy req view (waits.Extend path chunk) s =
       edit_roomy s req (AddChunk path chunk) (answers.Location chunk view s.durable.epoch) (changes.Place chunk ∷ []) (edited_names (AddChunk path chunk) s.durable.names) tt refl
   goes_on_roomy req view (waits.Lease path index chunk) s = ended_with_roomy req (answers.Location chunk view s.durable.epoch) s
-  goes_on_roomy req view (waits.Quiet path index chunk) s = copied_roomy req path index chunk view s
+  goes_on_roomy req view (waits.Quiet path index chunk) s = copied_roomy req path index chunk s
   goes_on_roomy req view (waits.Copy path index old new) s = replaced_roomy req path index old new (edited_names (Cow path index old new) s.durable.names) s
   goes_on_roomy req view (waits.Snapshot from to) s =
       test_roomy told s (list_all (is_quiet_at s) (source_chunks s from)) (ended_by_edit s req (Snapshot from to) answers.Nothing []) (unmoved s)

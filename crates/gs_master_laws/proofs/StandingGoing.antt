@@ -26,7 +26,7 @@ use Rattle.gs_master_spec.specs.Beginning.{begin_at, copy_plan, has_handle, has_
 use Rattle.gs_master_spec.specs.Chunks.{asking_for, chunk_at, may_begin}
 use Rattle.gs_master_spec.specs.Durable.{Durable, is_given, is_listed, is_rolling}
 use Rattle.gs_master_state.specs.Sane.{are_apart, is_waited_by, makes, may_wait_for}
-use Rattle.gs_master_spec.specs.Settling.{all_go_on, copied, edit_plan, edit_turn, ended_by_edit, ended_with, extended, goes_on, if_room_for, is_quiet_at, leased_next, own_request, replace_plan, replaced, replaced_if, source_chunks}
+use Rattle.gs_master_spec.specs.Settling.{all_go_on, copied, copied_where, edit_plan, edit_turn, ended_by_edit, ended_with, extended, goes_on, if_room_for, is_quiet_at, leased_next, own_request, replace_plan, replaced, replaced_if, source_chunks, quiet_view_at}
 use Rattle.gs_master_spec.specs.State.{State, Turn, turned, unmoved, and_then, fits, ended_by, kept_in_memory, last_reply}
 use Rattle.gs_master_spec.specs.Replies.{is_later}
 use Rattle.gs_master_spec.specs.Undoing.{edited_names}
@@ -259,17 +259,14 @@ module _ (chunk : ℕ) (req : ReqId) (waiting : Waiting) where
       req_is k = cc
 
   -- the chunk is quiet, and is copied
-  copied_stepped : (s : State) (path : Path) (index old : ℕ) (view : View) → IsPath path → (is_visible path && true) ≡ true → Holds true s → NotAsked s.volatile req → is_pending s.volatile.pending req ≡ true → is_snapshot waiting ≡ false → Ready chunk s.durable
-      → Stepped req waiting s (copied s req path index old view)
-  copied_stepped s path index old view told visible h none here other r =
+  where_stepped : (s : State) (path : Path) (index old : ℕ) (quiet : Option View) → IsPath path → (is_visible path && true) ≡ true → Holds true s → NotAsked s.volatile req → is_pending s.volatile.pending req ≡ true → is_snapshot waiting ≡ false → Ready chunk s.durable
+      → (has_handle s.durable && has_versions s.durable 1) ≡ true → Stepped req waiting s (copied_where s req path index old quiet)
+  where_stepped s path index old None told visible h none here other r left = given_stepped s refusals.NoReplica h
+  where_stepped s path index old (Some view) told visible h none here other r left =
       let new = s.durable.next_handle in
       let next = waits.Copy path index old new in
       let plan = waits_on (copy_plan (next_stamp s.durable) old view new req) req next in
-      let begin = if_room_for s req (turned s plan) in
-      let second = if not (has_handle s.durable && has_versions s.durable 1) then ended_by s req refusals.Exhausted else begin in
-      test_stepped s (not (may_begin s.durable.phase)) (ended_by s req refusals.RollingBack) second (λ _. given_stepped s refusals.RollingBack h)
-      (λ _. test_stepped s (not (has_handle s.durable && has_versions s.durable 1)) (ended_by s req refusals.Exhausted) begin (λ _. given_stepped s refusals.Exhausted h)
-      (λ left. let parts = and_parts (has_handle s.durable) (has_versions s.durable 1) (not_false (has_handle s.durable && has_versions s.durable 1) left) in
+      let parts = and_parts (has_handle s.durable) (has_versions s.durable 1) left in
       let v = s.volatile in
       let w = changed v (changes.Wait req next) in
       let waited = wait req next s.durable v h.stands (visible, told) none in
@@ -282,7 +279,16 @@ module _ (chunk : ℕ) (req : ReqId) (waiting : Waiting) where
         stands = subst (λ o. Stands (unwrap_or o s.durable) (changed (changed w (changes.Enter new)) (changes.Ask new asking))) (sym fit) stands;
         others = others_waits req next v (changed (changed w (changes.Enter new)) (changes.Ask new asking)) new asking refl refl refl;
         bare = λ is. absurd (true≢false (sym is ∙ other));
-      })))
+      })
+
+  copied_stepped : (s : State) (path : Path) (index old : ℕ) → IsPath path → (is_visible path && true) ≡ true → Holds true s → NotAsked s.volatile req → is_pending s.volatile.pending req ≡ true → is_snapshot waiting ≡ false → Ready chunk s.durable
+      → Stepped req waiting s (copied s req path index old)
+  copied_stepped s path index old told visible h none here other r =
+      let copy = copied_where s req path index old (quiet_view_at s old) in
+      let second = if not (has_handle s.durable && has_versions s.durable 1) then ended_by s req refusals.Exhausted else copy in
+      test_stepped s (not (may_begin s.durable.phase)) (ended_by s req refusals.RollingBack) second (λ _. given_stepped s refusals.RollingBack h)
+      (λ _. test_stepped s (not (has_handle s.durable && has_versions s.durable 1)) (ended_by s req refusals.Exhausted) copy (λ _. given_stepped s refusals.Exhausted h)
+      (λ left. where_stepped s path index old (quiet_view_at s old) told visible h none here other r (not_false (has_handle s.durable && has_versions s.durable 1) left)))
 
   -- a lease is asked for, for a chunk that is listed
   leased_stepped : (s : State) (path : Path) (index new : ℕ) → IsPath path → (is_visible path && true) ≡ true → Holds true s → NotAsked s.volatile req → is_pending s.volatile.pending req ≡ true → is_snapshot waiting ≡ false → is_rolling s.durable.phase ≡ false
@@ -368,7 +374,7 @@ goes_so chunk s req view (waits.Extend path new) h go r =
     extended_stepped chunk req (waits.Extend path new) s path new view go.can.1.0 (left_true (is_visible path) go.can.0) go.can.1.1 same h (go.alone refl) (ap (fin.get s.volatile.moving) same ∙ go.bare refl) refl r
 goes_so chunk s req view (waits.Lease path index leased) h go r = answered_stepped chunk req (waits.Lease path index leased) s (answers.Location leased view s.durable.epoch) h (go.alone refl)
 goes_so chunk s req view (waits.Quiet path index quiet) h go r =
-    copied_stepped chunk req (waits.Quiet path index quiet) s path index quiet view go.can.1 go.can.0 h (go.alone refl) (is_here s.volatile (record { req = req; waits = waits.Quiet path index quiet }) go.now) refl r
+    copied_stepped chunk req (waits.Quiet path index quiet) s path index quiet go.can.1 go.can.0 h (go.alone refl) (is_here s.volatile (record { req = req; waits = waits.Quiet path index quiet }) go.now) refl r
 goes_so chunk s req view (waits.Copy path index old new) h go r =
     let same = same_number new chunk go.may in
     replaced_stepped chunk req (waits.Copy path index old new) s path index old new go.can.1 go.can.0 same h (go.alone refl) (is_here s.volatile (record { req = req; waits = waits.Copy path index old new }) go.now) (ap (fin.get s.volatile.moving) same ∙ go.bare refl) refl r

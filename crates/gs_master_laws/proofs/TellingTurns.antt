@@ -34,7 +34,7 @@ use Rattle.gs_master_spec.specs.Chunks.{Chunk, asking_for, chunk_at, has_entry, 
 use Rattle.gs_master_spec.specs.Durable.{is_rolling, prepared_view}
 use Rattle.gs_master_spec.specs.Handling.{handle, about_turn, server_turn, from_client, from_node, pressed, pressed_at, pressed_if, granted}
 use Rattle.gs_master_spec.specs.Hearing.{stepped, heard, ask_plan, send_plan, is_with_sealed, promised, promised_for, promised_at, unpromised, unpromised_for, unpromised_at, sends, next_epoch, behind, learned, drops, lost, is_lost_at, made_quiet, reported, reported_now, damaged, renewed, is_leased_under}
-use Rattle.gs_master_spec.specs.Settling.{ended_with, end_plan, if_room_for, edit_plan, edit_turn, ended_by_edit, copied, leased_next, replaced_if, replace_plan, goes_on, own_request, is_quiet_at, source_chunks, settle_plan, all_refused, all_go_on, settled_on, settled_if, settled_by, concerned, requests_of}
+use Rattle.gs_master_spec.specs.Settling.{ended_with, end_plan, if_room_for, edit_plan, edit_turn, ended_by_edit, copied, copied_where, leased_next, replaced_if, replace_plan, goes_on, own_request, is_quiet_at, source_chunks, settle_plan, all_refused, all_go_on, settled_on, settled_if, settled_by, concerned, requests_of, quiet_view_at}
 use Rattle.gs_master_spec.specs.State.{State, Plan, Turn, turned, unmoved, and_then, fits, if_room, met_by, about, is_failed, ended_by, answer_changes}
 use Rattle.gs_master_spec.specs.Undoing.{edited_names}
 use Rattle.gs_view.specs.Spoken.{with_yes, with_no}
@@ -80,17 +80,21 @@ module _ (req : ReqId) (own : IsRequest req) where
       either_tells s (not (may_begin s.durable.phase)) (ended_by s req refusals.RollingBack) (if not (has_versions s.durable 1) then ended_by s req refusals.Exhausted else begin) (ended_now refusals.RollingBack s (tt, bare))
       (either_tells s (not (has_versions s.durable 1)) (ended_by s req refusals.Exhausted) begin (ended_now refusals.Exhausted s (tt, bare)) (room_tells s (turned s plan) (plan_tells s plan (tt, tt) (tt, ((own, (told, low)), tt)))))
 
-  copied_tells : (path : Path) (index old : ℕ) (view : View) (s : State) → IsPath path → IsIndex index → TellsTurn s (copied s req path index old view)
-  copied_tells path index old view s told low =
+  where_tells : (path : Path) (index old : ℕ) (quiet : Option View) (s : State) → IsPath path → IsIndex index → TellsTurn s (copied_where s req path index old quiet)
+  where_tells path index old None s told low = ended_now refusals.NoReplica s (tt, bare)
+  where_tells path index old (Some view) s told low =
       let new = s.durable.next_handle in
       let copy = copy_plan (next_stamp s.durable) old view new req in
       let plan : Plan = waits_on copy req (waits.Copy path index old new) in
-      let begin = if_room_for s req (turned s plan) in
+      room_tells s (turned s plan) (plan_tells s plan (tt, tt) (all_both (IsToldChange copy.records) copy.changes (changes.Wait req (waits.Copy path index old new) ∷ [])
+      (new_fine new s.durable.next_version (asking_for (next_stamp s.durable) purposes.Quiet view.members (Some req))) ((own, (told, low)), tt)))
+
+  copied_tells : (path : Path) (index old : ℕ) (s : State) → IsPath path → IsIndex index → TellsTurn s (copied s req path index old)
+  copied_tells path index old s told low =
+      let copy = copied_where s req path index old (quiet_view_at s old) in
       let left = has_handle s.durable && has_versions s.durable 1 in
-      either_tells s (not (may_begin s.durable.phase)) (ended_by s req refusals.RollingBack) (if not left then ended_by s req refusals.Exhausted else begin) (ended_now refusals.RollingBack s (tt, bare))
-      (either_tells s (not left) (ended_by s req refusals.Exhausted) begin (ended_now refusals.Exhausted s (tt, bare))
-      (room_tells s (turned s plan) (plan_tells s plan (tt, tt) (all_both (IsToldChange copy.records) copy.changes (changes.Wait req (waits.Copy path index old new) ∷ [])
-      (new_fine new s.durable.next_version (asking_for (next_stamp s.durable) purposes.Quiet view.members (Some req))) ((own, (told, low)), tt)))))
+      either_tells s (not (may_begin s.durable.phase)) (ended_by s req refusals.RollingBack) (if not left then ended_by s req refusals.Exhausted else copy) (ended_now refusals.RollingBack s (tt, bare))
+      (either_tells s (not left) (ended_by s req refusals.Exhausted) copy (ended_now refusals.Exhausted s (tt, bare)) (where_tells path index old (quiet_view_at s old) s told low))
 
   replaced_tells : (path : Path) (index old new : ℕ) (names : Result NamesView Refusal) (s : State) → Fair names → IsPath path → IsIndex index → TellsTurn s (replaced_if s req path index old new names)
   replaced_tells path index old new (Ok names) s fair told low =
@@ -104,7 +108,7 @@ module _ (req : ReqId) (own : IsRequest req) where
   goes_on_tells view (waits.Extend path chunk) s taken =
       edit_tells s (AddChunk path chunk) (answers.Location chunk view s.durable.epoch) (changes.Place chunk ∷ []) (edited_names (AddChunk path chunk) s.durable.names) (fair_names (AddChunk path chunk) s.durable.names) taken (tt, tt)
   goes_on_tells view (waits.Lease path index chunk) s taken = ended_with_tells (answers.Location chunk view s.durable.epoch) s
-  goes_on_tells view (waits.Quiet path index chunk) s taken = copied_tells path index chunk view s taken.0 taken.1
+  goes_on_tells view (waits.Quiet path index chunk) s taken = copied_tells path index chunk s taken.0 taken.1
   goes_on_tells view (waits.Copy path index old new) s taken = replaced_tells path index old new (edited_names (Cow path index old new) s.durable.names) s (fair_names (Cow path index old new) s.durable.names) taken.0 taken.1
   goes_on_tells view (waits.Snapshot from to) s taken =
       either_tells s (list_all (is_quiet_at s) (source_chunks s from)) (ended_by_edit s req (Snapshot from to) answers.Nothing []) (unmoved s)

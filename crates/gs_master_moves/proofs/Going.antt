@@ -28,6 +28,7 @@ use Rattle.gs_edit.specs.View.{NamesView}
 use Rattle.gs_lease.specs.Transitions.{settled_view, term_of}
 use Rattle.gs_lease.specs.declared.view.Purpose.{Purpose}
 use Rattle.gs_lease.specs.declared.view.Purpose.TheVariants as purposes
+use Rattle.gs_lease.specs.declared.view.Term.{Term}
 use Rattle.gs_lease.specs.declared.view.View.{View}
 use Rattle.gs_msg.specs.declared.answer.Answer.TheVariants as answers
 use Rattle.gs_msg.specs.declared.body.Body.TheVariants as bodies
@@ -36,12 +37,12 @@ use Rattle.gs_path.specs.Path.{Path}
 use Rattle.gs_master_record.specs.Plain.{AddChunk, Cow, Snapshot, Edited}
 use Rattle.gs_master_spec.specs.Applied.{after_edit, applied, if_fits, is_visible, may_edit, view_in, with_edit}
 use Rattle.gs_master_spec.specs.Beginning.{begin_at, copy_plan, has_handle, has_versions, next_stamp, waits_on}
-use Rattle.gs_master_spec.specs.Chunks.{Chunk, ends_copy, has_entry, has_yes, have_all_spoken, heard_no, heard_yes, hears, is_target, may_begin, may_settle, once_spoken, proposed_in, sent_from, settling, source_in, step_after, step_at_tick, step_of_no, step_of_target, step_of_yes, view_by, with_answers}
-use Rattle.gs_master_spec.specs.Durable.{Durable, is_given, is_listed, is_rolling, prepared_view}
+use Rattle.gs_master_spec.specs.Chunks.{Chunk, chunk_at, ends_copy, has_entry, has_yes, have_all_spoken, heard_no, heard_yes, hears, is_target, may_begin, may_settle, once_spoken, proposed_in, sent_from, settling, source_in, step_after, step_at_tick, step_of_no, step_of_target, step_of_yes, view_by, with_answers}
+use Rattle.gs_master_spec.specs.Durable.{Durable, Settled, is_given, is_listed, is_rolling, prepared_view}
 use Rattle.gs_master_spec.specs.Handling.{pressed_if}
 use Rattle.gs_master_spec.specs.Hearing.{ask_plan, heard, promised_for, stepped, unpromised_for}
 use Rattle.gs_master_state.specs.Sane.{is_waited_by, makes, may_wait_for}
-use Rattle.gs_master_spec.specs.Settling.{all_go_on, all_refused, concerned, copied, edit_plan, edit_turn, ended_by_edit, ended_with, goes_on, if_room_for, is_copied_by, is_quiet_at, leased_next, own_request, replace_plan, replaced_if, requests_of, settle_plan, settled_by, settled_if, settled_on, source_chunks}
+use Rattle.gs_master_spec.specs.Settling.{all_go_on, all_refused, concerned, copied, copied_where, edit_plan, edit_turn, ended_by_edit, ended_with, goes_on, if_room_for, is_copied_by, is_quiet_at, leased_next, own_request, replace_plan, replaced_if, requests_of, settle_plan, settled_by, settled_if, settled_on, source_chunks, quiet_view, quiet_view_at}
 use Rattle.gs_master_spec.specs.State.{State, Turn, turned, unmoved, and_then, fits, ended_by}
 use Rattle.gs_master_spec.specs.Undoing.{edited_names}
 use Rattle.gs_master_spec.specs.Volatile.{is_call, is_pending, paths_of}
@@ -216,6 +217,10 @@ record Stays (chunk : ℕ) (view : View) (placed : Bool) (s : State) : Type 0 wh
   known : has_entry s chunk ≡ true
   listed : placed ≡ true → is_listed s.durable chunk ≡ true
 
+-- the view of a chunk that is quiet, by whether it is known, by what is settled of it and by what is asked
+abbrev quiet_in : Bool → Option Settled → Option Asking → Option View
+quiet_in known settled asking = option_and_then quiet_view (if known then Some (record { settled = settled; asking = asking }) else None)
+
 -- a copy that takes its place stands nowhere else
 cow_alone : (path : Path) (index old new : ℕ) (names after : NamesView) → edited_names (Cow path index old new) names ≡ Ok after → is_shared after new ≡ false
 cow_alone path index old new names after e =
@@ -288,15 +293,25 @@ module _ (config : Config) (came : Heard) (silent : hears_call came ≡ false) (
       room_for_chain s req (does_wait s req (waits_to_extend new) waits_so) (turned s (edit_plan req (AddChunk path new) (answers.Location new view s.durable.epoch) (changes.Place new ∷ []))) (Moves s (Extends req path new view) None ((names, e), settled, at_new, called, waits_so, silent))
   extended_chain req path new s called waits_so settled at_new (Err refusal) e = ended_chain config came s req (does_wait s req (waits_to_extend new) waits_so) refusal
 
-  copied_chain : (req : ReqId) (path : Path) (index old : ℕ) (s : State) → IsWaiting s req (waits_to_copy path index old) → has_entry s old ≡ true → is_listed s.durable old ≡ true → IsNext s → is_given s.durable.next_handle old ≡ true → IsSettledOn s old view → view.term ≡ None → Chained config came s (copied s req path index old view)
+  -- a chunk that is known, and settled on a view without a primary, is quiet on it
+  quiet_on : (s : State) (old : ℕ) → has_entry s old ≡ true → IsSettledOn s old view → view.term ≡ None → quiet_view_at s old ≡ Some view
+  unfolding chunk_at
+  quiet_on s old known settled none =
+      ap (λ b. quiet_in b (fin.get s.durable.chunks old) (fin.get s.volatile.moving old)) known
+      ∙ ap (λ o. quiet_in true o (fin.get s.volatile.moving old)) settled.has
+      ∙ ap (λ o. quiet_in true (Some (record { view = view; is_moving = false })) o) settled.unasked
+      ∙ ap (λ (term : Option Term). if is_none term then Some view else None) none
+
+  copied_chain : (req : ReqId) (path : Path) (index old : ℕ) (s : State) → IsWaiting s req (waits_to_copy path index old) → has_entry s old ≡ true → is_listed s.durable old ≡ true → IsNext s → is_given s.durable.next_handle old ≡ true → IsSettledOn s old view → view.term ≡ None → Chained config came s (copied s req path index old)
   copied_chain req path index old s waits_so known listed fresh given settled none =
       let there = does_wait s req (waits_to_copy path index old) waits_so in
       let new = s.durable.next_handle in
       let t = turned s (waits_on (copy_plan (next_stamp s.durable) old view new req) req (waits.Copy path index old new)) in
-      let begin = if_room_for s req t in
-      test_chain config came s (not (may_begin s.durable.phase)) (ended_by s req refusals.RollingBack) (if not (has_handle s.durable && has_versions s.durable 1) then ended_by s req refusals.Exhausted else begin) (λ _. ended_chain config came s req there refusals.RollingBack)
-      (λ _. test_chain config came s (not (has_handle s.durable && has_versions s.durable 1)) (ended_by s req refusals.Exhausted) begin (λ _. ended_chain config came s req there refusals.Exhausted)
-      (λ _. room_for_chain s req there t (Moves s (Copies old view req (Further req (waits.Copy path index old new))) None (record { known = known; listed = listed; fresh = fresh; given = given; settled = settled; quiet = none }, tt, (refl, refl, waits_so)))))
+      let copy = copied_where s req path index old (quiet_view_at s old) in
+      test_chain config came s (not (may_begin s.durable.phase)) (ended_by s req refusals.RollingBack) (if not (has_handle s.durable && has_versions s.durable 1) then ended_by s req refusals.Exhausted else copy) (λ _. ended_chain config came s req there refusals.RollingBack)
+      (λ _. test_chain config came s (not (has_handle s.durable && has_versions s.durable 1)) (ended_by s req refusals.Exhausted) copy (λ _. ended_chain config came s req there refusals.Exhausted)
+      (λ _. subst (λ o. Chained config came s (copied_where s req path index old o)) (sym (quiet_on s old known settled none))
+      (room_for_chain s req there t (Moves s (Copies old view req (Further req (waits.Copy path index old new))) None (record { known = known; listed = listed; fresh = fresh; given = given; settled = settled; quiet = none }, tt, (refl, refl, waits_so))))))
 
   tree_chain : (req : ReqId) (from to : Path) (s : State) → is_pending s.volatile.pending req ≡ true → list_all (is_quiet_at s) (source_chunks s from) ≡ true → (names : Result NamesView Refusal) → edited_names (Snapshot from to) s.durable.names ≡ names
       → Chained config came s (edit_turn s req (edit_plan req (Snapshot from to) answers.Nothing []) names)

@@ -45,7 +45,7 @@ use Rattle.gs_master_spec.specs.Chunks.{Chunk, chunk_at, heard_no, heard_yes, he
 use Rattle.gs_master_spec.specs.Durable.{is_rolling, prepared_view}
 use Rattle.gs_master_spec.specs.Handling.{Numbered, New, Again, Older, about_turn, call_turn, called, called_unless, from_client, from_node, granted, granted_at, granted_view, handle, numbered, pressed, pressed_at, pressed_if, proposals, replied_again, server_turn, taken_as, waits_still}
 use Rattle.gs_master_spec.specs.Hearing.{ask_plan, drops, end_told, heard, is_leased_under, is_lost_at, is_stray, learned, lost, made_quiet, next_epoch, promised_at, promised_for, reported, reported_now, sends, stepped, unpromised_at, unpromised_for}
-use Rattle.gs_master_spec.specs.Settling.{all_go_on, all_refused, concerned, copied, edit_plan, edit_turn, ended_by_edit, ended_with, goes_on, if_room_for, is_quiet_at, leased_next, own_request, replace_plan, replaced_if, requests_of, settle_plan, settled_by, settled_if, settled_on, source_chunks}
+use Rattle.gs_master_spec.specs.Settling.{all_go_on, all_refused, concerned, copied, copied_where, edit_plan, edit_turn, ended_by_edit, ended_with, goes_on, if_room_for, is_quiet_at, leased_next, own_request, replace_plan, replaced_if, requests_of, settle_plan, settled_by, settled_if, settled_on, source_chunks, quiet_view_at}
 use Rattle.gs_master_spec.specs.State.{Plan, State, Turn, about, all_ended_by, and_then, ended_by, first_of, fits, for_each, if_room, is_failed, is_unopened, last_reply, met_by, refused, reply_to, turned, unmoved}
 use Rattle.gs_master_spec.specs.Undoing.{all_undone, edited_names}
 use Rattle.gs_master_spec.specs.Upgrades.{accepted_plan, all_unquiet, answers_for, begin_tests, chunk_count, commit_if, commit_on, commit_tests, end_tests, finalize, is_last_epoch, prepare_begin, prepare_commit, rollback_begin, tell_all, told_of, unless, unrestored}
@@ -345,15 +345,19 @@ module _ (own : ReqId) (source place : Path) where
         (pick (Stays s) (not (has_versions s.durable 1)) (ended_by s req refusals.Exhausted) begin (ended_turn req is s refusals.Exhausted)
         (for_room_so req is s (turned s plan) (planned own source place s plan (waits_further P req is (begin_at s chunk purposes.Lease (Some req)) (waits.Lease path index chunk) (begin_so P s chunk purposes.Lease (Some req))) (tt, (tt, tt)))))
 
-    copied_so : (s : State) (path : Path) (index old : ℕ) (view : View) → Stays s (copied s req path index old view)
-    copied_so s path index old view =
+    where_so : (s : State) (path : Path) (index old : ℕ) (quiet : Option View) → Stays s (copied_where s req path index old quiet)
+    where_so s path index old None = ended_turn req is s refusals.NoReplica
+    where_so s path index old (Some view) =
         let copy = copy_plan (next_stamp s.durable) old view s.durable.next_handle req in
         let plan : Plan = waits_on copy req (waits.Copy path index old s.durable.next_handle) in
-        let begin = if_room_for s req (turned s plan) in
+        for_room_so req is s (turned s plan) (planned own source place s plan (waits_further P req is copy (waits.Copy path index old s.durable.next_handle) (copy_so P (next_stamp s.durable) old view s.durable.next_handle req)) (tt, (tt, (tt, tt))))
+
+    copied_so : (s : State) (path : Path) (index old : ℕ) → Stays s (copied s req path index old)
+    copied_so s path index old =
+        let copy = copied_where s req path index old (quiet_view_at s old) in
         let left = has_handle s.durable && has_versions s.durable 1 in
-        pick (Stays s) (not (may_begin s.durable.phase)) (ended_by s req refusals.RollingBack) (if not left then ended_by s req refusals.Exhausted else begin) (ended_turn req is s refusals.RollingBack)
-        (pick (Stays s) (not left) (ended_by s req refusals.Exhausted) begin (ended_turn req is s refusals.Exhausted)
-        (for_room_so req is s (turned s plan) (planned own source place s plan (waits_further P req is copy (waits.Copy path index old s.durable.next_handle) (copy_so P (next_stamp s.durable) old view s.durable.next_handle req)) (tt, (tt, (tt, tt))))))
+        pick (Stays s) (not (may_begin s.durable.phase)) (ended_by s req refusals.RollingBack) (if not left then ended_by s req refusals.Exhausted else copy) (ended_turn req is s refusals.RollingBack)
+        (pick (Stays s) (not left) (ended_by s req refusals.Exhausted) copy (ended_turn req is s refusals.Exhausted) (where_so s path index old (quiet_view_at s old)))
 
     edit_turn_so : (s : State) (edit : PlainEdit) (answer : Answer) (before : List Change) (names : Result NamesView Refusal) → AreChanges P before → EndsNone before → Stays s (edit_turn s req (edit_plan req edit answer before) names)
     edit_turn_so s edit answer before (Ok names) so none = for_room_so req is s (turned s (edit_plan req edit answer before)) (planned own source place s (edit_plan req edit answer before) (edit_so P req is edit answer before so) (both_so _ before (changes.End req ∷ []) none (is, tt)))
@@ -374,7 +378,7 @@ module _ (own : ReqId) (source place : Path) where
     unfolding goes_on
     goes_on_so s view (waits.Extend path new) = edit_turn_so s (AddChunk path new) (answers.Location new view s.durable.epoch) (changes.Place new ∷ []) (edited_names (AddChunk path new) s.durable.names) (tt, tt) (tt, tt)
     goes_on_so s view (waits.Lease path index found) = ended_with_so s (answers.Location found view s.durable.epoch)
-    goes_on_so s view (waits.Quiet path index quiet) = copied_so s path index quiet view
+    goes_on_so s view (waits.Quiet path index quiet) = copied_so s path index quiet
     goes_on_so s view (waits.Copy path index old new) = replaced_so path index old new (edited_names (Cow path index old new) s.durable.names) s
     goes_on_so s view (waits.Snapshot from to) =
         pick (Stays s) (list_all (is_quiet_at s) (source_chunks s from)) (ended_by_edit s req (Snapshot from to) answers.Nothing []) (unmoved s)

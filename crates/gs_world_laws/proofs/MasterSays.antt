@@ -47,7 +47,7 @@ use Rattle.gs_master_spec.specs.Chunks.{Chunk, chunk_at, heard_no, heard_yes, he
 use Rattle.gs_master_spec.specs.Durable.{Durable, is_rolling, prepared_view}
 use Rattle.gs_master_spec.specs.Handling.{Numbered, New, Again, Older, about_turn, call_turn, called, called_unless, checkpoint, checkpoint_body, checkpoint_tests, due, from_client, from_node, granted, granted_at, granted_view, handle, numbered, pressed, pressed_at, pressed_if, proposals, replied_again, server_turn, taken_as, tick, told_again, waits_still, written_if_due, written_unless}
 use Rattle.gs_master_spec.specs.Hearing.{ask_plan, drops, end_told, heard, is_leased_under, is_lost_at, is_stray, learned, lost, made_quiet, next_epoch, promised_at, promised_for, reported, reported_now, sends, stepped, unpromised_at, unpromised_for}
-use Rattle.gs_master_spec.specs.Settling.{all_go_on, all_refused, concerned, copied, edit_plan, edit_turn, ended_by_edit, ended_with, goes_on, grant_of, if_room_for, is_quiet_at, leased_next, own_request, replace_plan, replaced_if, requests_of, settle_plan, settled_by, settled_if, settled_on, source_chunks}
+use Rattle.gs_master_spec.specs.Settling.{all_go_on, all_refused, concerned, copied, copied_where, edit_plan, edit_turn, ended_by_edit, ended_with, goes_on, grant_of, if_room_for, is_quiet_at, leased_next, own_request, replace_plan, replaced_if, requests_of, settle_plan, settled_by, settled_if, settled_on, source_chunks, quiet_view_at}
 use Rattle.gs_master_spec.specs.State.{Plan, State, Turn, about, all_ended_by, and_then, ended_by, first_of, fits, for_each, if_room, is_failed, is_unopened, last_reply, met_by, post, refused, reply_to, to_each, turned, unmoved}
 use Rattle.gs_master_spec.specs.Undoing.{all_undone, edited_names}
 use Rattle.gs_master_spec.specs.Upgrades.{accepted_plan, all_unquiet, answers_for, begin_tests, chunk_count, commit_if, commit_on, commit_tests, end_tests, finalize, is_last_epoch, prepare_begin, prepare_commit, rollback_begin, tell_all, told_of, unless, unrestored}
@@ -363,13 +363,18 @@ module _ (Says : Message → Type 0) (kinds : EachKind Says) where
       pick Said (not (may_begin s.durable.phase)) (ended_by s req refusals.RollingBack) (if not (has_versions s.durable 1) then ended_by s req refusals.Exhausted else begin) (ended_said s req refusals.RollingBack)
       (pick Said (not (has_versions s.durable 1)) (ended_by s req refusals.Exhausted) begin (ended_said s req refusals.Exhausted) (for_room_said s req (turned s plan) (begun_said s chunk purposes.Lease (Some req))))
 
-  copied_said : (s : State) (req : ReqId) (path : Path) (index old : ℕ) (view : View) → Said (copied s req path index old view)
-  copied_said s req path index old view =
+  where_said : (s : State) (req : ReqId) (path : Path) (index old : ℕ) (quiet : Option View) → Said (copied_where s req path index old quiet)
+  where_said s req path index old None = ended_said s req refusals.NoReplica
+  where_said s req path index old (Some view) =
       let plan : Plan = waits_on (copy_plan (next_stamp s.durable) old view s.durable.next_handle req) req (waits.Copy path index old s.durable.next_handle) in
-      let begin = if_room_for s req (turned s plan) in
+      for_room_said s req (turned s plan) (copies_said (next_stamp s.durable) old view s.durable.next_handle req)
+
+  copied_said : (s : State) (req : ReqId) (path : Path) (index old : ℕ) → Said (copied s req path index old)
+  copied_said s req path index old =
+      let copy = copied_where s req path index old (quiet_view_at s old) in
       let left = has_handle s.durable && has_versions s.durable 1 in
-      pick Said (not (may_begin s.durable.phase)) (ended_by s req refusals.RollingBack) (if not left then ended_by s req refusals.Exhausted else begin) (ended_said s req refusals.RollingBack)
-      (pick Said (not left) (ended_by s req refusals.Exhausted) begin (ended_said s req refusals.Exhausted) (for_room_said s req (turned s plan) (copies_said (next_stamp s.durable) old view s.durable.next_handle req)))
+      pick Said (not (may_begin s.durable.phase)) (ended_by s req refusals.RollingBack) (if not left then ended_by s req refusals.Exhausted else copy) (ended_said s req refusals.RollingBack)
+      (pick Said (not left) (ended_by s req refusals.Exhausted) copy (ended_said s req refusals.Exhausted) (where_said s req path index old (quiet_view_at s old)))
 
   edit_turn_said : (s : State) (req : ReqId) (edit : PlainEdit) (answer : Answer) (before : List Change) (names : Result NamesView Refusal) → Said (edit_turn s req (edit_plan req edit answer before) names)
   edit_turn_said s req edit answer before (Ok names) = for_room_said s req (turned s (edit_plan req edit answer before)) (kinds.reply req (Ok answer), tt)
@@ -390,7 +395,7 @@ module _ (Says : Message → Type 0) (kinds : EachKind Says) where
   goes_on_said s req view (waits.Extend path new) =
       edit_turn_said s req (AddChunk path new) (answers.Location new view s.durable.epoch) (changes.Place new ∷ []) (edited_names (AddChunk path new) s.durable.names)
   goes_on_said s req view (waits.Lease path index found) = ended_with_said s req (answers.Location found view s.durable.epoch)
-  goes_on_said s req view (waits.Quiet path index quiet) = copied_said s req path index quiet view
+  goes_on_said s req view (waits.Quiet path index quiet) = copied_said s req path index quiet
   goes_on_said s req view (waits.Copy path index old new) = replaced_said req path index old new (edited_names (Cow path index old new) s.durable.names) s
   goes_on_said s req view (waits.Snapshot from to) =
       pick Said (list_all (is_quiet_at s) (source_chunks s from)) (ended_by_edit s req (Snapshot from to) answers.Nothing []) (unmoved s)
