@@ -2,14 +2,16 @@
 ghost use Rattle.std.specs.Prelude.{◌≡◌, Ok, Some};
 ghost use Rattle.std.specs.FinMap as fin;
 ghost use Rattle.gs_master.specs.Masters.{MasterAnswers};
+ghost use Rattle.gs_master.specs.inner.Copying.{copied_now};
 ghost use Rattle.gs_master.specs.inner.Turns.{GoesBack, IsUnderWay, state_at, EventSteps};
-ghost use Rattle.gs_master_spec.specs.Beginning.{begin_at, copy_plan, next_stamp};
+ghost use Rattle.gs_master_spec.specs.Beginning.{begin_at};
 ghost use Rattle.gs_master_spec.specs.Calls.{found_chunk};
 ghost use Rattle.gs_master_spec.specs.Chunks.{chunk_at, view_of};
 ghost use Rattle.gs_master_spec.specs.Handling.{call_turn};
+ghost use Rattle.gs_master_spec.specs.Settling.{quiet_view_at};
 ghost use Rattle.gs_master_state.specs.inner.Judging.{length_at};
 ghost use Rattle.gs_master_state.specs.inner.Knowing.{known_of};
-ghost use Rattle.gs_master_spec.specs.Working.{begins, begins_new, copied_on_write, created_on, extends, found_for_writing, leased, may_use, replicated_to, replicates, replicates_chunk};
+ghost use Rattle.gs_master_spec.specs.Working.{begins, copied_on_write, created_on, extends, found_for_writing, leased, may_use, replicated_to, replicates, replicates_chunk};
 ghost use Rattle.gs_msg.specs.declared.call.Call.TheVariants as calls;
 ghost use Rattle.gs_master_spec.specs.declared.pending.Waiting.TheVariants as waits;
 
@@ -18,7 +20,7 @@ use crate::master::Master;
 use crate::turn::Turn;
 use gs_base::{Config, Handle, Members, Moment, Refusal, ReqId, Stamp};
 use gs_journal::Disk;
-use gs_lease::{Purpose, View};
+use gs_lease::Purpose;
 use gs_master_guard::writing::has_to_be_copied;
 use gs_master_plan::view::{copy_plan, create_plan};
 use gs_master_spec::pending::Waiting;
@@ -82,12 +84,17 @@ impl Event {
     }
 
     /// A quiet chunk that stands in several places is copied.
-    fn copy_place(&mut self, req: ReqId, place: Place, view: &View) -> Result<(), Refusal>
+    fn copy_place(&mut self, req: ReqId, place: Place) -> Result<(), Refusal>
         requires { IsUnderWay self.old }
-        ensures steps { EventSteps (begins_new (state_at self.old) req (copy_plan (next_stamp (state_at self.old).durable) place.chunk view.now (state_at self.old).durable.next_handle req) (waits.Copy place.path place.index place.chunk (state_at self.old).durable.next_handle)) self.old result self.new }
+        ensures steps { EventSteps (copied_now (state_at self.old) req place.path place.index place.chunk (quiet_view_at (state_at self.old) place.chunk)) self.old result self.new }
         ensures back { GoesBack self.old self.new }
     {
         let Place { path, index, chunk } = place;
+        let old = chunk;
+        let standing = self.standing();
+        let Some(quiet) = standing.quiet_at(old) else {
+            return self.refuse(req, Refusal::NoReplica);
+        };
         let Some(new) = self.recorded.next_handle() else {
             return self.refuse(req, Refusal::Exhausted);
         };
@@ -95,8 +102,7 @@ impl Event {
             return self.refuse(req, Refusal::Exhausted);
         }
         let stamp = self.recorded.next_stamp();
-        let begun = copy_plan(self.alloc, stamp, chunk, view, new, req)?;
-        let old = chunk;
+        let begun = copy_plan(self.alloc, stamp, old, quiet, new, req)?;
         let waits = Waiting::Copy {
             path,
             index,
@@ -109,18 +115,19 @@ impl Event {
 
     /// A chunk that stands in several places is made quiet and copied first.
     fn copy_on_write(&mut self, req: ReqId, place: Place, known: &Known) -> Result<(), Refusal>
-        requires { IsUnderWay self.old }
+        requires ready { IsUnderWay self.old }
+        requires known { chunk_at (state_at self.old) place.chunk ≡ Some (known_of known.now) }
         ensures steps { EventSteps (copied_on_write (state_at self.old) req place.path place.index place.chunk (known_of known.now) (view_of (known_of known.now))) self.old result self.new }
         ensures back { GoesBack self.old self.new }
     {
-        let Some(view) = known.view() else {
+        if known.view().is_none() {
             return self.refuse(req, Refusal::NoReplica);
-        };
+        }
         if known.is_wanted() {
             return self.refuse(req, Refusal::Locked);
         }
         if known.is_quiet() {
-            return self.copy_place(req, place, &view);
+            return self.copy_place(req, place);
         }
         let Place { path, index, chunk } = place;
         let waits = Waiting::Quiet { path, index, chunk };

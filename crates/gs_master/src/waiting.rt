@@ -141,17 +141,10 @@ impl Event {
         self.end_by_edit(req, Edit::AddChunk(path, chunk), answer, before)
     }
 
-    /// A quiet chunk is copied.
-    fn copy(
-        &mut self,
-        req: ReqId,
-        path: Path,
-        index: u64,
-        old: Handle,
-        view: &View,
-    ) -> Result<(), Refusal>
+    /// A chunk is copied, where it is quiet.
+    fn copy(&mut self, req: ReqId, path: Path, index: u64, old: Handle) -> Result<(), Refusal>
         requires { IsUnderWay self.old }
-        ensures steps { EventSteps (copied (state_at self.old) req path index old view.now) self.old result self.new }
+        ensures steps { EventSteps (copied (state_at self.old) req path index old) self.old result self.new }
         ensures back { GoesBack self.old self.new }
     {
         if !may_begin(self.recorded.phase) {
@@ -163,9 +156,11 @@ impl Event {
         if !self.recorded.has_versions(1) {
             return self.end_by(req, Refusal::Exhausted);
         }
-        let plan = self
-            .standing()
-            .copying_plan(req, path, index, old, view, new)?;
+        let standing = self.standing();
+        let Some(quiet) = standing.quiet_at(old) else {
+            return self.end_by(req, Refusal::NoReplica);
+        };
+        let plan = standing.copying_plan(req, path, index, old, quiet, new)?;
         self.carry_out_for(req, plan)
     }
 
@@ -306,7 +301,7 @@ impl Event {
                 };
                 self.end_with(req, answer)
             },
-            Waiting::Quiet { path, index, chunk } => self.copy(req, path, index, chunk, view),
+            Waiting::Quiet { path, index, chunk } => self.copy(req, path, index, chunk),
             Waiting::Copy {
                 path,
                 index,

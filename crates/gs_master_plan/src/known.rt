@@ -2,18 +2,19 @@
 ghost use Rattle.std.specs.Prelude.{◌&&◌, ◌++◌, ◌≡◌, filter, IfOk, not, option_and_then, option_map};
 ghost use Rattle.std.specs.FinMap as fin;
 ghost use Rattle.std.specs.List.{list_any};
+ghost use Rattle.gs_lease.specs.Views.{as_view};
 ghost use Rattle.gs_master_plan.specs.inner.Planning.{state_of};
 ghost use Rattle.gs_master_spec.specs.Chunks.{Chunk, chunk_at, has_entry, is_quiet};
 ghost use Rattle.gs_master_state.specs.inner.Knowing.{known_of};
 ghost use Rattle.gs_master_spec.specs.Quieted.{TellsQuiet};
-ghost use Rattle.gs_master_spec.specs.Settling.{is_quiet_at, requests_of};
+ghost use Rattle.gs_master_spec.specs.Settling.{is_quiet_at, quiet_view_at, requests_of};
 ghost use Rattle.gs_master_state.specs.inner.Surveying.{chunk_set, has_unquiet};
 ghost use Rattle.gs_master_spec.specs.Upgrades.{all_unquiet, chunk_count};
 ghost use Rattle.gs_master_spec.specs.Working.{ascending, is_wanted_at, unquiet};
 
 use crate::standing::Standing;
 use gs_base::{Handle, Refusal, ReqId};
-use gs_lease::AllQuiet;
+use gs_lease::{AllQuiet, Quiet};
 use gs_master_spec::asking::Asking;
 use gs_master_state::known::{Known, chunk_set, is_settled};
 use gs_path::Path;
@@ -59,6 +60,17 @@ impl<'a> Standing<'a> {
             Some(known) => known.is_quiet(),
             None => false,
         }
+    }
+
+    /// A chunk that is quiet, as the master's table of leases has it: it isn't leased, and no view is proposed for it.
+    #[tactic(auto, unfolding(gs_master_spec::specs::Chunks::chunk_at))]
+    pub fn quiet_at(&self, chunk: Handle) -> Option<&'a Quiet>
+        ensures { option_map (λ quiet. as_view quiet.now) result ≡ quiet_view_at (state_of self.entry.now) chunk }
+    {
+        if !self.has_entry(chunk) || self.memory.asking(chunk).is_some() {
+            return None;
+        }
+        self.recorded.quiet(chunk)
     }
 
     /// Whether a call that waits moves a chunk.

@@ -1,6 +1,7 @@
 // Views that are begun, and views that are settled.
 ghost use Rattle.std.specs.Prelude.{[], ◌∷◌, ◌≡◌, IfOk, map, Some};
 ghost use Rattle.std.specs.Option.{option_to_list};
+ghost use Rattle.gs_lease.specs.Views.{as_view};
 ghost use Rattle.gs_lease.specs.declared.view.Purpose.TheVariants as purposes;
 ghost use Rattle.gs_msg.specs.declared.body.Body.TheVariants as bodies;
 ghost use Rattle.gs_msg.specs.declared.chunk.Chunk.TheVariants as chunks;
@@ -22,7 +23,7 @@ use crate::message::{about, to_each};
 use crate::standing::Standing;
 use gs_base::{ClientId, Handle, Members, ReqId, ServerId, Stamp};
 use gs_edit::Edit;
-use gs_lease::{Grant, Purpose, View};
+use gs_lease::{Grant, Purpose, Quiet, View};
 use gs_master_guard::sealing::is_holder;
 use gs_master_record::Entry;
 use gs_master_spec::asking::Asking;
@@ -156,21 +157,22 @@ pub fn create_plan(
     })
 }
 
-/// A new chunk is made as a copy of a quiet one, where each of its members has it.
+/// A new chunk is made as a copy of a quiet one, where each of its members has it. One that is leased can't be given.
 pub fn copy_plan(
     alloc: Global,
     stamp: Stamp,
     old: Handle,
-    view: &View,
+    quiet: &Quiet,
     new: Handle,
     call: ReqId,
 ) -> Result<Plan, AllocError>
-    ensures { IfOk result (λ plan. plan_of plan ≡ copy_plan stamp old view.now new call) }
+    ensures { IfOk result (λ plan. plan_of plan ≡ copy_plan stamp old (as_view quiet.now) new call) }
 {
+    let view = quiet.view();
     Ok(Plan {
         records: proposed(alloc, new, stamp.version)?,
         changes: entered(alloc, new, view.members, stamp, call)?,
-        sent: copied(alloc, old, view, new, stamp)?,
+        sent: copied(alloc, old, &view, new, stamp)?,
         said: None,
     })
 }

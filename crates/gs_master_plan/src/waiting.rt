@@ -2,6 +2,7 @@
 ghost use Rattle.std.specs.Prelude.{◌≡◌, IfOk, None, Some};
 ghost use Rattle.std.specs.List.{list_all};
 ghost use Rattle.gs_base.specs.Members.{is_member};
+ghost use Rattle.gs_lease.specs.Views.{as_view};
 ghost use Rattle.gs_lease.specs.declared.view.Purpose.TheVariants as purposes;
 ghost use Rattle.gs_master_plan.specs.inner.Planning.{state_of};
 ghost use Rattle.gs_master_spec.specs.Beginning.{begin_at, copy_plan, next_stamp, waits_on};
@@ -14,7 +15,7 @@ ghost use Rattle.gs_master_spec.specs.declared.pending.Waiting.TheVariants as wa
 use crate::standing::Standing;
 use crate::view::copy_plan;
 use gs_base::{Handle, Refusal, ReqId};
-use gs_lease::{Purpose, View};
+use gs_lease::{Purpose, Quiet};
 use gs_master_spec::change::Change;
 use gs_master_spec::pending::{Pending, Waiting};
 use gs_master_state::plan::Plan;
@@ -113,13 +114,13 @@ impl<'a> Standing<'a> {
         path: Path,
         index: u64,
         old: Handle,
-        view: &View,
+        quiet: &Quiet,
         new: Handle,
     ) -> Result<Plan, AllocError>
-        ensures { IfOk result (λ plan. plan_of plan ≡ waits_on (copy_plan (next_stamp (state_of self.entry.now).durable) old view.now new req) req (waits.Copy path index old new)) }
+        ensures { IfOk result (λ plan. plan_of plan ≡ waits_on (copy_plan (next_stamp (state_of self.entry.now).durable) old (as_view quiet.now) new req) req (waits.Copy path index old new)) }
     {
         let stamp = self.recorded.next_stamp();
-        let begun = copy_plan(self.recorded.alloc, stamp, old, view, new, req)?;
+        let begun = copy_plan(self.recorded.alloc, stamp, old, quiet, new, req)?;
         begun.waits_on(
             req,
             Waiting::Copy {

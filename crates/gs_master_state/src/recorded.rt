@@ -1,19 +1,21 @@
-ghost use Rattle.std.specs.Prelude.{◌≡◌, ◌<◌, ◌&&◌, vec_len, vec_capacity};
+ghost use Rattle.std.specs.Prelude.{◌≡◌, ◌<◌, ◌&&◌, None, option_map, vec_len, vec_capacity};
 ghost use Rattle.std.specs.FinMap as fin;
 ghost use Rattle.std.specs.Ordering.{nat_cmp};
 ghost use Rattle.gs_base_table.specs.Slots.{KeepsRoom};
 ghost use Rattle.gs_master_spec.specs.Applied.{are_at_rest, follows_view, is_fresh, is_next_epoch, is_since, is_sound, may_be_settled, may_propose, raised, view_in, with_epoch};
 ghost use Rattle.gs_master_spec.specs.Chunks.{was_proposed};
 ghost use Rattle.gs_base.specs.Numbers.{last_number};
+ghost use Rattle.gs_lease.specs.Views.{as_view};
 ghost use Rattle.gs_master_spec.specs.Durable.{start, after_number, is_given, is_listed, kept_before, prepared_view, upgrade_epoch};
 ghost use Rattle.gs_master_state.specs.inner.Recorded.{RoomToKeep, durable_of, rests, settled_by};
 ghost use Rattle.gs_master_spec.specs.Replies.{is_later};
+ghost use Rattle.gs_master_spec.specs.Settling.{quiet_view};
 
 use crate::held_names::HeldNames;
 use gs_base::{ClientId, EpochEnd, Handle, Members, ReqId};
 use gs_base_table::Table;
 use gs_edit::{ListedInverse, Names};
-use gs_lease::{Lease, Told, View};
+use gs_lease::{Lease, Quiet, Told, View};
 use gs_lease_table::LeaseTable;
 use gs_master_record::{Phase, SettledView};
 use gs_master_spec::asking::Prepared;
@@ -129,6 +131,22 @@ impl Recorded {
         };
         let told = Told::of(lease);
         told.settled.is_some() && told.proposed.is_some()
+    }
+
+    /// A chunk of which no member takes an edit, as the table of leases has it: its settled view has no primary, and no other was proposed
+    /// since.
+    #[tactic(auto, using(crate::proofs::Recording::get_chunks))]
+    pub fn quiet(&self, chunk: Handle) -> Option<&Quiet>
+        ensures { option_map (λ quiet. as_view quiet.now) result ≡ quiet_view (record { settled = fin.get (durable_of self.entry.now).chunks chunk; asking = None }) }
+    {
+        match self.leases.get(chunk)? {
+            Lease::Quiet(quiet) => Some(quiet),
+            Lease::Leased(leased) => {
+                let _term = leased.term();
+                None
+            }
+            Lease::Moving(_) => None,
+        }
     }
 
     /// The epoch of the upgrade that stands, also while it is rolled back.
