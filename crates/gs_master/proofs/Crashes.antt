@@ -1,5 +1,6 @@
 -- What a crash leaves where disks are opened: in each call, and in those one after the other.
 use Rattle.std.proofs.Common.{◌≡◌, ◌⊎◌, inl, inr, ◌∙◌, ◌+◌, ◌≤◌, ℕ, Bool, true, false, List, ap, arith, refl, subst, sym}
+use Rattle.std.proofs.lemmas.Bool.{true≢false}
 use Rattle.std.specs.Prelude.{if◌then◌else◌}
 use Rattle.gs_journal_disk.specs.Disk.{LeavesPairs}
 use Rattle.gs_journal.specs.Journal.{State as Journal, AreBoth, IsStillOrNext, LeavesCounting, LeavesOther, Stands, checkpointed, counting}
@@ -9,7 +10,9 @@ use Rattle.gs_journal.specs.declared.version.Version.TheVariants as versions
 use Rattle.gs_master_record.specs.Plain.{PlainEntry}
 use Rattle.gs_master_spec.specs.Durable.{Durable}
 use Rattle.gs_master_spec.specs.Handling.{checkpoint_body}
+use Rattle.gs_master_spec.specs.State.{Fault, Sound, Failed, Unopened, State, is_failed}
 use Rattle.gs_master.specs.Crashing.{IsStillOrAnew, MightTell}
+use Rattle.gs_master.specs.Masters.{Holds, IsHeld}
 use Rattle.gs_master.specs.Recovering.{IsLeft, TellsDurable}
 use Rattle.gs_master.specs.inner.Renewing.{LeavesAnew}
 
@@ -22,6 +25,15 @@ counted a b = at (second_counts a b) (is_begun a)
     at true first one = refl
     at false true one = refl
     at false false one = absurd (cc one)
+
+-- while no disk has failed a master's journal stands
+pub stood : {D : Type 0} (seen : D → List ℕ) (may_leave : D → List ℕ → Type 0) (s : State) (j : Journal D) → IsHeld seen may_leave s j → is_failed s.fault ≡ false → Stands seen may_leave j
+stood {D} seen may_leave s j held sound = by_fault s.fault held sound
+  where
+    by_fault : (f : Fault) → Holds seen may_leave s.durable s.log j f → is_failed f ≡ false → Stands seen may_leave j
+    by_fault Sound is e = is.0
+    by_fault (Failed doubt) is e = absurd (true≢false e)
+    by_fault (Unopened doubt) is e = absurd (true≢false e)
 
 module _ {D : Type 0} (moment : D → ℕ) (left_since : D → ℕ → List ℕ → Type 0) where
   abbrev Leaves : D → D → D → D → (List ℕ → List ℕ → Type 0) → Type 0

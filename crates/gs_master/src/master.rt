@@ -1,11 +1,13 @@
 // The whole master: messages, ticks and checkpoints.
-ghost use Rattle.std.specs.Prelude.{◌≡◌, not};
+ghost use Rattle.std.specs.Prelude.{◌≡◌, false, not};
 ghost use Rattle.gs_journal.specs.Faults.{armed};
+ghost use Rattle.gs_journal.specs.Journal.{Stands};
 ghost use Rattle.gs_journal.specs.Records.{standing};
 ghost use Rattle.gs_master.specs.Masters.{MasterAnswers, with_journal};
 ghost use Rattle.gs_master.specs.Ticking.{AnswersCheckpoint, AnswersTick};
 ghost use Rattle.gs_master_spec.specs.Handling.{handle, proposals};
 ghost use Rattle.gs_master_spec.specs.Outcomes.{caller_of};
+ghost use Rattle.gs_master_spec.specs.State.{is_failed};
 ghost use Rattle.gs_master_spec.specs.Whole.{is_empty};
 
 use crate::event::Event;
@@ -80,10 +82,12 @@ impl<D: Disk> Master<D> {
         memory.moving.iter().next().is_some()
     }
 
-    /// The disks, the first one first, to open them again.
+    /// The disks, the first one first, to open them again. While no disk has failed a crash leaves on them what the journal tells.
+    #[tactic(auto, using(crate::proofs::Crashes::stood))]
     pub fn into_disks(self) -> (D, D)
         ensures disks { (result.0 ≡ self.journal.first) × (result.1 ≡ self.journal.second) }
         ensures text { standing (D.seen result.0) (D.seen result.1) ≡ self.journal.text }
+        ensures stood { is_failed self.state.fault ≡ false → Stands D.seen D.may_leave self.journal }
     {
         let Self {
             config: _,

@@ -1,9 +1,11 @@
 -- What a crash leaves of two disks on which a master is opened, in the midst of that and behind it.
-use Rattle.std.specs.Prelude.{ℕ, List, MatchOption}
+use Rattle.std.specs.Prelude.{◌≡◌, ℕ, false, List, MatchOption}
 use Rattle.gs_journal.specs.Journal.{Stands}
-use Rattle.gs_journal.specs.Records.{generation_standing, standing}
+use Rattle.gs_journal.specs.Records.{Text, generation_standing, standing}
 use Rattle.gs_master.specs.Crashing.{MightTell, SurvivesOpening, SurvivesRefusal}
 use Rattle.gs_master.specs.Masters.{MasterOf}
+use Rattle.gs_master.specs.Recovering.{TellsStill}
+use Rattle.gs_master_spec.specs.State.{is_failed}
 use Rattle.gs_nodes.specs.Happenings.{disks_of}
 use Rattle.gs_nodes.specs.declared.place.MasterPlace.{MasterPlace}
 use Rattle.gs_nodes.specs.declared.place.MasterPlace.TheVariants.{Standing, Closed, Away}
@@ -16,11 +18,16 @@ module _ {D : Type 0} (seen : D → List ℕ) (may_leave : D → List ℕ → Ty
     pub any_moment : SurvivesOpening may_leave moment left_since (standing (seen disks.0) (seen disks.1)) (generation_standing (seen disks.0) (seen disks.1)) disks.0 disks.1 m.journal.first m.journal.second
     pub stands : Stands seen may_leave m.journal
 
+  -- a crash leaves of two disks this text, or in its place, where it is of version 1, the checkpoint of what it tells
+  abbrev pub LeavesTold : Text → D → D → Type 0
+  LeavesTold text first second = (a b : List ℕ) → may_leave first a → may_leave second b → TellsStill text (standing a b)
+
   -- None was, and these two are handed back. A crash in the midst of it left one of the same. A crash now leaves what one before might have left,
-  -- or in the place of a text of version 1 the checkpoint of that.
+  -- or in the place of a text of version 1 the checkpoint of that: so what one before would have left told, it leaves told.
   pub record SurvivesUnopened (disks : D × D) (first second : D) : Type 0 where
     pub any_moment : SurvivesRefusal may_leave moment left_since (standing (seen disks.0) (seen disks.1)) (generation_standing (seen disks.0) (seen disks.1)) disks.0 disks.1 first second
     pub lasts : (a b : List ℕ) → may_leave first a → may_leave second b → MightTell (may_leave disks.0) (may_leave disks.1) (standing a b)
+    pub told : (text : Text) → LeavesTold text disks.0 disks.1 → LeavesTold text first second
 
   -- of these disks there is a master now, or two disks that wait
   abbrev pub SurvivesAt : D × D → MasterPlace D → Type 0
@@ -28,9 +35,23 @@ module _ {D : Type 0} (seen : D → List ℕ) (may_leave : D → List ℕ → Ty
   SurvivesAt disks (Closed first second) = SurvivesUnopened disks first second
   SurvivesAt disks Away = ⊥
 
+  -- while no disk of a master has failed, a crash leaves what its journal tells
+  abbrev pub StandsAt : MasterPlace D → Type 0
+  StandsAt (Standing m) = is_failed m.state.fault ≡ false → Stands seen may_leave m.journal
+  StandsAt (Closed first second) = Unit {0}
+  StandsAt Away = Unit {0}
+
+  -- There was a master, no disk of which had failed, and there is none now: a crash leaves what its journal told.
+  abbrev pub LeavesOfMaster : MasterPlace D → MasterPlace D → Type 0
+  LeavesOfMaster (Standing m) (Closed first second) = is_failed m.state.fault ≡ false → LeavesTold m.journal.text first second
+  LeavesOfMaster (Standing m) (Standing opened) = Unit {0}
+  LeavesOfMaster (Standing m) Away = Unit {0}
+  LeavesOfMaster (Closed first second) new = Unit {0}
+  LeavesOfMaster Away new = Unit {0}
+
   -- The disks of the master are opened anew. Where they are away nothing is said.
   abbrev pub SurvivesRestart : MasterPlace D → MasterPlace D → Type 0
-  SurvivesRestart old new = MatchOption (disks_of old) (Unit {0}) (λ disks. SurvivesAt disks new)
+  SurvivesRestart old new = MatchOption (disks_of old) (Unit {0}) (λ disks. SurvivesAt disks new × LeavesOfMaster old new)
 
 -- Worked: of disks that are away nothing is said, and those of a master, or that wait, lead to a master, or wait.
 module _ {D : Type 0} (seen : D → List ℕ) (may_leave : D → List ℕ → Type 0) (moment : D → ℕ) (left_since : D → ℕ → List ℕ → Type 0) where
@@ -38,7 +59,7 @@ module _ {D : Type 0} (seen : D → List ℕ) (may_leave : D → List ℕ → Ty
   nothing_is_said_of_disks_that_are_away new = tt
 
   disks_that_wait_wait_on : (a b c d : D) → SurvivesUnopened seen may_leave moment left_since (a, b) c d → SurvivesRestart seen may_leave moment left_since (Closed a b) (Closed c d)
-  disks_that_wait_wait_on a b c d is = is
+  disks_that_wait_wait_on a b c d is = (is, tt)
 
   no_disks_get_lost : (a b : D) → SurvivesRestart seen may_leave moment left_since (Closed a b) Away → ⊥
-  no_disks_get_lost a b is = is
+  no_disks_get_lost a b is = is.0

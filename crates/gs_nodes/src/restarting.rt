@@ -1,7 +1,7 @@
 // Restarts.
 ghost use Rattle.std.specs.Prelude.{◌≡◌, Ok};
 ghost use Rattle.gs_server.specs.Servers as servers;
-ghost use Rattle.gs_nodes.specs.Crashing.{SurvivesAt, SurvivesRestart};
+ghost use Rattle.gs_nodes.specs.Crashing.{StandsAt, SurvivesAt, SurvivesRestart};
 ghost use Rattle.gs_nodes.specs.Happenings.{AtServer, Opens, Reopens, disks_of};
 ghost use Rattle.gs_nodes.specs.Nodes.{nodes_of, with_master};
 
@@ -44,9 +44,10 @@ fn opened<D: Disk>(
 }
 
 impl<D: Disk> MasterPlace<D> {
-    /// The disks of the master's journal, the first one first.
+    /// The disks of the master's journal, the first one first. While none has failed a crash leaves on them what the journal tells.
     pub fn into_disks(self) -> Option<(D, D)>
-        ensures { result ≡ disks_of self }
+        ensures disks { result ≡ disks_of self }
+        ensures stood { StandsAt D.seen D.may_leave D.moment D.left_since self }
     {
         match self {
             MasterPlace::Standing(master) => Some(master.into_disks()),
@@ -61,7 +62,9 @@ impl<D: Disk + Drop> Nodes<D> {
     /// is `Device`, until the next restart.
     ///
     /// A crash in the midst of it, or behind one that was refused, leaves what one before might have left, or what the disks told, or in the
-    /// place of a journal of the first version its checkpoint; one behind it leaves what the journal of the new master tells.
+    /// place of a journal of the first version its checkpoint; one behind it leaves what the journal of the new master tells. Where it is
+    /// refused, and no disk of the old master had failed, a crash leaves what its journal told, also behind refusals that follow.
+    #[tactic(auto, using(crate::proofs::Surviving::survives_restart))]
     pub fn restart_master(&mut self) -> Result<Turn, Refusal>
         ensures others { nodes_of self.new ≡ with_master self.new.master (nodes_of self.old) }
         ensures master { Reopens D.seen D.failures self.old.config self.old.master result self.new.master }
