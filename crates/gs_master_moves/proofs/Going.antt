@@ -72,6 +72,7 @@ use Rattle.gs_master_moves.proofs.Ended.{does_wait, some_pending}
 use Rattle.gs_master_moves.proofs.Chains.{Chained, all_ended_chain, ended_chain, rests, test_chain, then_chain}
 use Rattle.gs_master_moves.proofs.Free.{copied_itself, copies_itself, cow_here, extends_itself}
 use Rattle.gs_master_moves.specs.Guards.{Heard, HasCarried, IsCalled, IsMadeBy, IsNext, IsOpenAt, IsSettledOn, IsWaiting, IsYes, May, settled_chunk, waits_for_copy, waits_to_copy, waits_to_extend, hears_call}
+use Rattle.gs_master_moves.specs.Waited.{AllFindQuiet, FindsQuiet}
 use Rattle.gs_master_moves.specs.Moves.{Further, Moves, Answers as AnswersCall, Begins, Copies, CopiesTree, Extends, Hears, Replaces, Sends, Settles}
 
 -- ---- what each step is made of
@@ -221,6 +222,15 @@ record Stays (chunk : ℕ) (view : View) (placed : Bool) (s : State) : Type 0 wh
 abbrev quiet_in : Bool → Option Settled → Option Asking → Option View
 quiet_in known settled asking = option_and_then quiet_view (if known then Some (record { settled = settled; asking = asking }) else None)
 
+-- a chunk that is known, and settled on a view without a primary, is quiet on it
+quiet_on : (s : State) (chunk : ℕ) (view : View) → has_entry s chunk ≡ true → IsSettledOn s chunk view → view.term ≡ None → quiet_view_at s chunk ≡ Some view
+unfolding chunk_at
+quiet_on s chunk view known settled none =
+    ap (λ b. quiet_in b (fin.get s.durable.chunks chunk) (fin.get s.volatile.moving chunk)) known
+    ∙ ap (λ o. quiet_in true o (fin.get s.volatile.moving chunk)) settled.has
+    ∙ ap (λ o. quiet_in true (Some (record { view = view; is_moving = false })) o) settled.unasked
+    ∙ ap (λ (term : Option Term). if is_none term then Some view else None) none
+
 -- a copy that takes its place stands nowhere else
 cow_alone : (path : Path) (index old new : ℕ) (names after : NamesView) → edited_names (Cow path index old new) names ≡ Ok after → is_shared after new ≡ false
 cow_alone path index old new names after e =
@@ -293,15 +303,6 @@ module _ (config : Config) (came : Heard) (silent : hears_call came ≡ false) (
       room_for_chain s req (does_wait s req (waits_to_extend new) waits_so) (turned s (edit_plan req (AddChunk path new) (answers.Location new view s.durable.epoch) (changes.Place new ∷ []))) (Moves s (Extends req path new view) None ((names, e), settled, at_new, called, waits_so, silent))
   extended_chain req path new s called waits_so settled at_new (Err refusal) e = ended_chain config came s req (does_wait s req (waits_to_extend new) waits_so) refusal
 
-  -- a chunk that is known, and settled on a view without a primary, is quiet on it
-  quiet_on : (s : State) (old : ℕ) → has_entry s old ≡ true → IsSettledOn s old view → view.term ≡ None → quiet_view_at s old ≡ Some view
-  unfolding chunk_at
-  quiet_on s old known settled none =
-      ap (λ b. quiet_in b (fin.get s.durable.chunks old) (fin.get s.volatile.moving old)) known
-      ∙ ap (λ o. quiet_in true o (fin.get s.volatile.moving old)) settled.has
-      ∙ ap (λ o. quiet_in true (Some (record { view = view; is_moving = false })) o) settled.unasked
-      ∙ ap (λ (term : Option Term). if is_none term then Some view else None) none
-
   copied_chain : (req : ReqId) (path : Path) (index old : ℕ) (s : State) → IsWaiting s req (waits_to_copy path index old) → has_entry s old ≡ true → is_listed s.durable old ≡ true → IsNext s → is_given s.durable.next_handle old ≡ true → IsSettledOn s old view → view.term ≡ None → Chained config came s (copied s req path index old)
   copied_chain req path index old s waits_so known listed fresh given settled none =
       let there = does_wait s req (waits_to_copy path index old) waits_so in
@@ -310,7 +311,7 @@ module _ (config : Config) (came : Heard) (silent : hears_call came ≡ false) (
       let copy = copied_where s req path index old (quiet_view_at s old) in
       test_chain config came s (not (may_begin s.durable.phase)) (ended_by s req refusals.RollingBack) (if not (has_handle s.durable && has_versions s.durable 1) then ended_by s req refusals.Exhausted else copy) (λ _. ended_chain config came s req there refusals.RollingBack)
       (λ _. test_chain config came s (not (has_handle s.durable && has_versions s.durable 1)) (ended_by s req refusals.Exhausted) copy (λ _. ended_chain config came s req there refusals.Exhausted)
-      (λ _. subst (λ o. Chained config came s (copied_where s req path index old o)) (sym (quiet_on s old known settled none))
+      (λ _. subst (λ o. Chained config came s (copied_where s req path index old o)) (sym (quiet_on s old view known settled none))
       (room_for_chain s req there t (Moves s (Copies old view req (Further req (waits.Copy path index old new))) None (record { known = known; listed = listed; fresh = fresh; given = given; settled = settled; quiet = none }, tt, (refl, refl, waits_so))))))
 
   tree_chain : (req : ReqId) (from to : Path) (s : State) → is_pending s.volatile.pending req ≡ true → list_all (is_quiet_at s) (source_chunks s from) ≡ true → (names : Result NamesView Refusal) → edited_names (Snapshot from to) s.durable.names ≡ names
@@ -403,6 +404,36 @@ module _ (config : Config) (came : Heard) (silent : hears_call came ≡ false) (
     where
       by_waiting : (b : Bool) → is_snapshot p.waits ≡ b → (is_snapshot p.waits ≡ true → Chained config came (goes_on s p.req view p.waits).after (all_go_on view calls (goes_on s p.req view p.waits).after))
           → (is_snapshot p.waits ≡ false → Chained config came (goes_on s p.req view p.waits).after (all_go_on view calls (goes_on s p.req view p.waits).after)) → Chained config came (goes_on s p.req view p.waits).after (all_go_on view calls (goes_on s p.req view p.waits).after)
+      by_waiting true is f g = f is
+      by_waiting false is f g = g is
+
+  -- ---- a call that waited to copy the chunk finds it quiet
+
+  one_finds : (s : State) (w : Waiting) → may_wait_for chunk w ≡ true → Stays chunk view placed s → (is_quieting w ≡ true → view.term ≡ None) → FindsQuiet s view w
+  one_finds s (waits.Quiet path index old) may k quiet = quiet_on s old view (known_so s old (same_number old chunk may) k) (settled_so s old (same_number old chunk may) k) (quiet refl)
+  one_finds s waiting may k quiet = tt
+
+  snapshots_find : (calls : List Pending) (s : State) → AllSnapshots calls → AllFindQuiet view calls s
+  snapshots_find [] s all = tt
+  snapshots_find (p ∷ calls) s all = (by_waiting p.waits all.0, snapshots_find calls (goes_on s p.req view p.waits).after all.1)
+    where
+      by_waiting : (w : Waiting) → is_snapshot w ≡ true → FindsQuiet s view w
+      by_waiting (waits.Snapshot from to) is = tt
+      by_waiting waiting is = absurd (false≢true is)
+
+  all_find : (calls : List Pending) (s : State) → Holds true s → Going chunk s.volatile calls → Ready chunk s.durable → Stays chunk view placed s → AreQuiet calls → AllFindQuiet view calls s
+  all_find [] s h go r k quiet = tt
+  all_find (p ∷ calls) s h go r k quiet =
+      let one = one_goes_so chunk view p calls s h go r in
+      let after = (goes_on s p.req view p.waits).after in (
+        one_finds s p.waits go.0.may k quiet.0.0,
+        by_waiting (is_snapshot p.waits) refl
+        (λ is. all_find calls after one.held one.going one.ready (record { has = snapshot_has chunk view s p.req p.waits is ∙ k.has; unasked = one.bare is chunk k.unasked; known = snapshot_known chunk view s p.req p.waits is k.unasked k.known; listed = λ there. snapshot_listed chunk view s p.req p.waits is (k.listed there) }) quiet.1)
+        (λ other. snapshots_find calls after (others_snapshots p calls other go.1.0)),
+      )
+    where
+      by_waiting : (b : Bool) → is_snapshot p.waits ≡ b → (is_snapshot p.waits ≡ true → AllFindQuiet view calls (goes_on s p.req view p.waits).after) → (is_snapshot p.waits ≡ false → AllFindQuiet view calls (goes_on s p.req view p.waits).after)
+          → AllFindQuiet view calls (goes_on s p.req view p.waits).after
       by_waiting true is f g = f is
       by_waiting false is f g = g is
 
@@ -518,6 +549,19 @@ module _ (config : Config) (came : Heard) (silent : hears_call came ≡ false) (
       by_rolling : (next : State) (b : Bool) → is_rolling s.durable.phase ≡ b → (is_rolling s.durable.phase ≡ false → Chained config came next (all_go_on view (concerned s chunk asking.call) next)) → Chained config came next (all_go_on view (concerned s chunk asking.call) next)
       by_rolling next true is chain = subst (λ (ps : List Pending). Chained config came next (all_go_on view (filter (λ (p : Pending). is_call p.req asking.call || is_copied_by s chunk p.waits) ps) next)) (sym (h.rolling refl is)) (rests config came next)
       by_rolling next false is chain = chain is
+
+  pub settled_finds : (by : Poll) (carried : Bool) (moment : Moment) (view : View) → AreCounts by → view_by (settled_chunk s chunk) asking by moment ≡ Some view
+      → AllFindQuiet view (concerned s chunk asking.call) (turned s (settle_plan (settling s.durable.phase (prepared_view s.durable chunk) carried chunk asking view) chunk view)).after
+  settled_finds by carried moment view told e =
+      let t = turned s (settle_plan (settling s.durable.phase (prepared_view s.durable chunk) carried chunk asking view) chunk view) in
+      let so = settles_so s chunk asking h has (settled_chunk s chunk) by carried moment view told e in
+      by_rolling t.after (is_rolling s.durable.phase) refl
+      (λ still. all_find config came silent chunk view (is_listed s.durable chunk) (concerned s chunk asking.call) t.after so.good.holds so.going (so.ready still) (record { has = so.exact; unasked = so.unasked; known = settling_known s chunk asking carried view known; listed = λ there. ap (λ (n : NamesView). is_some (fin.get n.refs chunk)) (settling_names s chunk asking carried view) ∙ there })
+      (quiet_of config came silent s chunk asking view (view_term (settled_chunk s chunk) asking by moment view e) (h.stands.asked chunk asking has) s.volatile.pending (each_one s.volatile.pending h.stands.apart h.stands.calls)))
+    where
+      by_rolling : (next : State) (b : Bool) → is_rolling s.durable.phase ≡ b → (is_rolling s.durable.phase ≡ false → AllFindQuiet view (concerned s chunk asking.call) next) → AllFindQuiet view (concerned s chunk asking.call) next
+      by_rolling next true is find = subst (λ (ps : List Pending). AllFindQuiet view (filter (λ (p : Pending). is_call p.req asking.call || is_copied_by s chunk p.waits) ps) next) (sym (h.rolling refl is)) tt
+      by_rolling next false is find = find is
 
   if_chain : (by : Poll) (carried : Bool) (moment : Moment) (view : Option View) → AreCounts by → IsMadeBy came chunk asking by → (carried ≡ true → HasCarried came chunk asking) → view_by (settled_chunk s chunk) asking by moment ≡ view → Chained config came s (settled_if s chunk asking carried view)
   if_chain by carried moment None told made carries e = rests config came s

@@ -13,6 +13,7 @@ ghost use Rattle.gs_master_moves.specs.Over.{OverMakesNoEdit, OverMakesNoEditLat
 ghost use Rattle.gs_master_moves.specs.Places.{EditsSpare};
 ghost use Rattle.gs_master_moves.specs.Rows.{CopiesAreListed, CopiesAreNew, EachRowGoes, EpochsLeave, ListedStay, NewAreUnled, RowsGoOver};
 ghost use Rattle.gs_master_moves.specs.Shared.{EachMoveSharesSo, StartsSharedSo, StaysSharedSo};
+ghost use Rattle.gs_master_moves.specs.Waited.{CopiesFindQuiet};
 
 /// Each event of a firm master is a chain of moves: every message, whoever sends it, each tick, a checkpoint, and a restart. Each move is made
 /// under its guard, in the state that the moves before it leave; its records fit what they meet; and each message that it sends is right in the
@@ -82,6 +83,12 @@ pub fn a_view_is_settled_by_what_was_promised()
 /// Where a prepare is committed, each chunk that the master knows is quiet.
 pub fn a_prepare_finds_each_chunk_quiet()
     ensures { PreparesQuiet }
+{}
+
+/// Wherever a firm master settles a chunk, a call that has waited to copy it finds it quiet, on the view on which it was settled, whatever the calls
+/// before it do: so none is refused since its chunk isn't quiet.
+pub fn a_call_that_waits_to_copy_a_chunk_finds_it_quiet()
+    ensures { CopiesFindQuiet }
 {}
 
 /// A chunk with two references or more has no lease, and none is asked for it, over each move and each event. So a copy on write is made of a chunk
