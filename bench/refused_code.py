@@ -4,7 +4,7 @@
     bench/refused_code.py
 
 Each file of bench/refused_code is a small library: a lease is used after it was spent, a file that is open for writing is left open, a
-leased chunk is copied. Its first line is the error that is to be met, without the help behind it, and no other may be. They are read by
+leased chunk is copied, or a copy on write is planned of one. Its first line is the error that is to be met, without the help behind it, and no other may be. They are read by
 the kit's trial run, which proves nothing. The last line is 'N passed, M failed', and the status is 1 where one failed or there is none."""
 
 import os
