@@ -2,13 +2,11 @@
 ghost use Rattle.std.specs.Prelude.{◌≡◌, Ok, Some};
 ghost use Rattle.std.specs.FinMap as fin;
 ghost use Rattle.gs_master.specs.Masters.{MasterAnswers};
-ghost use Rattle.gs_master.specs.inner.Copying.{copied_now};
 ghost use Rattle.gs_master.specs.inner.Turns.{GoesBack, IsUnderWay, state_at, EventSteps};
 ghost use Rattle.gs_master_spec.specs.Beginning.{begin_at};
 ghost use Rattle.gs_master_spec.specs.Calls.{found_chunk};
 ghost use Rattle.gs_master_spec.specs.Chunks.{chunk_at, view_of};
 ghost use Rattle.gs_master_spec.specs.Handling.{call_turn};
-ghost use Rattle.gs_master_spec.specs.Settling.{quiet_view_at};
 ghost use Rattle.gs_master_state.specs.inner.Judging.{length_at};
 ghost use Rattle.gs_master_state.specs.inner.Knowing.{known_of};
 ghost use Rattle.gs_master_spec.specs.Working.{begins, copied_on_write, created_on, extends, found_for_writing, leased, may_use, replicated_to, replicates, replicates_chunk};
@@ -83,37 +81,7 @@ impl Event {
         self.begin_for(req, chunk, Purpose::Lease, waits)
     }
 
-    /// A quiet chunk that stands in several places is copied.
-    fn copy_place(&mut self, req: ReqId, place: Place) -> Result<(), Refusal>
-        requires { IsUnderWay self.old }
-        ensures steps { EventSteps (copied_now (state_at self.old) req place.path place.index place.chunk (quiet_view_at (state_at self.old) place.chunk)) self.old result self.new }
-        ensures back { GoesBack self.old self.new }
-    {
-        let Place { path, index, chunk } = place;
-        let old = chunk;
-        let standing = self.standing();
-        let Some(quiet) = standing.quiet_at(old) else {
-            return self.refuse(req, Refusal::NoReplica);
-        };
-        let Some(new) = self.recorded.next_handle() else {
-            return self.refuse(req, Refusal::Exhausted);
-        };
-        if !self.recorded.has_versions(1) {
-            return self.refuse(req, Refusal::Exhausted);
-        }
-        let stamp = self.recorded.next_stamp();
-        let begun = copy_plan(self.alloc, stamp, old, quiet, new, req)?;
-        let waits = Waiting::Copy {
-            path,
-            index,
-            old,
-            new,
-        };
-        let plan = begun.waits_from_now(req, waits)?;
-        self.carry_out_or_refuse(req, plan)
-    }
-
-    /// A chunk that stands in several places is made quiet and copied first.
+    /// A chunk that stands in several places is copied, where it is quiet, and is made quiet first where it isn't.
     fn copy_on_write(&mut self, req: ReqId, place: Place, known: &Known) -> Result<(), Refusal>
         requires ready { IsUnderWay self.old }
         requires known { chunk_at (state_at self.old) place.chunk ≡ Some (known_of known.now) }
@@ -126,12 +94,29 @@ impl Event {
         if known.is_wanted() {
             return self.refuse(req, Refusal::Locked);
         }
-        if known.is_quiet() {
-            return self.copy_place(req, place);
-        }
         let Place { path, index, chunk } = place;
-        let waits = Waiting::Quiet { path, index, chunk };
-        self.begin_for(req, chunk, Purpose::Quiet, waits)
+        let standing = self.standing();
+        let Some(quiet) = standing.quiet_at(chunk) else {
+            let waits = Waiting::Quiet { path, index, chunk };
+            return self.begin_for(req, chunk, Purpose::Quiet, waits);
+        };
+        let Some(new) = self.recorded.next_handle() else {
+            return self.refuse(req, Refusal::Exhausted);
+        };
+        if !self.recorded.has_versions(1) {
+            return self.refuse(req, Refusal::Exhausted);
+        }
+        let stamp = self.recorded.next_stamp();
+        let begun = copy_plan(self.alloc, stamp, chunk, quiet, new, req)?;
+        let old = chunk;
+        let waits = Waiting::Copy {
+            path,
+            index,
+            old,
+            new,
+        };
+        let plan = begun.waits_from_now(req, waits)?;
+        self.carry_out_or_refuse(req, plan)
     }
 
     /// A chunk of a file is found for writing.
