@@ -3,7 +3,7 @@ use Rattle.gs_master_spec.specs.Beginning.{waits_from_now}
 use Rattle.gs_master.specs.inner.Turns.{ComesWithOthers}
 use Rattle.gs_master_spec.specs.declared.pending.Waiting.TheVariants as waits
 use Rattle.gs_master.proofs.Accepting.{copied_together}
-use Rattle.gs_master.proofs.event.Event.copy_place.Goals as goal
+use Rattle.gs_master.proofs.event.Event.copy_on_write.Goals as goal
 
 pub carry_out_or_refuse-requires-clause-together : goal.carry_out_or_refuse-requires-clause-together
 carry_out_or_refuse-requires-clause-together c =
