@@ -428,8 +428,8 @@ module _ (config : Config) (came : Heard) (silent : hears_call came ≡ false) (
       let after = (goes_on s p.req view p.waits).after in (
         one_finds s p.waits go.0.may k quiet.0.0,
         by_waiting (is_snapshot p.waits) refl
-        (λ is. all_find calls after one.held one.going one.ready (record { has = snapshot_has chunk view s p.req p.waits is ∙ k.has; unasked = one.bare is chunk k.unasked; known = snapshot_known chunk view s p.req p.waits is k.unasked k.known; listed = λ there. snapshot_listed chunk view s p.req p.waits is (k.listed there) }) quiet.1)
-        (λ other. snapshots_find calls after (others_snapshots p calls other go.1.0)),
+            (λ is. all_find calls after one.held one.going one.ready (record { has = snapshot_has chunk view s p.req p.waits is ∙ k.has; unasked = one.bare is chunk k.unasked; known = snapshot_known chunk view s p.req p.waits is k.unasked k.known; listed = λ there. snapshot_listed chunk view s p.req p.waits is (k.listed there) }) quiet.1)
+            (λ other. snapshots_find calls after (others_snapshots p calls other go.1.0)),
       )
     where
       by_waiting : (b : Bool) → is_snapshot p.waits ≡ b → (is_snapshot p.waits ≡ true → AllFindQuiet view calls (goes_on s p.req view p.waits).after) → (is_snapshot p.waits ≡ false → AllFindQuiet view calls (goes_on s p.req view p.waits).after)
