@@ -1,4 +1,5 @@
 //! The master: the names of the store, where each chunk is, and what it sends to clients and servers.
+//! It stands on `gs_master_state` and `gs_master_plan`, which are crates of their own for the checker's time alone.
 #![tactic(auto)]
 
 mod call;

@@ -1,13 +1,13 @@
 // What is known of chunks, and which of them aren't quiet or are wanted.
-ghost use Rattle.std.specs.Prelude.{◌&&◌, ◌++◌, ◌≡◌, filter, IfOk, not, option_and_then, option_map};
+ghost use Rattle.std.specs.Prelude.{[], ◌&&◌, ◌++◌, ◌≡◌, filter, IfOk, not, true, option_and_then, option_map};
 ghost use Rattle.std.specs.FinMap as fin;
-ghost use Rattle.std.specs.List.{list_any};
+ghost use Rattle.std.specs.List.{list_all, list_any};
 ghost use Rattle.gs_lease.specs.Views.{as_view};
 ghost use Rattle.gs_master_plan.specs.inner.Planning.{state_of};
 ghost use Rattle.gs_master_spec.specs.Chunks.{Chunk, chunk_at, has_entry, is_quiet};
 ghost use Rattle.gs_master_state.specs.inner.Knowing.{known_of};
 ghost use Rattle.gs_master_spec.specs.Quieted.{TellsQuiet};
-ghost use Rattle.gs_master_spec.specs.Settling.{is_quiet_at, quiet_view_at, requests_of};
+ghost use Rattle.gs_master_spec.specs.Settling.{is_quiet_at, quiet_view_at, requests_of, source_chunks};
 ghost use Rattle.gs_master_state.specs.inner.Surveying.{chunk_set, has_unquiet};
 ghost use Rattle.gs_master_spec.specs.Upgrades.{all_unquiet, chunk_count};
 ghost use Rattle.gs_master_spec.specs.Working.{ascending, is_wanted_at, unquiet};
@@ -97,7 +97,8 @@ impl<'a> Standing<'a> {
 
     /// The chunks of the source of a snapshot that aren't quiet, ascending.
     pub fn unquiet(&self, from: &Path) -> Result<Vec<Handle>, AllocError>
-        ensures { IfOk result (λ chunks. chunks.items ≡ unquiet (state_of self.entry.now) from.now) }
+        ensures value { IfOk result (λ chunks. chunks.items ≡ unquiet (state_of self.entry.now) from.now) }
+        ensures none { IfOk result (λ chunks. chunks.items ≡ [] → list_all (is_quiet_at (state_of self.entry.now)) (source_chunks (state_of self.entry.now) from.now) ≡ true) }
     {
         let alloc = self.recorded.alloc;
         let chunks = self.recorded.names.visible_chunks_under(alloc, from)?;

@@ -1,7 +1,8 @@
-// The files that a snapshot waits for.
+// Snapshots: their edit, and the files that they wait for.
 ghost use Rattle.std.specs.Prelude.{◌≡◌, false, IfOk, IfSome, true};
 ghost use Rattle.std.specs.FinMap as fin;
 ghost use Rattle.std.specs.List.{list_all, list_any};
+ghost use Rattle.gs_edit.specs.declared.edit.Edit.TheVariants as edits;
 ghost use Rattle.gs_path.specs.Element.{is_hidden};
 ghost use Rattle.gs_master_plan.specs.inner.Holding.{holds_up, is_visible_below};
 ghost use Rattle.gs_master_plan.specs.inner.Planning.{state_of};
@@ -9,6 +10,7 @@ ghost use Rattle.gs_master_spec.specs.Settling.{is_quiet_at, source_chunks};
 ghost use Rattle.gs_tree.specs.Edits.{chunks_in};
 
 use crate::standing::Standing;
+use gs_edit::Edit;
 use gs_path::{Name, Path};
 use gs_tree::{Status, TreeEntry};
 use std::alloc::AllocError;
@@ -47,6 +49,14 @@ impl<'a> Standing<'a> {
             Ok(Status::File(chunks)) => self.are_quiet(chunks),
             _ => true,
         }
+    }
+
+    /// The edit of a snapshot. It can't be had while a chunk of its source is leased or moving.
+    pub fn snapshot_edit(&self, from: Path, to: Path) -> Edit
+        requires quiet { list_all (is_quiet_at (state_of self.now)) (source_chunks (state_of self.now) from) ≡ true }
+        ensures { result ≡ edits.Snapshot from to }
+    {
+        Edit::Snapshot(from, to)
     }
 
     /// Whether a file holds up the snapshot of a source: it is copied, and a chunk of it isn't quiet. It costs the file's own

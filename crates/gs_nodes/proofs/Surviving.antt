@@ -1,5 +1,5 @@
 -- What a crash leaves of disks that nothing is done to, and of those that can't be opened.
-use Rattle.std.proofs.Common.{◌≡◌, ◌∙◌, absurd, ap, arith, inl, inr, refl, subst, sym, ℕ, List, Some, false}
+use Rattle.std.proofs.Common.{◌≡◌, ◌∙◌, ap, arith, inl, inr, refl, subst, sym, ℕ, List, Some, false}
 use Rattle.gs_journal.specs.Records.{Text, standing}
 use Rattle.gs_journal.specs.declared.version.Version.{Version}
 use Rattle.gs_journal.specs.declared.version.Version.TheVariants as versions
