@@ -26,12 +26,12 @@ counted a b = at (second_counts a b) (is_begun a)
     at false true one = refl
     at false false one = absurd (cc one)
 
--- while no disk has failed a master's journal stands
-pub stood : {D : Type 0} (seen : D → List ℕ) (may_leave : D → List ℕ → Type 0) (s : State) (j : Journal D) → IsHeld seen may_leave s j → is_failed s.fault ≡ false → Stands seen may_leave j
+-- while no disk has failed a master's journal stands, and is of version 2
+pub stood : {D : Type 0} (seen : D → List ℕ) (may_leave : D → List ℕ → Type 0) (s : State) (j : Journal D) → IsHeld seen may_leave s j → is_failed s.fault ≡ false → Stands seen may_leave j × (j.text.0 ≡ versions.Two)
 stood {D} seen may_leave s j held sound = by_fault s.fault held sound
   where
-    by_fault : (f : Fault) → Holds seen may_leave s.durable s.log j f → is_failed f ≡ false → Stands seen may_leave j
-    by_fault Sound is e = is.0
+    by_fault : (f : Fault) → Holds seen may_leave s.durable s.log j f → is_failed f ≡ false → Stands seen may_leave j × (j.text.0 ≡ versions.Two)
+    by_fault Sound is e = (is.0, ap (λ (t : Text). t.0) is.1.1.text)
     by_fault (Failed doubt) is e = absurd (true≢false e)
     by_fault (Unopened doubt) is e = absurd (true≢false e)
 

@@ -3,6 +3,7 @@ ghost use Rattle.std.specs.Prelude.{◌≡◌, false, not};
 ghost use Rattle.gs_journal.specs.Faults.{armed};
 ghost use Rattle.gs_journal.specs.Journal.{Stands};
 ghost use Rattle.gs_journal.specs.Records.{standing};
+ghost use Rattle.gs_journal.specs.declared.version.Version.TheVariants.{Two};
 ghost use Rattle.gs_master.specs.Masters.{MasterAnswers, with_journal};
 ghost use Rattle.gs_master.specs.Ticking.{AnswersCheckpoint, AnswersTick};
 ghost use Rattle.gs_master_spec.specs.Handling.{handle, proposals};
@@ -87,7 +88,7 @@ impl<D: Disk> Master<D> {
     pub fn into_disks(self) -> (D, D)
         ensures disks { (result.0 ≡ self.journal.first) × (result.1 ≡ self.journal.second) }
         ensures text { standing (D.seen result.0) (D.seen result.1) ≡ self.journal.text }
-        ensures stood { is_failed self.state.fault ≡ false → Stands D.seen D.may_leave self.journal }
+        ensures stood { is_failed self.state.fault ≡ false → Stands D.seen D.may_leave self.journal × (self.journal.text.0 ≡ Two) }
     {
         let Self {
             config: _,

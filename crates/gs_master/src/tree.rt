@@ -76,7 +76,8 @@ impl Event {
         }
         let chunks = self.standing().unquiet(&from)?;
         if chunks.is_empty() {
-            return self.edit_by(req, Edit::Snapshot(from, to), Answer::Nothing);
+            let edit = self.standing().snapshot_edit(from, to);
+            return self.edit_by(req, edit, Answer::Nothing);
         }
         self.quiet_source(req, from, to, &chunks)
     }

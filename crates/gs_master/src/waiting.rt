@@ -258,7 +258,8 @@ impl Event {
             return Ok(());
         }
         let before = Vec::new(self.alloc);
-        self.end_by_edit(req, Edit::Snapshot(from, to), Answer::Nothing, before)
+        let edit = self.standing().snapshot_edit(from, to);
+        self.end_by_edit(req, edit, Answer::Nothing, before)
     }
 
     /// A copy was asked for. It has come where the target is a member.

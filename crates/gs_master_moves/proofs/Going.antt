@@ -72,7 +72,7 @@ use Rattle.gs_master_moves.proofs.Ended.{does_wait, some_pending}
 use Rattle.gs_master_moves.proofs.Chains.{Chained, all_ended_chain, ended_chain, rests, test_chain, then_chain}
 use Rattle.gs_master_moves.proofs.Free.{copied_itself, copies_itself, cow_here, extends_itself}
 use Rattle.gs_master_moves.specs.Guards.{Heard, HasCarried, IsCalled, IsMadeBy, IsNext, IsOpenAt, IsSettledOn, IsWaiting, IsYes, May, settled_chunk, waits_for_copy, waits_to_copy, waits_to_extend, hears_call}
-use Rattle.gs_master_moves.specs.Waited.{AllFindQuiet, FindsQuiet}
+use Rattle.gs_master_moves.specs.FindingQuiet.{AllFindQuiet, FindsQuiet}
 use Rattle.gs_master_moves.specs.Moves.{Further, Moves, Answers as AnswersCall, Begins, Copies, CopiesTree, Extends, Hears, Replaces, Sends, Settles}
 
 -- ---- what each step is made of

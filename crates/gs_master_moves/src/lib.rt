@@ -13,7 +13,7 @@ ghost use Rattle.gs_master_moves.specs.Over.{OverMakesNoEdit, OverMakesNoEditLat
 ghost use Rattle.gs_master_moves.specs.Places.{EditsSpare};
 ghost use Rattle.gs_master_moves.specs.Rows.{CopiesAreListed, CopiesAreNew, EachRowGoes, EpochsLeave, ListedStay, NewAreUnled, RowsGoOver};
 ghost use Rattle.gs_master_moves.specs.Shared.{EachMoveSharesSo, StartsSharedSo, StaysSharedSo};
-ghost use Rattle.gs_master_moves.specs.Waited.{CopiesFindQuiet};
+ghost use Rattle.gs_master_moves.specs.FindingQuiet.{CopiesFindQuiet};
 
 /// Each event of a firm master is a chain of moves: every message, whoever sends it, each tick, a checkpoint, and a restart. Each move is made
 /// under its guard, in the state that the moves before it leave; its records fit what they meet; and each message that it sends is right in the
@@ -85,8 +85,8 @@ pub fn a_prepare_finds_each_chunk_quiet()
     ensures { PreparesQuiet }
 {}
 
-/// Wherever a firm master settles a chunk, a call that has waited to copy it finds it quiet, on the view on which it was settled, whatever the calls
-/// before it do: so none is refused since its chunk isn't quiet.
+/// Wherever a firm master settles a chunk, by answers whose counts are numbers of 64 bits, a call that has waited to copy it finds it quiet, on the
+/// view on which it was settled, whatever the calls before it do: so none is refused since its chunk isn't quiet.
 pub fn a_call_that_waits_to_copy_a_chunk_finds_it_quiet()
     ensures { CopiesFindQuiet }
 {}

@@ -2,9 +2,9 @@
 use Rattle.std.specs.Prelude.{◌≡◌, ℕ, false, List, MatchOption}
 use Rattle.gs_journal.specs.Journal.{Stands}
 use Rattle.gs_journal.specs.Records.{Text, generation_standing, standing}
+use Rattle.gs_journal.specs.declared.version.Version.TheVariants as versions
 use Rattle.gs_master.specs.Crashing.{MightTell, SurvivesOpening, SurvivesRefusal}
 use Rattle.gs_master.specs.Masters.{MasterOf}
-use Rattle.gs_master.specs.Recovering.{TellsStill}
 use Rattle.gs_master_spec.specs.State.{is_failed}
 use Rattle.gs_nodes.specs.Happenings.{disks_of}
 use Rattle.gs_nodes.specs.declared.place.MasterPlace.{MasterPlace}
@@ -18,16 +18,11 @@ module _ {D : Type 0} (seen : D → List ℕ) (may_leave : D → List ℕ → Ty
     pub any_moment : SurvivesOpening may_leave moment left_since (standing (seen disks.0) (seen disks.1)) (generation_standing (seen disks.0) (seen disks.1)) disks.0 disks.1 m.journal.first m.journal.second
     pub stands : Stands seen may_leave m.journal
 
-  -- a crash leaves of two disks this text, or in its place, where it is of version 1, the checkpoint of what it tells
-  abbrev pub LeavesTold : Text → D → D → Type 0
-  LeavesTold text first second = (a b : List ℕ) → may_leave first a → may_leave second b → TellsStill text (standing a b)
-
   -- None was, and these two are handed back. A crash in the midst of it left one of the same. A crash now leaves what one before might have left,
-  -- or in the place of a text of version 1 the checkpoint of that: so what one before would have left told, it leaves told.
+  -- or in the place of a text of version 1 the checkpoint of that.
   pub record SurvivesUnopened (disks : D × D) (first second : D) : Type 0 where
     pub any_moment : SurvivesRefusal may_leave moment left_since (standing (seen disks.0) (seen disks.1)) (generation_standing (seen disks.0) (seen disks.1)) disks.0 disks.1 first second
     pub lasts : (a b : List ℕ) → may_leave first a → may_leave second b → MightTell (may_leave disks.0) (may_leave disks.1) (standing a b)
-    pub told : (text : Text) → LeavesTold text disks.0 disks.1 → LeavesTold text first second
 
   -- of these disks there is a master now, or two disks that wait
   abbrev pub SurvivesAt : D × D → MasterPlace D → Type 0
@@ -35,19 +30,27 @@ module _ {D : Type 0} (seen : D → List ℕ) (may_leave : D → List ℕ → Ty
   SurvivesAt disks (Closed first second) = SurvivesUnopened disks first second
   SurvivesAt disks Away = ⊥
 
-  -- while no disk of a master has failed, a crash leaves what its journal tells
+  -- whatever a crash leaves of two disks tells this text
+  abbrev pub LeavesText : Text → D × D → Type 0
+  LeavesText text disks = (a b : List ℕ) → may_leave disks.0 a → may_leave disks.1 b → standing a b ≡ text
+
+  -- while no disk of a master has failed, a crash leaves what its journal tells, which is of version 2
   abbrev pub StandsAt : MasterPlace D → Type 0
-  StandsAt (Standing m) = is_failed m.state.fault ≡ false → Stands seen may_leave m.journal
+  StandsAt (Standing m) = is_failed m.state.fault ≡ false → Stands seen may_leave m.journal × (m.journal.text.0 ≡ versions.Two)
   StandsAt (Closed first second) = Unit {0}
   StandsAt Away = Unit {0}
 
   -- There was a master, no disk of which had failed, and there is none now: a crash leaves what its journal told.
   abbrev pub LeavesOfMaster : MasterPlace D → MasterPlace D → Type 0
-  LeavesOfMaster (Standing m) (Closed first second) = is_failed m.state.fault ≡ false → LeavesTold m.journal.text first second
+  LeavesOfMaster (Standing m) (Closed first second) = is_failed m.state.fault ≡ false → LeavesText m.journal.text (first, second)
   LeavesOfMaster (Standing m) (Standing opened) = Unit {0}
   LeavesOfMaster (Standing m) Away = Unit {0}
   LeavesOfMaster (Closed first second) new = Unit {0}
   LeavesOfMaster Away new = Unit {0}
+
+  -- Disks that couldn't be opened leave the text that they would have left before, where it is of version 2: also where that is tried again.
+  abbrev pub RefusalsLeave : Type 0
+  RefusalsLeave = (disks : D × D) (first second : D) (text : Text) → SurvivesUnopened disks first second → text.0 ≡ versions.Two → LeavesText text disks → LeavesText text (first, second)
 
   -- The disks of the master are opened anew. Where they are away nothing is said.
   abbrev pub SurvivesRestart : MasterPlace D → MasterPlace D → Type 0

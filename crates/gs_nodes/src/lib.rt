@@ -7,6 +7,7 @@ mod delivering;
 mod events;
 mod nodes;
 mod place;
+pub mod promises;
 mod restarting;
 
 pub use delivering::turn_of;

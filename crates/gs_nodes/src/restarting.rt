@@ -63,7 +63,8 @@ impl<D: Disk + Drop> Nodes<D> {
     ///
     /// A crash in the midst of it, or behind one that was refused, leaves what one before might have left, or what the disks told, or in the
     /// place of a journal of the first version its checkpoint; one behind it leaves what the journal of the new master tells. Where it is
-    /// refused, and no disk of the old master had failed, a crash leaves what its journal told, also behind refusals that follow.
+    /// refused, and no disk of the old master had failed, a crash leaves what its journal told; so also behind refusals that follow
+    /// (`a_refused_restart_leaves_what_stood`).
     #[tactic(auto, using(crate::proofs::Surviving::survives_restart))]
     pub fn restart_master(&mut self) -> Result<Turn, Refusal>
         ensures others { nodes_of self.new ≡ with_master self.new.master (nodes_of self.old) }
