@@ -14,9 +14,9 @@ use Rattle.gs_cluster_history.specs.Histories.{Kept}
 use Rattle.gs_shell_calls.specs.declared.answer.Answer.{Answer}
 use Rattle.gs_shell_grammar.specs.Grammar.{Request}
 use Rattle.gs_shell_threads.specs.Asked.{asked_in_threads}
-use Rattle.gs_call_causes.proofs.Calls.{each_call, each_follows}
-use Rattle.gs_call_causes.specs.Calls.{OfEachCall}
-use Rattle.gs_call_causes.specs.Carried.{Explains}
+use Rattle.gs_shell_causes.proofs.Calls.{each_call, each_follows}
+use Rattle.gs_shell_causes.specs.Calls.{OfEachCall}
+use Rattle.gs_shell_causes.specs.Carried.{Explains}
 use Rattle.gs_cluster_causes.proofs.Telling.{Over, told_of_call}
 use Rattle.gs_cluster_causes.proofs.Turns.{each_line_in_threads}
 use Rattle.gs_cluster_causes.specs.Told.{Tells}

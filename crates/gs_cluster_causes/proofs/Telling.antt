@@ -24,8 +24,8 @@ use Rattle.gs_cluster.specs.Answered.{Answered, IsBrought, Question, Source, bro
 use Rattle.gs_cluster.specs.Calling.{Carries, takes_memory}
 use Rattle.gs_cluster_core.specs.declared.role.Role.{Role}
 use Rattle.gs_cluster_history.specs.Histories.{Among, Entry, Kept}
-use Rattle.gs_call_causes.specs.Carried.{Carried, Explained, Explains}
-use Rattle.gs_call_causes.specs.Causes.{Exchanges, NoneGives, WhyNoReplica, WhyUnsure, is_passed_over, may_change}
+use Rattle.gs_shell_causes.specs.Carried.{Carried, Explained, Explains}
+use Rattle.gs_shell_causes.specs.Causes.{Exchanges, NoneGives, WhyNoReplica, WhyUnsure, is_passed_over, may_change}
 use Rattle.gs_cluster_causes.specs.Told.{InHistory, IsAsked, IsTold, NoReplicaOf, Tells, UnsureOf}
 
 -- ---- more that was taken

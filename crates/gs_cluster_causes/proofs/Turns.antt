@@ -18,11 +18,11 @@ use Rattle.gs_shell_grammar.specs.declared.command.Upgrade.TheVariants as upgrad
 use Rattle.gs_shell_grammar.specs.declared.command.UpgradeStep.{UpgradeStep}
 use Rattle.gs_shell_grammar.specs.declared.command.UpgradeStep.TheVariants as steps
 use Rattle.gs_shell_threads.specs.Asked.{asked_in_threads, can_wait, commit_or_give_up, gives_up, is_for_now, more_turns, step_in_threads, until, upgrade_in_threads}
-use Rattle.gs_call_causes.proofs.Carrying.{explains}
-use Rattle.gs_call_causes.proofs.Lines.{each_line, gives_up as none_of_giving_up, step_has, upgrade_has}
-use Rattle.gs_call_causes.proofs.Ways.{Caused, Holds, behind_others, both_has, err_is, never, the_whole, upon_has}
-use Rattle.gs_call_causes.specs.Carried.{Explains}
-use Rattle.gs_call_causes.specs.Causes.{Exchanges}
+use Rattle.gs_shell_causes.proofs.Carrying.{explains}
+use Rattle.gs_shell_causes.proofs.Lines.{each_line, gives_up as none_of_giving_up, step_has, upgrade_has}
+use Rattle.gs_shell_causes.proofs.Ways.{Caused, Holds, behind_others, both_has, err_is, never, the_whole, upon_has}
+use Rattle.gs_shell_causes.specs.Carried.{Explains}
+use Rattle.gs_shell_causes.specs.Causes.{Exchanges}
 
 module _ {e : Refusal} {either : (e ≡ refusals.NoReplica) ⊎ (e ≡ refusals.Unsure)} where
   -- a call that is made again while it is refused for now

@@ -22,7 +22,7 @@ use Rattle.gs_cluster.specs.Calling.{asking, takes_memory}
 use Rattle.gs_cluster_core.specs.declared.role.Role.{Role}
 use Rattle.gs_cluster_history.specs.Histories.{Among, Entry, Kept}
 use Rattle.gs_cluster_history.specs.declared.took.Took.TheVariants.{Heard, Did}
-use Rattle.gs_call_causes.specs.Causes.{may_change}
+use Rattle.gs_shell_causes.specs.Causes.{may_change}
 
 -- what was asked in a call, as the history has it
 pub record IsAsked (took : List Entry) (request : Request) : Type 0 where

@@ -8,7 +8,7 @@ ghost use Rattle.gs_cluster.specs.declared.caller.Caller.{Caller};
 ghost use Rattle.gs_shell_calls.specs.declared.answer.Answer.{Answer};
 ghost use Rattle.gs_shell_grammar.specs.Grammar.{Request as Line};
 ghost use Rattle.gs_shell_threads.specs.Asked.{asked_in_threads};
-ghost use Rattle.gs_call_causes.specs.Calls.{OfEachCall};
+ghost use Rattle.gs_shell_causes.specs.Calls.{OfEachCall};
 ghost use Rattle.gs_cluster_causes.specs.Told.{Tells};
 
 use gs_cluster_node::Plan;

@@ -7,7 +7,7 @@ use Rattle.gs_shell_line.specs.declared.Line.TheVariants.{End}
 use Rattle.gs_shell_script.specs.Run.{AppendsBeginning, unlines}
 use Rattle.gs_keep.specs.Lines.{Asked}
 use Rattle.gs_keep.specs.Gathering.{AllWait, Waits}
-use Rattle.gs_keep.specs.Serving.{Answers, AnswersAll, AnswersSome, AnswersWaiting, BreaksOff}
+use Rattle.gs_keep.specs.Serving.{AnswersLogged, AnswersAll, AnswersSome, AnswersWaiting, BreaksOff}
 use Rattle.gs_keep.proofs.Asking.{unlines_push}
 
 -- a list that has something has a last element
@@ -63,7 +63,7 @@ module _ {S : Type 0} (A : S → List ℕ → List ℕ → S → Type 0) (is_kep
   partly_none start all out asked wait = ([], asked, [], refl, wait, refl, Appends-nil out)
 
   pub partly_more : (start now new : S) (all lines lines' : List Line) (line : Line) (out mid out' : Option (List ℕ)) → Partly start all out lines mid now → lines ≡ line ∷ lines'
-      → ((asked : Asked) → Waits is_kept asked line → (text : List ℕ) × Answers A is_kept now asked text new × Appends mid out' (text ++ 10 ∷ []))
+      → ((asked : Asked) → Waits is_kept asked line → (text : List ℕ) × AnswersLogged A is_kept now asked text new × Appends mid out' (text ++ 10 ∷ []))
       → Partly start all out lines' out' new
   partly_more start now new all lines lines' line out mid out' partly is answer asked wait =
       let (first, rest, texts, parts, waits, answers, whole) = partly asked wait in
@@ -96,7 +96,7 @@ module _ {S : Type 0} (A : S → List ℕ → List ℕ → S → Type 0) (is_kep
       none (a ∷ rest) waits = waits.0
 
   pub partly_fails : (start now new : S) (all lines lines' : List Line) (line : Line) (out mid out' : Option (List ℕ)) → Partly start all out lines mid now → lines ≡ line ∷ lines'
-      → ((asked : Asked) → Waits is_kept asked line → (text : List ℕ) × Answers A is_kept now asked text new × AppendsBeginning mid out' (text ++ 10 ∷ []))
+      → ((asked : Asked) → Waits is_kept asked line → (text : List ℕ) × AnswersLogged A is_kept now asked text new × AppendsBeginning mid out' (text ++ 10 ∷ []))
       → (asked : List Asked) → AllWait is_kept asked all → AnswersSome A is_kept start asked out out' new
   partly_fails start now new all lines lines' line out mid out' partly is answer asked wait =
       let (first, rest, texts, parts, waits, answers, whole) = partly asked wait in

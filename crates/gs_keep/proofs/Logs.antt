@@ -2,7 +2,7 @@
 use Rattle.std.proofs.Common.{◌≡◌, ◌+◌, ◌++◌, ◌∷◌, ℕ, zero, suc, List, [], take, drop, Option, Some, None, IfSome, refl, sym, ap, subst, ◌∙◌, append_assoc, append-nil, ◌≤◌, length, length-take, arith}
 use Rattle.std.proofs.lemmas.List.{take-append-le}
 use Rattle.std.proofs.Math.Seq.{take-add}
-use Rattle.gs_keep_log.specs.Log.{Held, Does, DoesPart, MayLeave, appended, partly_appended, partly_shortened, settled, synced}
+use Rattle.gs_keep_log.specs.Log.{Held, LogDoes, LogDoesPart, MayLeave, appended, partly_appended, partly_shortened, settled, synced}
 use Rattle.gs_keep.specs.Keeping.{LeavesFront}
 use Rattle.gs_keep.specs.Serving.{Kept, Leaves, at_rest}
 
@@ -13,9 +13,9 @@ kept_none o all is = is ∙ ap (λ (l : List ℕ). Some (at_rest l)) (sym (appen
 pub kept_join : (old mid new : Option Held) (a b : List ℕ) → Kept old a mid → Kept mid b new → Kept old (a ++ b) new
 kept_join old mid new a b one two all is = two (all ++ a) (one all is) ∙ ap (λ (l : List ℕ). Some (at_rest l)) (append_assoc all a b)
 
-pub kept_and_synced : (old mid new : Option Held) (bytes : List ℕ) → Does (appended bytes) old mid → Does synced mid new → Kept old bytes new
+pub kept_and_synced : (old mid new : Option Held) (bytes : List ℕ) → LogDoes (appended bytes) old mid → LogDoes synced mid new → Kept old bytes new
 kept_and_synced old mid new bytes put sync all is =
-    subst (λ (o : Option Held). Does synced o new) (subst (λ (o : Option Held). Does (appended bytes) o mid) is put) sync
+    subst (λ (o : Option Held). LogDoes synced o new) (subst (λ (o : Option Held). LogDoes (appended bytes) o mid) is put) sync
 
 -- what a crash leaves of a known log
 abbrev Crashed : List ℕ → List ℕ → Option Held → Type 0
@@ -28,9 +28,9 @@ shorter (suc k) zero xs = (0, refl)
 shorter (suc k) (suc n) [] = (0, refl)
 shorter (suc k) (suc n) (x ∷ xs) = let (m, is) = shorter k n xs in (suc m, ap (λ (l : List ℕ). x ∷ l) is)
 
-pub append_fails : (old new : Option Held) (bytes : List ℕ) → DoesPart (partly_appended bytes) old new → Leaves old [] bytes new
+pub append_fails : (old new : Option Held) (bytes : List ℕ) → LogDoesPart (partly_appended bytes) old new → Leaves old [] bytes new
 append_fails old new bytes part all is =
-    let (n, done) = subst (λ (o : Option Held). DoesPart (partly_appended bytes) o new) is part in
+    let (n, done) = subst (λ (o : Option Held). LogDoesPart (partly_appended bytes) o new) is part in
     let leaves : (c : List ℕ) → MayLeave (partly_appended bytes n (at_rest all)) c → (count : ℕ) × (c ≡ all ++ take count bytes) =
     λ c left. let (k, e) = left in let (m, is) = shorter k n bytes in (m, e ∙ ap (λ (l : List ℕ). all ++ l) is) in
     subst (Crashed all bytes) (sym done) leaves
@@ -39,9 +39,9 @@ append_fails old new bytes part all is =
 two_parts : (d bytes : List ℕ) (n k : ℕ) → (d ++ take n bytes) ++ take k (drop n bytes) ≡ d ++ take (n + k) bytes
 two_parts d bytes n k = append_assoc d (take n bytes) (take k (drop n bytes)) ∙ ap (λ (l : List ℕ). d ++ l) (sym (take-add n k bytes))
 
-pub sync_fails : (old mid new : Option Held) (bytes : List ℕ) → Does (appended bytes) old mid → DoesPart settled mid new → Leaves old [] bytes new
+pub sync_fails : (old mid new : Option Held) (bytes : List ℕ) → LogDoes (appended bytes) old mid → LogDoesPart settled mid new → Leaves old [] bytes new
 sync_fails old mid new bytes put part all is =
-    let (n, done) = subst (λ (o : Option Held). DoesPart settled o new) (subst (λ (o : Option Held). Does (appended bytes) o mid) is put) part in
+    let (n, done) = subst (λ (o : Option Held). LogDoesPart settled o new) (subst (λ (o : Option Held). LogDoes (appended bytes) o mid) is put) part in
     let leaves : (c : List ℕ) → MayLeave (settled n (appended bytes (at_rest all))) c → (count : ℕ) × (c ≡ all ++ take count bytes) =
     λ c left. let (k, e) = left in (n + k, e ∙ two_parts all bytes n k) in
     subst (Crashed all bytes) (sym done) leaves
@@ -64,7 +64,7 @@ take_length (suc n) [] = refl
 take_length (suc n) (x ∷ xs) = ap (λ (l : List ℕ). x ∷ l) (take_length n xs)
 
 -- a cut fails
-pub cut_fails : (len : ℕ) (old new : Option Held) → DoesPart (partly_shortened len) old new → LeavesFront len old new
+pub cut_fails : (len : ℕ) (old new : Option Held) → LogDoesPart (partly_shortened len) old new → LeavesFront len old new
 cut_fails len None new part = tt
 cut_fails len (Some h) new (n, done) =
     let front = take len h.durable in

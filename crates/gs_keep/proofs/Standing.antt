@@ -8,7 +8,7 @@ use Rattle.gs_shell_line.specs.Line.{content, longest_line}
 use Rattle.gs_shell_script.specs.Run.{AnswersIfShort, AnswersLine, Runs, lines_of, memory_text, onto}
 use Rattle.gs_keep.specs.Lines.{Asked, is_logged, kept_text, log_of, logs}
 use Rattle.gs_keep.specs.Gathering.{lines_asked}
-use Rattle.gs_keep.specs.Serving.{Answers, AnswersAll}
+use Rattle.gs_keep.specs.Serving.{AnswersLogged, AnswersAll}
 use Rattle.gs_keep.specs.Replaying.{AllLogged, EndsLine}
 use Rattle.gs_keep.proofs.Answering.{last_of}
 use Rattle.gs_keep.proofs.Replaying.{all_join, runs_join}
@@ -183,7 +183,7 @@ module _ {S : Type 0} (A : S → List ℕ → List ℕ → S → Type 0) (is_kep
       at false kept one = one.1
 
   -- what of a line is logged leads to where the line led
-  answers_again : (old new : S) (asked : Asked) (text : List ℕ) → IsOneLine asked.line → Answers A is_kept old asked text new
+  answers_again : (old new : S) (asked : Asked) (text : List ℕ) → IsOneLine asked.line → AnswersLogged A is_kept old asked text new
       → (texts : List (List ℕ)) × Runs A old (lines_of asked.logged) texts new × EndsLine asked.logged × AllLogged is_kept (lines_of asked.logged)
   answers_again old new asked text one answers = ⊎_elim lacking logged answers
     where

@@ -2,7 +2,7 @@
 use Rattle.std.specs.Prelude.{◌≡◌, ◌==◌, ◌++◌, ◌∷◌, ◌≤◌, ℕ, Bool, true, false, List, [], length, take, drop, codes, Option, Some, IfSome, Result, Ok, Err, refl}
 use Rattle.std.proofs.Common.{inr}
 use Rattle.std.specs.List.{list_any}
-use Rattle.gs_keep_log.specs.Log.{Does, Held, MayLeave, shortened, whole}
+use Rattle.gs_keep_log.specs.Log.{LogDoes, Held, MayLeave, shortened, whole}
 use Rattle.gs_shell_script.specs.Run.{Echoes, Runs, lines_of}
 use Rattle.gs_keep.specs.Lines.{Asked, log_of}
 use Rattle.gs_keep.specs.Replaying.{AllLogged, EndsLine, ReplayFails, WholeLines}
@@ -60,7 +60,7 @@ module _ {S : Type 0} (A : S → List ℕ → List ℕ → S → Type 0) (is_kep
     pub thrown : List (List ℕ)
     pub replays : Runs A start (lines_of script) thrown mid
     pub between : Option Held
-    pub cut : Does (shortened len) log between
+    pub cut : LogDoes (shortened len) log between
     pub serves : Serves A is_kept mid input [] between log' out out' end
     -- what was thrown away and what is answered to the input are the answers to the log's script and the input, one behind the other
     pub together : Runs A start (lines_of script ++ lines_of input) (thrown ++ serves.texts) end
@@ -91,7 +91,7 @@ module _ {S : Type 0} (A : S → List ℕ → List ℕ → S → Type 0) (is_kep
     pub thrown : List (List ℕ)
     pub replays : Runs A start (lines_of script) thrown mid
     pub between : Option Held
-    pub cut : Does (shortened len) log between
+    pub cut : LogDoes (shortened len) log between
     pub fails : Fails A is_kept fault mid input left between log' out out' end
     -- whatever a crash leaves goes on
     pub crashes : EndsLine script → IfSome log (λ h. (head : List ℕ) × HasHead len h script head × CrashesGoOn start end script fails.0.asked fails.0.waiting head log')

@@ -50,15 +50,15 @@ module _ {S : Type 0} (A : S → List ℕ → List ℕ → S → Type 0) (is_kep
   -- ---- lines
 
   -- A line is logged if it has to be, and answered. Or memory is lacking for it, and nothing happens.
-  abbrev pub Answers : S → Asked → List ℕ → S → Type 0
-  Answers old asked text new =
+  abbrev pub AnswersLogged : S → Asked → List ℕ → S → Type 0
+  AnswersLogged old asked text new =
       ((asked.logged ≡ []) × (text ≡ memory_text) × (new ≡ old))
       ⊎ ((asked.logged ≡ logs is_kept asked.line) × AnswersLine A old asked.line text new)
 
   -- so are some lines, one after another
   abbrev pub AnswersAll : S → List Asked → List (List ℕ) → S → Type 0
   AnswersAll old [] [] new = new ≡ old
-  AnswersAll old (asked ∷ more) (text ∷ texts) new = (mid : S) × Answers old asked text mid × AnswersAll mid more texts new
+  AnswersAll old (asked ∷ more) (text ∷ texts) new = (mid : S) × AnswersLogged old asked text mid × AnswersAll mid more texts new
   AnswersAll old [] (text ∷ texts) new = ⊥
   AnswersAll old (asked ∷ more) [] new = ⊥
 

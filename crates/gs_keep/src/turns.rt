@@ -5,7 +5,7 @@ ghost use Rattle.std.specs.VecDeque.{deque_capacity};
 ghost use Rattle.gs_shell_script.specs.Run.{AppendsBeginning, unlines};
 ghost use Rattle.gs_keep.specs.Lines.{Asked};
 ghost use Rattle.gs_keep.specs.Gathering.{AllWait, Waits};
-ghost use Rattle.gs_keep.specs.Serving.{Answers, AnswersSome, AnswersWaiting, Fails, Kept, Leaves, Rounds, Serves, blames_log};
+ghost use Rattle.gs_keep.specs.Serving.{AnswersLogged, AnswersSome, AnswersWaiting, Fails, Kept, Leaves, Rounds, Serves, blames_log};
 
 use crate::batch::{Batch, Gathered};
 use crate::fault::KeepFault;
@@ -38,9 +38,9 @@ fn answer_one<M: Keeping, W: Write>(
     writer: &mut W,
     line: &Line,
 ) -> Result<(), RunFault>
-    ensures ok { OnOk result ((asked : Asked) → Waits M.is_kept asked line.now → (text : List ℕ) × Answers M.Answers M.is_kept machine.old asked text machine.new
+    ensures ok { OnOk result ((asked : Asked) → Waits M.is_kept asked line.now → (text : List ℕ) × AnswersLogged M.Answers M.is_kept machine.old asked text machine.new
         × Appends (W.contents writer.old) (W.contents writer.new) (text ++ 10 ∷ [])) }
-    ensures err { OnErr result ((asked : Asked) → Waits M.is_kept asked line.now → (text : List ℕ) × Answers M.Answers M.is_kept machine.old asked text machine.new
+    ensures err { OnErr result ((asked : Asked) → Waits M.is_kept asked line.now → (text : List ℕ) × AnswersLogged M.Answers M.is_kept machine.old asked text machine.new
         × AppendsBeginning (W.contents writer.old) (W.contents writer.new) (text ++ 10 ∷ [])) }
 {
     match line {

@@ -1,6 +1,6 @@
 // A run over a log: its lines are run again, and then the input's are kept.
 ghost use Rattle.std.specs.Prelude.{◌≡◌, ◌≤◌, false, length, IfErr, IfSome, OnOk, OnErr, is_err};
-ghost use Rattle.gs_keep_log.specs.Log.{Does, shortened, whole};
+ghost use Rattle.gs_keep_log.specs.Log.{LogDoes, shortened, whole};
 ghost use Rattle.gs_keep.specs.Keeping.{KeepsOn, LeavesFront, ReadsLog, StoreFails, blames_log};
 
 use crate::again::{Progress, replay};
@@ -15,7 +15,7 @@ use std::io::{BufRead, Write};
 fn cut<L: Log>(log: &mut L, len: u64) -> Result<(), Failed>
     requires goes_on { L.has_failed log.old ≡ false }
     requires within { IfSome (L.holds log.old) (λ h. len ≤ length (whole h)) }
-    ensures ok { OnOk result (Does (shortened len) (L.holds log.old) (L.holds log.new)) }
+    ensures ok { OnOk result (LogDoes (shortened len) (L.holds log.old) (L.holds log.new)) }
     ensures err { OnErr result (LeavesFront len (L.holds log.old) (L.holds log.new)) }
     ensures failed { L.has_failed log.new ≡ is_err result }
 {

@@ -1,5 +1,5 @@
 ghost use Rattle.std.specs.Prelude.{◌≡◌, None, OnOk, OnErr, is_err, is_some};
-ghost use Rattle.gs_keep_log.specs.Log.{Does, DoesPart, appended, partly_appended};
+ghost use Rattle.gs_keep_log.specs.Log.{LogDoes, LogDoesPart, appended, partly_appended};
 
 use crate::file::LogFile;
 use gs_keep_log::{Failed, Log};
@@ -15,8 +15,8 @@ pub struct FileLog<F> {
 
 /// Writes bytes until all are written. An interrupted write is made again. A file that takes nothing fails as `WriteZero`.
 fn write_all<F: LogFile>(file: &mut F, bytes: &[u8]) -> io::Result<()>
-    ensures ok { OnOk result (Does (appended bytes.now) (F.holds file.old) (F.holds file.new)) }
-    ensures err { OnErr result (DoesPart (partly_appended bytes.now) (F.holds file.old) (F.holds file.new)) }
+    ensures ok { OnOk result (LogDoes (appended bytes.now) (F.holds file.old) (F.holds file.new)) }
+    ensures err { OnErr result (LogDoesPart (partly_appended bytes.now) (F.holds file.old) (F.holds file.new)) }
 {
     let mut written = 0;
     for _ in 0..u64::MAX {

@@ -35,12 +35,12 @@ partly_shortened len count h =
 -- ---- what a call does, where it is known what the log holds
 
 -- the step is done
-abbrev pub Does : (Held → Held) → Option Held → Option Held → Type 0
-Does step old new = IfSome old (λ h. new ≡ Some (step h))
+abbrev pub LogDoes : (Held → Held) → Option Held → Option Held → Type 0
+LogDoes step old new = IfSome old (λ h. new ≡ Some (step h))
 
 -- as much of the step is done as some number says
-abbrev pub DoesPart : (ℕ → Held → Held) → Option Held → Option Held → Type 0
-DoesPart step old new = IfSome old (λ h. (count : ℕ) × (new ≡ Some (step count h)))
+abbrev pub LogDoesPart : (ℕ → Held → Held) → Option Held → Option Held → Type 0
+LogDoesPart step old new = IfSome old (λ h. (count : ℕ) × (new ≡ Some (step count h)))
 
 -- a beginning of these bytes is at its end
 abbrev pub partly_appended : List ℕ → ℕ → Held → Held

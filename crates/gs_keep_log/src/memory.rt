@@ -1,6 +1,6 @@
 // A log in memory.
 ghost use Rattle.std.specs.Prelude.{◌≡◌, ◌≤◌, ◌-◌, ◌==◌, ◌++◌, [], ℕ, false, length, take, drop, not, IfSome, IfOk, OnOk, OnErr, is_err};
-ghost use Rattle.gs_keep_log.specs.Log.{Does, DoesPart, appended, partly_appended, partly_shortened, settled, shortened, synced, whole};
+ghost use Rattle.gs_keep_log.specs.Log.{LogDoes, LogDoesPart, appended, partly_appended, partly_shortened, settled, shortened, synced, whole};
 ghost use Rattle.gs_keep_log.specs.Memory.{holds, held};
 
 use crate::log::{Failed, Log};

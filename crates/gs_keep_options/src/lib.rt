@@ -5,7 +5,7 @@ ghost use Rattle.std.specs.Prelude.{◌≡◌, [], map, false, is_some, not, Mat
 ghost use Rattle.clap.specs.Words.{rule_of, rows_of, found_of, matches_of as clap_matches, app_of, with_rule};
 ghost use Rattle.clap.specs.Faults.{fault_of};
 ghost use Rattle.gs_base.specs.Configured.{Configured};
-ghost use Rattle.gs_shell_options.specs.Options.{Refuses};
+ghost use Rattle.gs_shell_options.specs.Options.{RefusesWords};
 ghost use Rattle.gs_keep_options.specs.Sizes.{Tells, difference, fits, given_or, is_given_as};
 ghost use Rattle.gs_keep_options.specs.Words.{AskedAs, app, file_rule, number_rule, sizes_in, words_asked};
 
@@ -199,7 +199,7 @@ fn command<'a>(alloc: Global) -> Result<Command<'a>, AllocError>
 fn matches_of<'a>(alloc: Global, words: &'a [String]) -> Result<ArgMatches<'a>, Refusal>
     ensures { let texts = map string_bytes words.entry.now in MatchResult result
         (λ m. (fault_of app texts ≡ []) × (rows_of (found_of m) ≡ clap_matches app texts))
-        (λ e. Refuses e (fault_of app texts)) }
+        (λ e. RefusesWords e (fault_of app texts)) }
 {
     match command(alloc)?.try_get_matches_from(words) {
         Ok(matches) => Ok(matches),

@@ -109,7 +109,7 @@ ConfiguresAs (Err refusal.Memory) words = Unit {0}
 ConfiguresAs (Err _) words = ⊥
 
 -- why there are no matches: a fault of the words, or memory ran out
-abbrev pub Refuses : Refusal → Kinds → Type 0
-Refuses refusal.Config fault = fault ≢ []
-Refuses refusal.Memory fault = Unit {0}
-Refuses _ fault = ⊥
+abbrev pub RefusesWords : Refusal → Kinds → Type 0
+RefusesWords refusal.Config fault = fault ≢ []
+RefusesWords refusal.Memory fault = Unit {0}
+RefusesWords _ fault = ⊥

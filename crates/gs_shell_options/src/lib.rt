@@ -4,7 +4,7 @@
 ghost use Rattle.std.specs.Prelude.{◌≡◌, [], map, false, MatchResult, IfOk, string_bytes};
 ghost use Rattle.clap.specs.Words.{rule_of, rows_of, found_of, matches_of as clap_matches, app_of, with_rule};
 ghost use Rattle.clap.specs.Faults.{fault_of};
-ghost use Rattle.gs_shell_options.specs.Options.{app, named_rule, number_rule, flag_rule, number_in, flag_in, rows_sizes, words_options, ConfiguresAs, SizedAs, Refuses};
+ghost use Rattle.gs_shell_options.specs.Options.{app, named_rule, number_rule, flag_rule, number_in, flag_in, rows_sizes, words_options, ConfiguresAs, SizedAs, RefusesWords};
 
 use clap::error::ErrorKind;
 use clap::{Arg, ArgAction, ArgMatches, Command};
@@ -119,7 +119,7 @@ fn command<'a>(alloc: Global) -> Result<Command<'a>, AllocError>
 fn matches_of<'a>(alloc: Global, words: &'a [String]) -> Result<ArgMatches<'a>, Refusal>
     ensures { let texts = map string_bytes words.entry.now in MatchResult result
         (λ m. (fault_of app texts ≡ []) × (rows_of (found_of m) ≡ clap_matches app texts))
-        (λ e. Refuses e (fault_of app texts)) }
+        (λ e. RefusesWords e (fault_of app texts)) }
 {
     match command(alloc)?.try_get_matches_from(words) {
         Ok(matches) => Ok(matches),

@@ -1,7 +1,7 @@
 -- The client of a desk stays the same one, whatever lines come.
 use Rattle.std.proofs.Common.{◌≡◌, ◌∙◌, ◌⊎◌, inl, inr, ℕ, List, [], ◌∷◌, ap}
 use Rattle.gs_base.specs.declared.config.Config.{Config}
-use Rattle.gs_call_causes.specs.Carried.{Carried}
+use Rattle.gs_shell_causes.specs.Carried.{Carried}
 use Rattle.gs_client.specs.declared.client.Client.{Client}
 use Rattle.gs_client.specs.declared.link.Reply.{Reply}
 use Rattle.gs_client_dialogue.specs.Dialogues.{Ask, Dialogue, Grow, Say}

@@ -2,8 +2,8 @@
 use Rattle.std.proofs.Common.{◌≡◌, inl, inr, ℕ, List, Option, Result, Ok, Err, refl, sym, subst}
 use Rattle.gs_base.specs.declared.refusal.Refusal.{Refusal}
 use Rattle.gs_base.specs.declared.refusal.Refusal.TheVariants as refusals
-use Rattle.gs_call_causes.proofs.Carrying.{went}
-use Rattle.gs_call_causes.specs.Carried.{Carried}
+use Rattle.gs_shell_causes.proofs.Carrying.{went}
+use Rattle.gs_shell_causes.specs.Carried.{Carried}
 use Rattle.gs_client.specs.Trees.{Call}
 use Rattle.gs_client.specs.declared.client.Client.{Client}
 use Rattle.gs_client.specs.declared.link.Reply.{Reply}

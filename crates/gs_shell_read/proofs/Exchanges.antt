@@ -6,7 +6,7 @@ use Rattle.gs_base.specs.declared.numbers.ClientId.{ClientId}
 use Rattle.gs_base.specs.declared.numbers.Moment.{Moment}
 use Rattle.gs_base.specs.declared.numbers.ReqId.{ReqId}
 use Rattle.gs_base.specs.declared.refusal.Refusal.{Refusal}
-use Rattle.gs_call_causes.specs.Carried.{Carried}
+use Rattle.gs_shell_causes.specs.Carried.{Carried}
 use Rattle.gs_client.specs.Sends.{next_request}
 use Rattle.gs_client.specs.declared.client.Client.{Client}
 use Rattle.gs_client.specs.declared.link.Reply.{Reply}

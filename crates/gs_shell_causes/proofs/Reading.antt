@@ -16,9 +16,9 @@ use Rattle.gs_client_part.specs.declared.located.Located.{Located}
 use Rattle.gs_client.specs.Files.{open_call}
 use Rattle.gs_client.specs.Reading.{digest_call, end_call, length_call, piece_call, pieces_call, read_call, stat_call, stat_of, stored_call, within}
 use Rattle.gs_client.specs.Replies.{bytes_in, digest_in, length_in, status_in}
-use Rattle.gs_call_causes.proofs.Ways.{Holds, IsClear, both_has, chosen_has, err_clear, grown, ok_clear, range_other, said}
-use Rattle.gs_call_causes.proofs.Replies.{look_has, reads_status, stray}
-use Rattle.gs_call_causes.proofs.Looking.{chunks_has, count_clear, fetch_has, known_has, tested}
+use Rattle.gs_shell_causes.proofs.Ways.{Holds, IsClear, both_has, chosen_has, err_clear, grown, ok_clear, range_other, said}
+use Rattle.gs_shell_causes.proofs.Replies.{look_has, reads_status, stray}
+use Rattle.gs_shell_causes.proofs.Looking.{chunks_has, count_clear, fetch_has, known_has, tested}
 
 -- ---- what a member gives
 

@@ -1,8 +1,8 @@
 use Rattle.gs_client.specs.Edits.{Edits}
 use Rattle.gs_client.specs.Sends.{Sends}
-use Rattle.gs_call_causes.proofs.Calls.{each_call}
-use Rattle.gs_call_causes.proofs.Carrying.{came_over}
-use Rattle.gs_call_causes.proofs.promises.an_unsure_answer_has_a_cause.Goals as goal
+use Rattle.gs_shell_causes.proofs.Calls.{each_call}
+use Rattle.gs_shell_causes.proofs.Carrying.{came_over}
+use Rattle.gs_shell_causes.proofs.promises.an_unsure_answer_has_a_cause.Goals as goal
 
 pub returns-clause-calls : goal.returns-clause-calls
 returns-clause-calls g c = each_call (Sends g.L.Link.Carries)

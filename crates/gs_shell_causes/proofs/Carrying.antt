@@ -11,9 +11,9 @@ use Rattle.gs_client.specs.declared.link.Reply.{Reply}
 use Rattle.gs_client.specs.declared.link.Reply.TheVariants as replies
 use Rattle.gs_client.specs.Sends.{Sends, next_request}
 use Rattle.gs_client.specs.Trees.{Call}
-use Rattle.gs_call_causes.specs.Carried.{Carried, Explained, Explains, Went}
-use Rattle.gs_call_causes.specs.Causes.{Exchanges, Why, WhyNoReplica, WhyUnsure}
-use Rattle.gs_call_causes.proofs.Ways.{Holds}
+use Rattle.gs_shell_causes.specs.Carried.{Carried, Explained, Explains, Went}
+use Rattle.gs_shell_causes.specs.Causes.{Exchanges, Why, WhyNoReplica, WhyUnsure}
+use Rattle.gs_shell_causes.proofs.Ways.{Holds}
 
 module _ {S : Type 0} (carries : S → Request → Reply → S → Type 0) where
   -- ---- a call is a way through it

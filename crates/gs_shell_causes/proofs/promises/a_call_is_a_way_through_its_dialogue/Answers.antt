@@ -1,6 +1,6 @@
 use Rattle.gs_client.specs.Sends.{Sends}
-use Rattle.gs_call_causes.proofs.Carrying.{follows, went}
-use Rattle.gs_call_causes.proofs.promises.a_call_is_a_way_through_its_dialogue.Goals as goal
+use Rattle.gs_shell_causes.proofs.Carrying.{follows, went}
+use Rattle.gs_shell_causes.proofs.promises.a_call_is_a_way_through_its_dialogue.Goals as goal
 
 pub returns-clause-goes : goal.returns-clause-goes
 returns-clause-goes g c = went (Sends g.L.Link.Carries)

@@ -17,8 +17,8 @@ use Rattle.gs_client.specs.Trees.{Call, list_call, mkdirs_call, rename_call}
 use Rattle.gs_client.specs.Writing.{write_call}
 use Rattle.gs_client.specs.declared.link.Reply.{Reply}
 use Rattle.gs_client.specs.declared.link.Reply.TheVariants as replies
-use Rattle.gs_call_causes.specs.Carried.{Explained}
-use Rattle.gs_call_causes.specs.Causes.{Why, WhyNoReplica, WhyUnsure}
+use Rattle.gs_shell_causes.specs.Carried.{Explained}
+use Rattle.gs_shell_causes.specs.Causes.{Why, WhyNoReplica, WhyUnsure}
 
 -- what a call comes to where these replies come, and behind the last of them none
 abbrev pub comes_to : {A : Type 0} → Call A → List Reply → Result A Refusal

@@ -25,13 +25,13 @@ use Rattle.gs_shell_grammar.specs.declared.command.UpgradeStep.TheVariants as st
 use Rattle.gs_shell_calls.specs.Asked.{asked_by, at_phase, done, ends_so, given_bytes, given_digest, hidden, is_unquiet, on, on_two, plain, scanned, step_line, unless_quiet, upgrade_line, with_file}
 use Rattle.gs_shell_calls.specs.declared.answer.Answer.{Answer}
 use Rattle.gs_shell_calls.specs.declared.answer.Answer.TheVariants as answers
-use Rattle.gs_call_causes.specs.Carried.{Explains}
-use Rattle.gs_call_causes.specs.Causes.{Exchanges}
-use Rattle.gs_call_causes.proofs.Carrying.{explains}
-use Rattle.gs_call_causes.proofs.Ways.{Caused, Holds, IsClear, IsOther, behind_others, both_has, clash, err_clear, err_is, grown, never, ok_clear, said, the_whole, upon_has, upon_splits}
-use Rattle.gs_call_causes.proofs.Reading.{digest_has, open_has, read_has, stat_has}
-use Rattle.gs_call_causes.proofs.Replies.{change_has, look_has, reads_copied, reads_deleted, reads_epoch, reads_names, reads_nothing, reads_path, reads_phase, reads_scanned}
-use Rattle.gs_call_causes.proofs.Writing.{append_has, write_has}
+use Rattle.gs_shell_causes.specs.Carried.{Explains}
+use Rattle.gs_shell_causes.specs.Causes.{Exchanges}
+use Rattle.gs_shell_causes.proofs.Carrying.{explains}
+use Rattle.gs_shell_causes.proofs.Ways.{Caused, Holds, IsClear, IsOther, behind_others, both_has, clash, err_clear, err_is, grown, never, ok_clear, said, the_whole, upon_has, upon_splits}
+use Rattle.gs_shell_causes.proofs.Reading.{digest_has, open_has, read_has, stat_has}
+use Rattle.gs_shell_causes.proofs.Replies.{change_has, look_has, reads_copied, reads_deleted, reads_epoch, reads_names, reads_nothing, reads_path, reads_phase, reads_scanned}
+use Rattle.gs_shell_causes.proofs.Writing.{append_has, write_has}
 
 -- ---- paths
 

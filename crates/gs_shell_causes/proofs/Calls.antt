@@ -5,12 +5,12 @@ use Rattle.gs_msg.specs.declared.event.Request.{Request}
 use Rattle.gs_client.specs.declared.link.Reply.{Reply}
 use Rattle.gs_client.specs.Replies.{copied_in, deleted_in, epoch_in, names_in, nothing_in, path_in, phase_in, scanned_in, status_in}
 use Rattle.gs_client.specs.Trees.{Call}
-use Rattle.gs_call_causes.specs.Calls.{OfEachCall}
-use Rattle.gs_call_causes.specs.Carried.{Explains}
-use Rattle.gs_call_causes.proofs.Carrying.{explains}
-use Rattle.gs_call_causes.proofs.Reading.{digest_has, open_has, read_has, stat_has}
-use Rattle.gs_call_causes.proofs.Replies.{change_has, look_has, reads_copied, reads_deleted, reads_epoch, reads_names, reads_nothing, reads_path, reads_phase, reads_scanned, reads_status}
-use Rattle.gs_call_causes.proofs.Writing.{append_has, write_has}
+use Rattle.gs_shell_causes.specs.Calls.{OfEachCall}
+use Rattle.gs_shell_causes.specs.Carried.{Explains}
+use Rattle.gs_shell_causes.proofs.Carrying.{explains}
+use Rattle.gs_shell_causes.proofs.Reading.{digest_has, open_has, read_has, stat_has}
+use Rattle.gs_shell_causes.proofs.Replies.{change_has, look_has, reads_copied, reads_deleted, reads_epoch, reads_names, reads_nothing, reads_path, reads_phase, reads_scanned, reads_status}
+use Rattle.gs_shell_causes.proofs.Writing.{append_has, write_has}
 
 pub each_call : {S : Type 0} (carries : S → Request → Reply → S → Type 0) → OfEachCall (Explains carries)
 each_call carries = record {

@@ -17,9 +17,9 @@ use Rattle.gs_client_part.specs.declared.located.Located.{Located}
 use Rattle.gs_client.specs.Replies.{is_stale, located_in}
 use Rattle.gs_client.specs.Trees.{Call}
 use Rattle.gs_client.specs.Writing.{append_call, append_from, avoided, extend_call, extends_call, landed, part_call, part_op, parts_call, send_call, write_call, write_part_call, writing_call, written}
-use Rattle.gs_call_causes.proofs.Ways.{Holds, IsClear, again_has, both_has, chosen_has, err_clear, grown, ok_clear, range_other, said}
-use Rattle.gs_call_causes.proofs.Replies.{change_has, edit_has, look_has, reads_located, stray}
-use Rattle.gs_call_causes.proofs.Looking.{known_has, tested}
+use Rattle.gs_shell_causes.proofs.Ways.{Holds, IsClear, again_has, both_has, chosen_has, err_clear, grown, ok_clear, range_other, said}
+use Rattle.gs_shell_causes.proofs.Replies.{change_has, edit_has, look_has, reads_located, stray}
+use Rattle.gs_shell_causes.proofs.Looking.{known_has, tested}
 
 written_clear : (outcome : EditOutcome) → IsClear (written outcome)
 written_clear outcomes.Written = ok_clear tt

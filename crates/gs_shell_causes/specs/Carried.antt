@@ -7,7 +7,7 @@ use Rattle.gs_client_dialogue.specs.Heard.{Says}
 use Rattle.gs_msg.specs.declared.event.Request.{Request}
 use Rattle.gs_client.specs.declared.link.Reply.{Reply}
 use Rattle.gs_client.specs.Trees.{Call}
-use Rattle.gs_call_causes.specs.Causes.{Exchanges, Why}
+use Rattle.gs_shell_causes.specs.Causes.{Exchanges, Why}
 
 -- each is carried to its reply, from a state to another
 abbrev pub Carried : {S : Type 0} → (S → Request → Reply → S → Type 0) → S → Exchanges → S → Type 0

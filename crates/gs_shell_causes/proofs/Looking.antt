@@ -24,9 +24,9 @@ use Rattle.gs_client.specs.declared.link.Reply.TheVariants as replies
 use Rattle.gs_client.specs.Looking.{anew_call, chunks_call, count_in, fetch_call, find_call, known_call, members_call, round_call}
 use Rattle.gs_client.specs.Replies.{chunks_in, given, located_in, looked, status_in}
 use Rattle.gs_client.specs.Trees.{and_then, look}
-use Rattle.gs_call_causes.specs.Causes.{Exchanges, IsFound, IsPassedOver, NoneGives, Why, WhyNoReplica, is_fetch, is_passed_over}
-use Rattle.gs_call_causes.proofs.Ways.{Caused, Holds, IsClear, IsOther, both_has, chosen_has, err_clear, err_is, grown, never, not_other, ok_clear, otherwise_has, said, stray_other, the_whole, upon_has, upon_splits}
-use Rattle.gs_call_causes.proofs.Replies.{look_has, reads_located, reads_status, refused_so}
+use Rattle.gs_shell_causes.specs.Causes.{Exchanges, IsFound, IsPassedOver, NoneGives, Why, WhyNoReplica, is_fetch, is_passed_over}
+use Rattle.gs_shell_causes.proofs.Ways.{Caused, Holds, IsClear, IsOther, both_has, chosen_has, err_clear, err_is, grown, never, not_other, ok_clear, otherwise_has, said, stray_other, the_whole, upon_has, upon_splits}
+use Rattle.gs_shell_causes.proofs.Replies.{look_has, reads_located, reads_status, refused_so}
 use Rattle.std.specs.List.{AllByRecursion}
 
 -- ---- how many chunks there are

@@ -12,8 +12,8 @@ use Rattle.gs_client.specs.declared.link.Reply.{Reply}
 use Rattle.gs_client.specs.declared.link.Reply.TheVariants as replies
 use Rattle.gs_client.specs.Replies.{changed, copied_in, deleted_in, edited, epoch_in, located_in, looked, names_in, nothing_in, path_in, phase_in, scanned_in, status_in, unsure_or}
 use Rattle.gs_client.specs.Trees.{and_then, change, look}
-use Rattle.gs_call_causes.specs.Causes.{Exchanges, IsLast, Why, WhyNoReplica, WhyUnsure, may_change, only_looks}
-use Rattle.gs_call_causes.proofs.Ways.{Holds, IsClear, clash, err_clear, err_is, never, not_other, ok_clear, one_has, stray_other}
+use Rattle.gs_shell_causes.specs.Causes.{Exchanges, IsLast, Why, WhyNoReplica, WhyUnsure, may_change, only_looks}
+use Rattle.gs_shell_causes.proofs.Ways.{Holds, IsClear, clash, err_clear, err_is, never, not_other, ok_clear, one_has, stray_other}
 
 -- ---- what is read of an answer
 

@@ -12,9 +12,9 @@ ghost use Rattle.gs_client.specs.declared.link.Reply.{Reply};
 ghost use Rattle.gs_shell_grammar.specs.Grammar.{Request as Line};
 ghost use Rattle.gs_shell_calls.specs.Asked.{asked_by};
 ghost use Rattle.gs_shell_calls.specs.declared.answer.Answer.{Answer};
-ghost use Rattle.gs_call_causes.specs.Calls.{OfEachCall};
-ghost use Rattle.gs_call_causes.specs.Carried.{Carried, Explains, Went};
-ghost use Rattle.gs_call_causes.specs.Causes.{Exchanges, Why};
+ghost use Rattle.gs_shell_causes.specs.Calls.{OfEachCall};
+ghost use Rattle.gs_shell_causes.specs.Carried.{Carried, Explains, Went};
+ghost use Rattle.gs_shell_causes.specs.Causes.{Exchanges, Why};
 
 use gs_client::Link;
 

@@ -8,7 +8,7 @@ use Rattle.gs_client_dialogue.specs.Heard.{Says}
 use Rattle.gs_msg.specs.declared.event.Request.{Request}
 use Rattle.gs_client.specs.declared.link.Reply.{Reply}
 use Rattle.gs_client.specs.Trees.{Call}
-use Rattle.gs_call_causes.specs.Causes.{Exchanges, Why}
+use Rattle.gs_shell_causes.specs.Causes.{Exchanges, Why}
 
 -- the reply that a refusal is from, and its place
 pub record Caused (refusal : Refusal) (exchanges : Exchanges) : Type 0 where
