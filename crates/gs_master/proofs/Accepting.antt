@@ -32,9 +32,6 @@ begun_together s chunk purpose call req waits = record { records = refl }
 pub created_together : (stamp : Stamp) (chunk : ℕ) (targets : List ℕ) (req : ReqId) (waits : Waiting) → ComesWithOthers (waits_from_now (create_plan stamp chunk targets req) req waits)
 created_together stamp chunk targets req waits = record { records = refl }
 
-pub copied_together : (stamp : Stamp) (old : ℕ) (view : View) (new : ℕ) (req : ReqId) (waits : Waiting) → ComesWithOthers (waits_from_now (copy_plan stamp old view new req) req waits)
-copied_together stamp old view new req waits = record { records = refl }
-
 pub pending_together : (req : ReqId) (waits : Waiting) → ComesWithOthers (begin_pending req waits)
 pending_together req waits = record { records = refl }
 
