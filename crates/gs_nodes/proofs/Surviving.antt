@@ -5,7 +5,7 @@ use Rattle.gs_journal.specs.declared.version.Version.TheVariants as versions
 use Rattle.gs_master.specs.Crashing.{MightTell}
 use Rattle.gs_master.specs.Recovering.{TellsStill}
 use Rattle.gs_master_spec.specs.State.{is_failed}
-use Rattle.gs_nodes.specs.Crashing.{LeavesOfMaster, LeavesText, RefusalsLeave, StandsAt, SurvivesAt, SurvivesRestart, SurvivesUnopened}
+use Rattle.gs_nodes.specs.Crashing.{LeavesOfMaster, CrashLeaves, RefusalsLeave, StandsAt, SurvivesAt, SurvivesRestart, SurvivesUnopened}
 use Rattle.gs_nodes.specs.Happenings.{disks_of}
 use Rattle.gs_nodes.specs.declared.place.MasterPlace.{MasterPlace}
 use Rattle.gs_nodes.specs.declared.place.MasterPlace.TheVariants.{Standing, Closed, Away}
@@ -42,7 +42,7 @@ module _ {D : Type 0} (seen : D → List ℕ) (may_leave : D → List ℕ → Ty
   -- of a master whose disks can't be opened anew
   of_master : (old new : MasterPlace D) (disks : D × D) → disks_of old ≡ Some disks → StandsAt seen may_leave moment left_since old → SurvivesAt seen may_leave moment left_since disks new → LeavesOfMaster seen may_leave moment left_since old new
   of_master (Standing m) (Closed first second) disks e stood at sound =
-      refusals_leave disks first second m.journal.text at (stood sound).1 (subst (LeavesText seen may_leave moment left_since m.journal.text) (those e) (stood sound).0.lasts)
+      refusals_leave disks first second m.journal.text at (stood sound).1 (subst (CrashLeaves seen may_leave moment left_since m.journal.text) (those e) (stood sound).0.lasts)
     where
       those : {x : D × D} → Some (m.journal.first, m.journal.second) ≡ Some x → (m.journal.first, m.journal.second) ≡ x
       those k = cc

@@ -31,8 +31,8 @@ module _ {D : Type 0} (seen : D → List ℕ) (may_leave : D → List ℕ → Ty
   SurvivesAt disks Away = ⊥
 
   -- whatever a crash leaves of two disks tells this text
-  abbrev pub LeavesText : Text → D × D → Type 0
-  LeavesText text disks = (a b : List ℕ) → may_leave disks.0 a → may_leave disks.1 b → standing a b ≡ text
+  abbrev pub CrashLeaves : Text → D × D → Type 0
+  CrashLeaves text disks = (a b : List ℕ) → may_leave disks.0 a → may_leave disks.1 b → standing a b ≡ text
 
   -- while no disk of a master has failed, a crash leaves what its journal tells, which is of version 2
   abbrev pub StandsAt : MasterPlace D → Type 0
@@ -42,7 +42,7 @@ module _ {D : Type 0} (seen : D → List ℕ) (may_leave : D → List ℕ → Ty
 
   -- There was a master, no disk of which had failed, and there is none now: a crash leaves what its journal told.
   abbrev pub LeavesOfMaster : MasterPlace D → MasterPlace D → Type 0
-  LeavesOfMaster (Standing m) (Closed first second) = is_failed m.state.fault ≡ false → LeavesText m.journal.text (first, second)
+  LeavesOfMaster (Standing m) (Closed first second) = is_failed m.state.fault ≡ false → CrashLeaves m.journal.text (first, second)
   LeavesOfMaster (Standing m) (Standing opened) = Unit {0}
   LeavesOfMaster (Standing m) Away = Unit {0}
   LeavesOfMaster (Closed first second) new = Unit {0}
@@ -50,7 +50,7 @@ module _ {D : Type 0} (seen : D → List ℕ) (may_leave : D → List ℕ → Ty
 
   -- Disks that couldn't be opened leave the text that they would have left before, where it is of version 2: also where that is tried again.
   abbrev pub RefusalsLeave : Type 0
-  RefusalsLeave = (disks : D × D) (first second : D) (text : Text) → SurvivesUnopened disks first second → text.0 ≡ versions.Two → LeavesText text disks → LeavesText text (first, second)
+  RefusalsLeave = (disks : D × D) (first second : D) (text : Text) → SurvivesUnopened disks first second → text.0 ≡ versions.Two → CrashLeaves text disks → CrashLeaves text (first, second)
 
   -- The disks of the master are opened anew. Where they are away nothing is said.
   abbrev pub SurvivesRestart : MasterPlace D → MasterPlace D → Type 0
