@@ -1,10 +1,9 @@
 -- What a crash leaves of disks that nothing is done to, and of those that can't be opened.
-use Rattle.std.proofs.Common.{◌≡◌, ◌∙◌, ap, arith, inl, inr, refl, subst, sym, ℕ, List, Some, false}
+use Rattle.std.proofs.Common.{◌≡◌, ◌∙◌, ap, arith, inl, inr, refl, subst, sym, ℕ, List, Some}
 use Rattle.gs_journal.specs.Records.{Text, standing}
 use Rattle.gs_journal.specs.declared.version.Version.TheVariants as versions
 use Rattle.gs_master.specs.Crashing.{MightTell}
 use Rattle.gs_master.specs.Recovering.{TellsStill}
-use Rattle.gs_master_spec.specs.State.{is_failed}
 use Rattle.gs_nodes.specs.Crashing.{LeavesOfMaster, CrashLeaves, RefusalsLeave, StandsAt, SurvivesAt, SurvivesRestart, SurvivesUnopened}
 use Rattle.gs_nodes.specs.Happenings.{disks_of}
 use Rattle.gs_nodes.specs.declared.place.MasterPlace.{MasterPlace}
@@ -41,8 +40,8 @@ module _ {D : Type 0} (seen : D → List ℕ) (may_leave : D → List ℕ → Ty
 
   -- of a master whose disks can't be opened anew
   of_master : (old new : MasterPlace D) (disks : D × D) → disks_of old ≡ Some disks → StandsAt seen may_leave moment left_since old → SurvivesAt seen may_leave moment left_since disks new → LeavesOfMaster seen may_leave moment left_since old new
-  of_master (Standing m) (Closed first second) disks e stood at sound =
-      refusals_leave disks first second m.journal.text at (stood sound).1 (subst (CrashLeaves seen may_leave moment left_since m.journal.text) (those e) (stood sound).0.lasts)
+  of_master (Standing m) (Closed first second) disks e stood at =
+      λ sound. refusals_leave disks first second m.journal.text at (stood sound).1 (subst (CrashLeaves seen may_leave moment left_since m.journal.text) (those e) (stood sound).0.lasts)
     where
       those : {x : D × D} → Some (m.journal.first, m.journal.second) ≡ Some x → (m.journal.first, m.journal.second) ≡ x
       those k = cc
