@@ -56,13 +56,12 @@ use Rattle.gs_world_asked.specs.Asked.{AreAsked, HasAsked, SaysOf}
 use Rattle.gs_world_asked.specs.Behind.{HasAnswer, IsOnly, ListsAreByCommits, ListsByCommit, asks_call, is_halt}
 use Rattle.gs_world_asked.specs.Resting.{IsLooking, IsOldOrLooks, IsStill, StandsStill, StandsStillAt}
 use Rattle.gs_world_asked.proofs.Answered.{answers_are_made}
-use Rattle.gs_world_asked.proofs.Asked.{stays_unarmed}
 use Rattle.gs_world_asked.proofs.Resting.{stays_still}
+use Rattle.gs_world_asked.proofs.Sparing.{AllSpare, asked_spared, lasts_spared}
 use Rattle.gs_world_laws.proofs.Keeping.{run_keeps}
-use Rattle.gs_world_laws.proofs.Through.{run_through}
 use Rattle.gs_world_laws.specs.Saying.{IsStepWithin, KeepsTypes}
 use Rattle.gs_world_laws.specs.Steady.{StandsSteady, TellsSteady}
-use Rattle.gs_world_laws.specs.Through.{LastsThrough, TellsAt}
+use Rattle.gs_world_laws.specs.Through.{LastsThrough}
 use Rattle.gs_world_asked.specs.Answered.{AnswersNow, sent_by}
 use Rattle.gs_world_asked.proofs.Parts.{Armed, Asked, Heard, Opened, Part, Rested, Served, Ticked, Told, part_of}
 
@@ -221,14 +220,7 @@ none_waits s calls.PrepareCommit is firm begun = (firm.stands.preparing begun).1
 none_waits s calls.RollbackCommit is firm begun = firm.rolling begun
 none_waits s call is firm begun = absurd (false≢true is)
 
-module _ {D : Type 0} (seen : D → List ℕ) (failures : D → ℕ) (armed : DiskId → ℕ → MasterPlace D → MasterPlace D) (leaves : (disk : DiskId) (call : ℕ) (place : MasterPlace D) → armed disk call place ≡ place) where
-  lasts_so : (steps : List Step) (old new : History D) → RunsTo seen failures armed steps old new → AllByRecursion IsStepWithin steps → KeepsTypes old → LastsThrough seen old.nodes.master → LastsThrough seen new.nodes.master
-  lasts_so steps old new runs within keeps lasts =
-      run_through seen failures armed (λ disk call place lasts. subst (LastsThrough seen) (sym (leaves disk call place)) lasts) (λ d disk call place told. subst (λ p. TellsAt seen p d) (sym (leaves disk call place)) told) steps old new runs within keeps lasts
-
-  asked_so : (steps : List Step) (old new : History D) → RunsTo seen failures armed steps old new → AllByRecursion IsStepWithin steps → KeepsTypes old → LastsThrough seen old.nodes.master → AreAsked seen old → AreAsked seen new
-  asked_so steps old new runs within keeps lasts are = stays_unarmed seen failures armed steps old new leaves runs within keeps lasts are
-
+module _ {D : Type 0} (seen : D → List ℕ) (failures : D → ℕ) (armed : DiskId → ℕ → MasterPlace D → MasterPlace D) where
   pub firm_so : (m : MasterOf D) → LastsThrough seen (Standing m) → is_failed m.state.fault ≡ false → IsFirm m.state
   firm_so m lasts sound = by_fault (is_failed m.state.fault) sound lasts
     where
@@ -250,18 +242,25 @@ module _ {D : Type 0} (seen : D → List ℕ) (failures : D → ℕ) (armed : Di
     parts_look : AllByRecursion (IsLooking client) (made.before ++ Comes made.event ∷ made.after)
     parts_look = subst (AllByRecursion (IsLooking client)) made.parts c.looking
 
+    ask_spares : AllSpare (ask ∷ c.steps)
+    ask_spares = (refl, all_spare client c.steps c.looking)
+
+    before_spare : AllSpare (ask ∷ made.before)
+    before_spare = (refl, all_spare client made.before (all_front (IsLooking client) made.before (Comes made.event ∷ made.after) parts_look))
+
     to_now : RunsTo seen failures armed (ask ∷ made.before) old made.now
     to_now = (c.asked, (Ok tt, c.asks.happens), made.first)
 
     lasts_now : LastsThrough seen made.now.nodes.master
-    lasts_now = lasts_so (ask ∷ made.before) old made.now to_now (c.within.0, all_front IsStepWithin made.before (Comes made.event ∷ made.after) parts_within) keeps lasts
+    lasts_now = lasts_spared seen failures armed (ask ∷ made.before) old made.now to_now before_spare (c.within.0, all_front IsStepWithin made.before (Comes made.event ∷ made.after) parts_within) keeps lasts
 
     are_next : AreAsked seen made.next
-    are_next = asked_so ((ask ∷ made.before) ++ Comes made.event ∷ []) old made.next (run_more seen failures armed (ask ∷ made.before) (Comes made.event) old made.now made.next to_now (made.said, made.happens))
+    are_next = asked_spared seen failures armed ((ask ∷ made.before) ++ Comes made.event ∷ []) old made.next (run_more seen failures armed (ask ∷ made.before) (Comes made.event) old made.now made.next to_now (made.said, made.happens))
+        (refl, all_one_more (λ step. spares_master step ≡ true) made.before (Comes made.event) before_spare.1 (all_back (IsLooking client) made.before (Comes made.event ∷ made.after) parts_look).0.0)
         (c.within.0, all_one_more IsStepWithin made.before (Comes made.event) (all_front IsStepWithin made.before (Comes made.event ∷ made.after) parts_within) (all_back IsStepWithin made.before (Comes made.event ∷ made.after) parts_within).0) keeps lasts are
 
     pub are_mid : AreAsked seen mid
-    are_mid = asked_so (ask ∷ c.steps) old mid (c.asked, (Ok tt, c.asks.happens), c.runs) c.within keeps lasts are
+    are_mid = asked_spared seen failures armed (ask ∷ c.steps) old mid (c.asked, (Ok tt, c.asks.happens), c.runs) ask_spares c.within keeps lasts are
 
     there : MadeThere seen failures armed made.now made.event.moment made.answers.master c.req call answer made.next.nodes
     there = made_there seen failures armed made.now made.event made.said made.next made.happens c.req call answer made.answers
@@ -329,7 +328,7 @@ module _ {D : Type 0} (seen : D → List ℕ) (failures : D → ℕ) (armed : Di
     sound = ap (λ (u : State). is_failed u.fault) there.is ∙ ap is_failed commits.fault ∙ commits.sound
 
     lasts_mid : LastsThrough seen mid.nodes.master
-    lasts_mid = lasts_so (ask ∷ c.steps) old mid (c.asked, (Ok tt, c.asks.happens), c.runs) c.within keeps lasts
+    lasts_mid = lasts_spared seen failures armed (ask ∷ c.steps) old mid (c.asked, (Ok tt, c.asks.happens), c.runs) ask_spares c.within keeps lasts
 
     types_mid : KeepsTypes mid
     types_mid = run_keeps seen failures armed (ask ∷ c.steps) old mid (c.asked, (Ok tt, c.asks.happens), c.runs) c.within keeps
@@ -337,7 +336,7 @@ module _ {D : Type 0} (seen : D → List ℕ) (failures : D → ℕ) (armed : Di
     module _ (new : History D) (path : Path) (listed : Answer) (way : List Step) (start : History D) (leads : RunsTo seen failures armed way mid start) (way_within : AllByRecursion IsStepWithin way) (way_looks : AllByRecursion (IsLooking client) way)
         (l : HasAnswer seen failures armed client start (calls.List path) listed new) where
       are_start : AreAsked seen start
-      are_start = asked_so way mid start leads way_within types_mid lasts_mid are_mid
+      are_start = asked_spared seen failures armed way mid start leads (all_spare client way way_looks) way_within types_mid lasts_mid are_mid
 
       still_start : IsStill d client c.req.number start
       still_start = stays_still seen failures armed d client c.req.number way mid start leads way_looks still_mid
@@ -366,4 +365,4 @@ module _ {D : Type 0} (seen : D → List ℕ) (failures : D → ℕ) (armed : Di
       }
 
 pub lists_are_by_commits : {D : Type 0} (seen : D → List ℕ) (failures : D → ℕ) (armed : DiskId → ℕ → MasterPlace D → MasterPlace D) → ListsAreByCommits seen failures armed
-lists_are_by_commits seen failures armed leaves client old mid new call answer listed path are keeps lasts halt c only way start leads way_within way_looks l = lists_by seen failures armed leaves client old mid call answer are keeps lasts halt c only new path listed way start leads way_within way_looks l
+lists_are_by_commits seen failures armed client old mid new call answer listed path are keeps lasts halt c only way start leads way_within way_looks l = lists_by seen failures armed client old mid call answer are keeps lasts halt c only new path listed way start leads way_within way_looks l

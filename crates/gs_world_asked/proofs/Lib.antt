@@ -2,4 +2,5 @@ pub mod Answered
 pub mod Asked
 pub mod Parts
 pub mod Resting
+pub mod Sparing
 pub mod Behind

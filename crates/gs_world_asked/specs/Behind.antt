@@ -26,7 +26,6 @@ use Rattle.gs_world_asked.specs.Answered.{AsksFresh, WasAnswered}
 use Rattle.gs_world_asked.specs.Asked.{AreAsked}
 use Rattle.gs_world_asked.specs.Resting.{IsLooking}
 use Rattle.gs_world_laws.specs.Asking.{asks_at}
-use Rattle.gs_world_laws.specs.Reached.{IsUnarmed}
 use Rattle.gs_world_laws.specs.Saying.{IsStepWithin, KeepsTypes}
 use Rattle.gs_world_laws.specs.Through.{LastsThrough}
 
@@ -79,6 +78,6 @@ module _ {D : Type 0} (seen : D → List ℕ) (failures : D → ℕ) (armed : Di
 
   -- So it is where it is the only client, and asks nothing else but look-ups, also between the two.
   abbrev pub ListsAreByCommits : Type 0
-  ListsAreByCommits = IsUnarmed armed → (client : ClientId) (old mid new : History D) (call : Call) (answer listed : Answer) (path : Path) → AreAsked seen old → KeepsTypes old → LastsThrough seen old.nodes.master →
+  ListsAreByCommits = (client : ClientId) (old mid new : History D) (call : Call) (answer listed : Answer) (path : Path) → AreAsked seen old → KeepsTypes old → LastsThrough seen old.nodes.master →
       is_halt call ≡ true → (c : HasAnswer client old call answer mid) → IsOnly client mid →
       (way : List Step) (start : History D) → RunsTo seen failures armed way mid start → AllByRecursion IsStepWithin way → AllByRecursion (IsLooking client) way → HasAnswer client start (calls.List path) listed new → ListsByCommit client old call answer mid path listed c

@@ -158,7 +158,7 @@ module _ (sizes : HaveSizes) {D : Type 0} (rises : (x : Setup D) → EpochsNever
       commits = commits_had made.answers.master.config s c.req made.event.moment call (answers.Epoch epoch) (halt_commits call halt) made.answers.new there.says
 
       firm : IsFirm s
-      firm = firm_so seen failures unarmed (λ disk number place. refl) made.answers.master (subst (LastsThrough seen) made.answers.stands good_now.well.steady) commits.sound
+      firm = firm_so seen failures unarmed made.answers.master (subst (LastsThrough seen) made.answers.stands good_now.well.steady) commits.sound
 
       abbrev its_message : Message
       its_message = record { from = nodes.Client c.req.client; to = nodes.Master; body = bodies.Call c.req call }
@@ -248,7 +248,7 @@ module _ (sizes : HaveSizes) {D : Type 0} (rises : (x : Setup D) → EpochsNever
     old = good_on given l.first l.begun l.old l.runs l.within begun
 
     one : ListsByCommit seen failures unarmed client l.old calls.PrepareCommit (answers.Epoch epoch) l.prepared path had l.prepares
-    one = lists_are_by_commits seen failures unarmed (λ disk call place. refl) client l.old l.prepared l.listed calls.PrepareCommit (answers.Epoch epoch) had path old.are old.well.types old.well.steady refl l.prepares l.only l.way.steps l.way.end l.way.runs l.way.within l.way.looking l.lists
+    one = lists_are_by_commits seen failures unarmed client l.old l.prepared l.listed calls.PrepareCommit (answers.Epoch epoch) had path old.are old.well.types old.well.steady refl l.prepares l.only l.way.steps l.way.end l.way.runs l.way.within l.way.looking l.lists
 
     prepared : Good given l.prepared
     prepared = good_mid given client l.old l.prepared calls.PrepareCommit epoch refl l.prepares old one.made one.durable one.stands
@@ -269,7 +269,7 @@ module _ (sizes : HaveSizes) {D : Type 0} (rises : (x : Setup D) → EpochsNever
     later = good_on given l.between l.listed l.later l.passes l.within_between listed
 
     two : ListsByCommit seen failures unarmed client l.later calls.RollbackCommit (answers.Epoch (epoch + 1)) l.back path has l.commits
-    two = lists_are_by_commits seen failures unarmed (λ disk call place. refl) client l.later l.back l.last calls.RollbackCommit (answers.Epoch (epoch + 1)) has path later.are later.well.types later.well.steady refl l.commits l.only_then l.way_then.steps l.way_then.end l.way_then.runs l.way_then.within l.way_then.looking l.again
+    two = lists_are_by_commits seen failures unarmed client l.later l.back l.last calls.RollbackCommit (answers.Epoch (epoch + 1)) has path later.are later.well.types later.well.steady refl l.commits l.only_then l.way_then.steps l.way_then.end l.way_then.runs l.way_then.within l.way_then.looking l.again
 
     abbrev before : Durable
     before = one.durable

@@ -15,7 +15,9 @@ use Rattle.gs_msg.specs.declared.call.Call.{Call}
 use Rattle.gs_msg.specs.declared.call.Call.TheVariants as calls
 use Rattle.gs_msg.specs.declared.event.DiskId.{DiskId}
 use Rattle.gs_msg.specs.declared.event.Event.{Event}
+use Rattle.gs_msg.specs.declared.event.Happening.TheVariants as happenings
 use Rattle.gs_msg.specs.declared.message.Message.{Message}
+use Rattle.gs_msg.specs.declared.message.MsgId.{MsgId}
 use Rattle.gs_msg.specs.declared.node.NodeId.{NodeId}
 use Rattle.gs_msg.specs.declared.node.NodeId.TheVariants as nodes
 use Rattle.gs_master_spec.specs.Applied.{replayed}
@@ -37,22 +39,21 @@ use Rattle.gs_nodes.specs.declared.place.MasterPlace.TheVariants.{Standing}
 use Rattle.gs_world.specs.Histories.{Happens, History}
 use Rattle.gs_world.specs.Runs.{Comes, RunsTo, StaySent, Step}
 use Rattle.gs_world.proofs.Sending.{run_stays}
-use Rattle.gs_world_asked.specs.Answered.{AnswersNow, GoesBy, Passes, WasAnswered}
+use Rattle.gs_world_asked.specs.Answered.{AnswersNow, GoesBy, Passes, WasAnswered, spares_master}
 use Rattle.gs_world_asked.specs.Asked.{AreAsked, HasAsked, SaysOf}
 use Rattle.gs_world_asked.specs.Behind.{HasAnswer, IsOnly, asks_call, is_halt}
 use Rattle.gs_world_asked.specs.Resting.{IsLooking, IsOldOrLooks, IsStill, StandsStillAt}
 use Rattle.gs_world_asked.proofs.Answered.{answers_are_made}
-use Rattle.gs_world_asked.proofs.Asked.{stays_unarmed}
 use Rattle.gs_world_asked.proofs.Behind.{MadeThere, all_back, all_front, all_one_more, all_spare, halt_at_once, halt_commits, made_there, run_more, turn_is}
 use Rattle.gs_world_asked.proofs.Resting.{stays_still}
+use Rattle.gs_world_asked.proofs.Sparing.{AllSpare, asked_spared, lasts_spared}
 use Rattle.gs_world_laws.proofs.Keeping.{run_keeps}
 use Rattle.gs_world_laws.proofs.Through.{sound_tells, tells_once}
 use Rattle.gs_world_laws.specs.Saying.{IsStepWithin, KeepsTypes}
 use Rattle.gs_world_laws.specs.Through.{LastsThrough, TellsAt}
-use Rattle.gs_world_laws.specs.Reached.{IsUnarmed}
 use Rattle.gs_world_looked.specs.Unled.{CommitsHalt, CommitsLeaveUnled, HaltsBy, HasNames, IsUnledAt, StaysQuiet}
 use Rattle.gs_world_looked.proofs.Named.{firm_at}
-use Rattle.gs_world_looked.proofs.Unled.{lasts_on, run_named, run_quiet}
+use Rattle.gs_world_looked.proofs.Unled.{run_named, run_quiet}
 
 -- ---- a master that is firm
 
@@ -65,6 +66,11 @@ halt_named : (call : Call) → is_halt call ≡ true → IsNamedCall call
 halt_named calls.PrepareCommit is = tt
 halt_named calls.RollbackCommit is = tt
 halt_named call is = absurd (false≢true is)
+
+-- ---- a delivery spares the master
+
+delivery_spares : (event : Event) (id : MsgId) → event.happening ≡ happenings.Deliver id → spares_master (Comes event) ≡ true
+delivery_spares event id comes = ap (λ h. spares_master (Comes (record { moment = event.moment; happening = h }))) comes
 
 -- ---- no call waits where a prepare or a rollback was begun
 
@@ -83,7 +89,7 @@ unled_by config s req moment calls.PrepareCommit answer is none says fits = prep
 unled_by config s req moment calls.RollbackCommit answer is none says fits = rollbacks_leave config s req moment answer none says fits
 unled_by config s req moment call answer is none says fits = absurd (false≢true is)
 
-module _ {D : Type 0} (seen : D → List ℕ) (failures : D → ℕ) (armed : DiskId → ℕ → MasterPlace D → MasterPlace D) (leaves : IsUnarmed armed) where
+module _ {D : Type 0} (seen : D → List ℕ) (failures : D → ℕ) (armed : DiskId → ℕ → MasterPlace D → MasterPlace D) where
   -- ---- the event
 
   module _ (now next : History D) (event : Event) (said : Result (Unit {0}) Refusal) (h : Happens seen failures armed event now said next) (req : ReqId) (call : Call) (answer : Answer) (halt : is_halt call ≡ true) (within : IsStepWithin (Comes event)) (keeps : KeepsTypes now)
@@ -128,7 +134,7 @@ module _ {D : Type 0} (seen : D → List ℕ) (failures : D → ℕ) (armed : Di
     sound_behind = ap (λ (u : State). is_failed u.fault) there.is ∙ ap is_failed commits.fault ∙ commits.sound
 
     lasts_next : LastsThrough seen next.nodes.master
-    lasts_next = lasts_on seen failures there.after.state.durable req.client req.number armed leaves (Comes event ∷ []) now next (next, (said, h), refl) (within, tt) keeps lasts
+    lasts_next = lasts_spared seen failures armed (Comes event ∷ []) now next (next, (said, h), refl) (delivery_spares event a.id a.comes, tt) (within, tt) keeps lasts
 
     pub quiet_behind : StaysQuiet seen next
     quiet_behind = record { master = subst IsUnledAt (sym there.stands) unled; told = told }
@@ -172,14 +178,17 @@ module _ {D : Type 0} (seen : D → List ℕ) (failures : D → ℕ) (armed : Di
     within_now : AllByRecursion IsStepWithin (ask ∷ made.before)
     within_now = (c.within.0, all_front IsStepWithin made.before (Comes made.event ∷ made.after) parts_within)
 
+    ask_spares : AllSpare (ask ∷ c.steps)
+    ask_spares = (refl, all_spare client c.steps c.looking)
+
+    before_spare : AllSpare (ask ∷ made.before)
+    before_spare = (refl, all_spare client made.before (all_front (IsLooking client) made.before (Comes made.event ∷ made.after) parts_look))
+
     types_now : KeepsTypes made.now
     types_now = run_keeps seen failures armed (ask ∷ made.before) old made.now to_now within_now keeps
 
-    lasts_by : (steps : List Step) (x y : History D) → RunsTo seen failures armed steps x y → AllByRecursion IsStepWithin steps → KeepsTypes x → LastsThrough seen x.nodes.master → LastsThrough seen y.nodes.master
-    lasts_by = lasts_on seen failures made.answers.master.state.durable client c.req.number armed leaves
-
     lasts_now : LastsThrough seen made.now.nodes.master
-    lasts_now = lasts_by (ask ∷ made.before) old made.now to_now within_now keeps lasts
+    lasts_now = lasts_spared seen failures armed (ask ∷ made.before) old made.now to_now before_spare within_now keeps lasts
 
     to_next : RunsTo seen failures armed ((ask ∷ made.before) ++ Comes made.event ∷ []) old made.next
     to_next = run_more seen failures armed (ask ∷ made.before) (Comes made.event) old made.now made.next to_now (made.said, made.happens)
@@ -187,14 +196,17 @@ module _ {D : Type 0} (seen : D → List ℕ) (failures : D → ℕ) (armed : Di
     within_next : AllByRecursion IsStepWithin ((ask ∷ made.before) ++ Comes made.event ∷ [])
     within_next = (c.within.0, all_one_more IsStepWithin made.before (Comes made.event) within_now.1 here_within.0)
 
+    next_spare : AllSpare ((ask ∷ made.before) ++ Comes made.event ∷ [])
+    next_spare = (refl, all_one_more (λ step. spares_master step ≡ true) made.before (Comes made.event) before_spare.1 here_look.0.0)
+
     are_next : AreAsked seen made.next
-    are_next = stays_unarmed seen failures armed ((ask ∷ made.before) ++ Comes made.event ∷ []) old made.next leaves to_next within_next keeps lasts are
+    are_next = asked_spared seen failures armed ((ask ∷ made.before) ++ Comes made.event ∷ []) old made.next to_next next_spare within_next keeps lasts are
 
     to_mid : RunsTo seen failures armed (ask ∷ c.steps) old mid
     to_mid = (c.asked, (Ok tt, c.asks.happens), c.runs)
 
     are_mid : AreAsked seen mid
-    are_mid = stays_unarmed seen failures armed (ask ∷ c.steps) old mid leaves to_mid c.within keeps lasts are
+    are_mid = asked_spared seen failures armed (ask ∷ c.steps) old mid to_mid ask_spares c.within keeps lasts are
 
     abbrev its_there : MadeThere seen failures armed made.now made.event.moment made.answers.master c.req call answer made.next.nodes
     its_there = there made.now made.next made.event made.said made.happens c.req call answer halt here_within.0 types_now lasts_now made.answers
@@ -242,7 +254,7 @@ module _ {D : Type 0} (seen : D → List ℕ) (failures : D → ℕ) (armed : Di
     types_next = run_keeps seen failures armed ((ask ∷ made.before) ++ Comes made.event ∷ []) old made.next to_next within_next keeps
 
     lasts_at_next : LastsThrough seen made.next.nodes.master
-    lasts_at_next = lasts_by ((ask ∷ made.before) ++ Comes made.event ∷ []) old made.next to_next within_next keeps lasts
+    lasts_at_next = lasts_spared seen failures armed ((ask ∷ made.before) ++ Comes made.event ∷ []) old made.next to_next next_spare within_next keeps lasts
 
     named_next : (e : Durable) → TellsAt seen made.next.nodes.master e → HasNames d e
     named_next e tells =
@@ -258,16 +270,16 @@ module _ {D : Type 0} (seen : D → List ℕ) (failures : D → ℕ) (armed : Di
       begun = record { still = still_next; quiet = quiet_next; named = named_next; asked = are_next; types = types_next; lasts = lasts_at_next };
       halted = record {
         still = stays_still seen failures armed d client c.req.number made.after made.next mid made.rest here_look.1 still_next;
-        quiet = run_quiet seen failures d client c.req.number armed leaves made.after made.next mid made.rest here_within.1 here_look.1 types_next lasts_at_next still_next quiet_next;
-        named = run_named seen failures d client c.req.number armed leaves made.after made.next mid made.rest here_within.1 here_look.1 types_next lasts_at_next still_next named_next;
+        quiet = run_quiet seen failures d client c.req.number armed made.after made.next mid made.rest here_within.1 here_look.1 types_next lasts_at_next still_next quiet_next;
+        named = run_named seen failures d client c.req.number armed made.after made.next mid made.rest here_within.1 here_look.1 types_next lasts_at_next still_next named_next;
         asked = are_mid;
         types = run_keeps seen failures armed (ask ∷ c.steps) old mid to_mid c.within keeps;
-        lasts = lasts_by (ask ∷ c.steps) old mid to_mid c.within keeps lasts;
+        lasts = lasts_spared seen failures armed (ask ∷ c.steps) old mid to_mid ask_spares c.within keeps lasts;
       };
     }
 
 pub commits_unled : {D : Type 0} (seen : D → List ℕ) (failures : D → ℕ) (armed : DiskId → ℕ → MasterPlace D → MasterPlace D) → CommitsLeaveUnled seen failures armed
-commits_unled seen failures armed leaves now next event said h req call answer halt within keeps lasts a = quiet_behind seen failures armed leaves now next event said h req call answer halt within keeps lasts a
+commits_unled seen failures armed now next event said h req call answer halt within keeps lasts a = quiet_behind seen failures armed now next event said h req call answer halt within keeps lasts a
 
 pub commits_halt : {D : Type 0} (seen : D → List ℕ) (failures : D → ℕ) (armed : DiskId → ℕ → MasterPlace D → MasterPlace D) → CommitsHalt seen failures armed
-commits_halt seen failures armed leaves client old mid call answer are keeps lasts halt c only = halts seen failures armed leaves client old mid call answer are keeps lasts halt c only
+commits_halt seen failures armed client old mid call answer are keeps lasts halt c only = halts seen failures armed client old mid call answer are keeps lasts halt c only

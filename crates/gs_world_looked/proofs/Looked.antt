@@ -37,7 +37,6 @@ use Rattle.gs_world_asked.proofs.Behind.{MadeThere, all_front, all_spare, made_t
 use Rattle.gs_world_laws.specs.Saying.{IsStepWithin}
 use Rattle.gs_world_laws.specs.Through.{LastsThrough}
 use Rattle.gs_world_looked.specs.Looked.{AnswersAreByNames, IsPlaceOf, IsStatusOf, LooksAreByNames, LooksBy, LooksHalted, is_file_look}
-use Rattle.gs_world_laws.specs.Reached.{IsUnarmed}
 use Rattle.gs_world_looked.specs.Unled.{IsHalted, IsUnledAt, StaysQuiet}
 use Rattle.gs_world_looked.proofs.Named.{firm_at}
 use Rattle.gs_world_looked.proofs.Unled.{run_halted}
@@ -143,7 +142,7 @@ module _ {D : Type 0} (seen : D → List ℕ) (failures : D → ℕ) (armed : Di
 
   -- ---- a client that has the answer
 
-  module _ (leaves : IsUnarmed armed) (d : Durable) (client : ClientId) (number : ℕ) (start new : History D) (call : Call) (answer : Answer) (look : is_file_look call ≡ true) (h : IsHalted seen d client number start) (l : HasAnswer seen failures armed client start call answer new) where
+  module _ (d : Durable) (client : ClientId) (number : ℕ) (start new : History D) (call : Call) (answer : Answer) (look : is_file_look call ≡ true) (h : IsHalted seen d client number start) (l : HasAnswer seen failures armed client start call answer new) where
     was : (made : WasAnswered seen failures armed l.steps l.asked new l.req call answer) × GoesBy seen failures armed (λ h. Passes seen failures armed h l.steps l.asked new l.runs) l.steps l.asked new l.req call answer made
     was = answers_are_made seen failures armed start l.asked new l.moment l.req call l.steps l.node answer h.asked l.asks (file_at_once call look) l.runs (all_spare client l.steps l.looking) (subst (λ k. client_in new.nodes.clients k ≡ Some l.node) (sym l.own) l.there) l.last l.reply
 
@@ -167,7 +166,7 @@ module _ {D : Type 0} (seen : D → List ℕ) (failures : D → ℕ) (armed : Di
     before_within = all_front IsStepWithin made.before (Comes made.event ∷ made.after) (subst (AllByRecursion IsStepWithin) made.parts l.within.1)
 
     met : IsHalted seen d client number made.now
-    met = run_halted seen failures d client number armed leaves (ask ∷ made.before) start made.now (l.asked, (Ok tt, l.asks.happens), made.first) (l.within.0, before_within) (asks_look, before_look) h
+    met = run_halted seen failures d client number armed (ask ∷ made.before) start made.now (l.asked, (Ok tt, l.asks.happens), made.first) (l.within.0, before_within) (asks_look, before_look) h
 
     pub looks_halted : LooksHalted seen failures armed d client number start call answer new l
     looks_halted = record {
@@ -175,11 +174,11 @@ module _ {D : Type 0} (seen : D → List ℕ) (failures : D → ℕ) (armed : Di
       on_the_way = goes_by;
       met = met;
       looks = looks_by d client number made.now made.next made.event made.said made.happens l.req met.lasts met.still met.quiet call answer look made.answers;
-      halted = run_halted seen failures d client number armed leaves (ask ∷ l.steps) start new (l.asked, (Ok tt, l.asks.happens), l.runs) l.within (asks_look, l.looking) h;
+      halted = run_halted seen failures d client number armed (ask ∷ l.steps) start new (l.asked, (Ok tt, l.asks.happens), l.runs) l.within (asks_look, l.looking) h;
     }
 
 pub looks_are_by_names : {D : Type 0} (seen : D → List ℕ) (failures : D → ℕ) (armed : DiskId → ℕ → MasterPlace D → MasterPlace D) → LooksAreByNames seen failures armed
 looks_are_by_names seen failures armed d client number now next event said h req call answer look lasts f quiet a = looks_by seen failures armed d client number now next event said h req lasts f quiet call answer look a
 
 pub answers_are_by_names : {D : Type 0} (seen : D → List ℕ) (failures : D → ℕ) (armed : DiskId → ℕ → MasterPlace D → MasterPlace D) → AnswersAreByNames seen failures armed
-answers_are_by_names seen failures armed leaves d client number start new call answer look h l = looks_halted seen failures armed leaves d client number start new call answer look h l
+answers_are_by_names seen failures armed d client number start new call answer look h l = looks_halted seen failures armed d client number start new call answer look h l

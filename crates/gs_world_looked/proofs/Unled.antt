@@ -33,15 +33,16 @@ use Rattle.gs_world.specs.Histories.{History, Upshot}
 use Rattle.gs_world.specs.Runs.{Comes, Goes, RunsTo, Step, Takes}
 use Rattle.gs_world_asked.specs.Answered.{spares_master}
 use Rattle.gs_world_asked.specs.Resting.{IsLooking, IsOldOrLooks, IsStill, StandsStill, StandsStillAt}
-use Rattle.gs_world_asked.proofs.Asked.{stays_unarmed}
+use Rattle.gs_world_asked.proofs.Behind.{all_spare}
 use Rattle.gs_world_asked.proofs.Parts.{Armed, Asked, Heard, Opened, Part, Rested, Served, Ticked, Told, part_of, with_client}
 use Rattle.gs_world_asked.proofs.Resting.{stays_still}
+use Rattle.gs_world_asked.proofs.Sparing.{asked_spared, goes_spared, lasts_spared}
 use Rattle.gs_world_laws.proofs.Keeping.{run_keeps, step_keeps, step_within}
-use Rattle.gs_world_laws.proofs.Through.{run_through, sound_tells, step_on, tells_once, tells_some}
+use Rattle.gs_world_laws.proofs.Through.{sound_tells, step_on, tells_once, tells_some}
+use Rattle.gs_world_laws.specs.Reached.{unarmed}
 use Rattle.gs_world_laws.specs.Saying.{IsStepWithin, KeepsTypes}
 use Rattle.gs_world_laws.specs.Through.{LastsThrough, TellsAt, TellsOn, Turns, TurnsAt}
 use Rattle.gs_world_looked.proofs.Named.{names_on}
-use Rattle.gs_world_laws.specs.Reached.{IsUnarmed}
 use Rattle.gs_world_looked.specs.Unled.{HasNames, IsHalted, IsUnledAt, StaysHalted, StaysQuiet, StaysUnled}
 
 -- ---- what is heard calls nothing
@@ -90,7 +91,7 @@ module _ {D : Type 0} (seen : D → List ℕ) (failures : D → ℕ) where
     hears_unled message moment (Closed first second) new turn says so u meets = subst IsUnledAt (sym meets.0) tt
     hears_unled message moment Away new turn says so u meets = subst IsUnledAt (sym meets.0) tt
 
-    module _ (armed : DiskId → ℕ → MasterPlace D → MasterPlace D) (leaves : IsUnarmed armed) where
+    module _ (armed : DiskId → ℕ → MasterPlace D → MasterPlace D) where
       -- ---- an event
 
       module _ (old : History D) (f : IsStill d client number old) (u : IsUnledAt old.nodes.master) (moment : Moment) (happening : Happening) (outcome : Upshot) where
@@ -149,60 +150,50 @@ module _ {D : Type 0} (seen : D → List ℕ) (failures : D → ℕ) where
       abbrev TellNames : History D → Type 0
       TellNames h = (e : Durable) → TellsAt seen h.nodes.master e → HasNames d e
 
-      lasting : (disk : DiskId) (call : ℕ) (place : MasterPlace D) → LastsThrough seen place → LastsThrough seen (armed disk call place)
-      lasting disk call place lasts = subst (LastsThrough seen) (sym (leaves disk call place)) lasts
-
-      telling : (e : Durable) (disk : DiskId) (call : ℕ) (place : MasterPlace D) → TellsAt seen place e → TellsAt seen (armed disk call place) e
-      telling e disk call place tells = subst (λ p. TellsAt seen p e) (sym (leaves disk call place)) tells
-
       step_quiet : (step : Step) (old new : History D) → Goes seen failures armed step old new → IsStepWithin step → IsLooking client step → KeepsTypes old → LastsThrough seen old.nodes.master → IsStill d client number old → StaysQuiet seen old → StaysQuiet seen new
       step_quiet step old new goes within looking keeps lasts f quiet = record { master = step_unled step old new goes looking f quiet.master; told = told }
         where
           told : (e : Durable) → TellsAt seen new.nodes.master e → AreUnled e
           told e tells =
               let was = tells_some seen failures old.nodes.master lasts in
-              let on = step_on seen failures armed lasting telling step old new was.0 goes (step_within seen failures armed step old within keeps) lasts was.1 in
+              let on = step_on seen failures unarmed (λ disk call place lasts. lasts) (λ d disk call place told. told) step old new was.0 (goes_spared seen failures armed step old new looking.0 goes) (step_within seen failures armed step old within keeps) lasts was.1 in
               subst AreUnled (tells_once seen failures new.nodes.master on.durable e on.tells tells) (told_on step old was.0 on.durable f lasts quiet was.1 on.on)
-
-      pub lasts_on : (steps : List Step) (old new : History D) → RunsTo seen failures armed steps old new → AllByRecursion IsStepWithin steps → KeepsTypes old → LastsThrough seen old.nodes.master → LastsThrough seen new.nodes.master
-      lasts_on steps old new runs within keeps lasts =
-          run_through seen failures armed (λ disk call place lasts. subst (LastsThrough seen) (sym (leaves disk call place)) lasts) (λ d disk call place told. subst (λ p. TellsAt seen p d) (sym (leaves disk call place)) told) steps old new runs within keeps lasts
 
       pub run_quiet : (steps : List Step) (old new : History D) → RunsTo seen failures armed steps old new → AllByRecursion IsStepWithin steps → AllByRecursion (IsLooking client) steps → KeepsTypes old → LastsThrough seen old.nodes.master → IsStill d client number old → StaysQuiet seen old
           → StaysQuiet seen new
       run_quiet [] old new same within looking keeps lasts f quiet = subst (StaysQuiet seen) (sym same) quiet
       run_quiet (step ∷ steps) old new (mid, goes, rest) within looking keeps lasts f quiet =
-          run_quiet steps mid new rest within.1 looking.1 (step_keeps seen failures armed step old mid goes within.0 keeps) (lasts_on (step ∷ []) old mid (mid, goes, refl) (within.0, tt) keeps lasts)
+          run_quiet steps mid new rest within.1 looking.1 (step_keeps seen failures armed step old mid goes within.0 keeps) (lasts_spared seen failures armed (step ∷ []) old mid (mid, goes, refl) (looking.0.0, tt) (within.0, tt) keeps lasts)
           (stays_still seen failures armed d client number (step ∷ []) old mid (mid, goes, refl) (looking.0, tt) f) (step_quiet step old mid goes within.0 looking.0 keeps lasts f quiet)
 
       -- ---- which names are told
 
-      step_named : (step : Step) (old new : History D) → Goes seen failures armed step old new → IsStepWithin step → KeepsTypes old → LastsThrough seen old.nodes.master → IsStill d client number old → TellNames old → TellNames new
-      step_named step old new goes within keeps lasts f named e tells =
+      step_named : (step : Step) (old new : History D) → Goes seen failures armed step old new → IsStepWithin step → IsLooking client step → KeepsTypes old → LastsThrough seen old.nodes.master → IsStill d client number old → TellNames old → TellNames new
+      step_named step old new goes within looking keeps lasts f named e tells =
           let was = tells_some seen failures old.nodes.master lasts in
           let may = step_within seen failures armed step old within keeps in
-          let on = step_on seen failures armed lasting telling step old new was.0 goes may lasts was.1 in
+          let on = step_on seen failures unarmed (λ disk call place lasts. lasts) (λ d disk call place told. told) step old new was.0 (goes_spared seen failures armed step old new looking.0 goes) may lasts was.1 in
           subst (HasNames d) (tells_once seen failures new.nodes.master on.durable e on.tells tells) (names_on d client number seen failures step old was.0 on.durable f may lasts was.1 (named was.0 was.1) on.on)
 
       pub run_named : (steps : List Step) (old new : History D) → RunsTo seen failures armed steps old new → AllByRecursion IsStepWithin steps → AllByRecursion (IsLooking client) steps → KeepsTypes old → LastsThrough seen old.nodes.master → IsStill d client number old → TellNames old
           → TellNames new
       run_named [] old new same within looking keeps lasts f named = subst TellNames (sym same) named
       run_named (step ∷ steps) old new (mid, goes, rest) within looking keeps lasts f named =
-          run_named steps mid new rest within.1 looking.1 (step_keeps seen failures armed step old mid goes within.0 keeps) (lasts_on (step ∷ []) old mid (mid, goes, refl) (within.0, tt) keeps lasts)
-          (stays_still seen failures armed d client number (step ∷ []) old mid (mid, goes, refl) (looking.0, tt) f) (step_named step old mid goes within.0 keeps lasts f named)
+          run_named steps mid new rest within.1 looking.1 (step_keeps seen failures armed step old mid goes within.0 keeps) (lasts_spared seen failures armed (step ∷ []) old mid (mid, goes, refl) (looking.0.0, tt) (within.0, tt) keeps lasts)
+          (stays_still seen failures armed d client number (step ∷ []) old mid (mid, goes, refl) (looking.0, tt) f) (step_named step old mid goes within.0 looking.0 keeps lasts f named)
 
       pub run_halted : (steps : List Step) (old new : History D) → RunsTo seen failures armed steps old new → AllByRecursion IsStepWithin steps → AllByRecursion (IsLooking client) steps → IsHalted seen d client number old → IsHalted seen d client number new
       run_halted steps old new runs within looking h = record {
         still = stays_still seen failures armed d client number steps old new runs looking h.still;
         quiet = run_quiet steps old new runs within looking h.types h.lasts h.still h.quiet;
         named = run_named steps old new runs within looking h.types h.lasts h.still h.named;
-        asked = stays_unarmed seen failures armed steps old new leaves runs within h.types h.lasts h.asked;
+        asked = asked_spared seen failures armed steps old new runs (all_spare client steps looking) within h.types h.lasts h.asked;
         types = run_keeps seen failures armed steps old new runs within h.types;
-        lasts = lasts_on steps old new runs within h.types h.lasts;
+        lasts = lasts_spared seen failures armed steps old new runs (all_spare client steps looking) within h.types h.lasts;
       }
 
 pub stays_unled : {D : Type 0} (seen : D → List ℕ) (failures : D → ℕ) (armed : DiskId → ℕ → MasterPlace D → MasterPlace D) → StaysUnled seen failures armed
-stays_unled seen failures armed leaves d client number steps old new runs within looking keeps lasts f quiet = run_quiet seen failures d client number armed leaves steps old new runs within looking keeps lasts f quiet
+stays_unled seen failures armed d client number steps old new runs within looking keeps lasts f quiet = run_quiet seen failures d client number armed steps old new runs within looking keeps lasts f quiet
 
 pub stays_halted : {D : Type 0} (seen : D → List ℕ) (failures : D → ℕ) (armed : DiskId → ℕ → MasterPlace D → MasterPlace D) → StaysHalted seen failures armed
-stays_halted seen failures armed leaves d client number steps old new runs within looking h = run_halted seen failures d client number armed leaves steps old new runs within looking h
+stays_halted seen failures armed d client number steps old new runs within looking h = run_halted seen failures d client number armed steps old new runs within looking h

@@ -23,7 +23,6 @@ use Rattle.gs_world_asked.specs.Answered.{AnswersNow, GoesBy, Passes, WasAnswere
 use Rattle.gs_world_asked.specs.Behind.{HasAnswer, StandsOn}
 use Rattle.gs_world_asked.specs.Resting.{IsStill}
 use Rattle.gs_world_laws.specs.Through.{LastsThrough}
-use Rattle.gs_world_laws.specs.Reached.{IsUnarmed}
 use Rattle.gs_world_looked.specs.Unled.{IsHalted, StaysQuiet}
 
 -- the master stands on these names, in this epoch, in whose phase no rollback is begun
@@ -78,7 +77,7 @@ module _ {D : Type 0} (seen : D → List ℕ) (failures : D → ℕ) (armed : Di
 
   -- So it is of each such answer that a client gets in a store in which it has halted.
   abbrev pub AnswersAreByNames : Type 0
-  AnswersAreByNames = IsUnarmed armed → (d : Durable) (client : ClientId) (number : ℕ) (start new : History D) (call : Call) (answer : Answer) → is_file_look call ≡ true → IsHalted seen d client number start → (l : HasAnswer seen failures armed client start call answer new) →
+  AnswersAreByNames = (d : Durable) (client : ClientId) (number : ℕ) (start new : History D) (call : Call) (answer : Answer) → is_file_look call ≡ true → IsHalted seen d client number start → (l : HasAnswer seen failures armed client start call answer new) →
       LooksHalted d client number start call answer new l
 
 -- ---- examples

@@ -1,5 +1,5 @@
 -- That no chunk of a file has a primary while a client only looks.
-use Rattle.std.specs.Prelude.{◌≡◌, List, Result, refl, true, ℕ}
+use Rattle.std.specs.Prelude.{◌≡◌, List, Result, true, ℕ}
 use Rattle.std.specs.List.{AllByRecursion}
 use Rattle.gs_base.specs.declared.numbers.ClientId.{ClientId}
 use Rattle.gs_base.specs.declared.numbers.ReqId.{ReqId}
@@ -18,7 +18,6 @@ use Rattle.gs_world_asked.specs.Answered.{AnswersNow, GoesBy, Passes, WasAnswere
 use Rattle.gs_world_asked.specs.Asked.{AreAsked}
 use Rattle.gs_world_asked.specs.Behind.{HasAnswer, IsOnly, StandsOn, is_halt}
 use Rattle.gs_world_asked.specs.Resting.{IsLooking, IsStill}
-use Rattle.gs_world_laws.specs.Reached.{IsUnarmed}
 use Rattle.gs_world_laws.specs.Saying.{IsStepWithin, KeepsTypes}
 use Rattle.gs_world_laws.specs.Through.{LastsThrough, TellsAt}
 
@@ -50,19 +49,19 @@ module _ {D : Type 0} (seen : D → List ℕ) where
 module _ {D : Type 0} (seen : D → List ℕ) (failures : D → ℕ) (armed : DiskId → ℕ → MasterPlace D → MasterPlace D) where
   -- ---- what is to hold
 
-  -- No chunk of a file gets a primary as long as the client only looks, whatever disks of the master fail by themselves.
+  -- No chunk of a file gets a primary as long as the client only looks, whatever disks of the master fail, by themselves or as it was arranged before.
   abbrev pub StaysUnled : Type 0
-  StaysUnled = IsUnarmed armed → (d : Durable) (client : ClientId) (number : ℕ) (steps : List Step) (old new : History D) → RunsTo seen failures armed steps old new → AllByRecursion IsStepWithin steps → AllByRecursion (IsLooking client) steps → KeepsTypes old →
+  StaysUnled = (d : Durable) (client : ClientId) (number : ℕ) (steps : List Step) (old new : History D) → RunsTo seen failures armed steps old new → AllByRecursion IsStepWithin steps → AllByRecursion (IsLooking client) steps → KeepsTypes old →
       LastsThrough seen old.nodes.master → IsStill d client number old → StaysQuiet seen old → StaysQuiet seen new
 
   -- So a store stays halted.
   abbrev pub StaysHalted : Type 0
-  StaysHalted = IsUnarmed armed → (d : Durable) (client : ClientId) (number : ℕ) (steps : List Step) (old new : History D) → RunsTo seen failures armed steps old new → AllByRecursion IsStepWithin steps → AllByRecursion (IsLooking client) steps →
+  StaysHalted = (d : Durable) (client : ClientId) (number : ℕ) (steps : List Step) (old new : History D) → RunsTo seen failures armed steps old new → AllByRecursion IsStepWithin steps → AllByRecursion (IsLooking client) steps →
       IsHalted seen d client number old → IsHalted seen d client number new
 
   -- Behind the event at which the commit of a prepare, or of a rollback, is answered no chunk of a file has a primary.
   abbrev pub CommitsLeaveUnled : Type 0
-  CommitsLeaveUnled = IsUnarmed armed → (now next : History D) (event : Event) (said : Result (Unit {0}) Refusal) (h : Happens seen failures armed event now said next) (req : ReqId) (call : Call) (answer : Answer) → is_halt call ≡ true → IsStepWithin (Comes event) →
+  CommitsLeaveUnled = (now next : History D) (event : Event) (said : Result (Unit {0}) Refusal) (h : Happens seen failures armed event now said next) (req : ReqId) (call : Call) (answer : Answer) → is_halt call ≡ true → IsStepWithin (Comes event) →
       KeepsTypes now → LastsThrough seen now.nodes.master → AnswersNow now event h.outcome req call answer → StaysQuiet seen next
 
   -- Its commit was answered at an event between worlds of this run, behind which a master stood on this; right behind it, and where it has the answer, the store is halted on this.
@@ -76,13 +75,10 @@ module _ {D : Type 0} (seen : D → List ℕ) (failures : D → ℕ) (armed : Di
 
   -- So it is where it is the only client, and asks nothing else but look-ups meanwhile.
   abbrev pub CommitsHalt : Type 0
-  CommitsHalt = IsUnarmed armed → (client : ClientId) (old mid : History D) (call : Call) (answer : Answer) → AreAsked seen old → KeepsTypes old → LastsThrough seen old.nodes.master → is_halt call ≡ true → (c : HasAnswer seen failures armed client old call answer mid) →
+  CommitsHalt = (client : ClientId) (old mid : History D) (call : Call) (answer : Answer) → AreAsked seen old → KeepsTypes old → LastsThrough seen old.nodes.master → is_halt call ≡ true → (c : HasAnswer seen failures armed client old call answer mid) →
       IsOnly client mid → HaltsBy client old call answer mid c
 
 -- ---- examples
-
-no_failure_is_arranged : {D : Type 0} → IsUnarmed (λ (disk : DiskId) (call : ℕ) (place : MasterPlace D). place)
-no_failure_is_arranged disk call place = refl
 
 a_master_that_is_away_has_begun_nothing : (D : Type 0) → IsUnledAt {D = D} Away
 a_master_that_is_away_has_begun_nothing D = tt

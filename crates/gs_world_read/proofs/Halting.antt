@@ -26,7 +26,7 @@ module _ {D : Type 0} (seen : D → List ℕ) (failures : D → ℕ) (stays : St
   module _ (d : Durable) (client : ClientId) (number : ℕ) where
     -- a step
     step_halted : (step : Step) (old new : History D) (a b : Account) → Moves y step old a new b → IsLooking client step → IsHalted seen d client number old → IsHalted seen d client number new
-    step_halted step old new a b moves looking h = stays (λ disk call place. refl) d client number (step ∷ []) old new (new, moves.steps.goes, refl) (moves.steps.within, tt) (looking, tt) h
+    step_halted step old new a b moves looking h = stays d client number (step ∷ []) old new (new, moves.steps.goes, refl) (moves.steps.within, tt) (looking, tt) h
 
     -- what is told there
     pub told_epoch : (h : History D) (a : Account) → IsToldAt seen h.nodes.master a.durable → IsHalted seen d client number h → a.durable.epoch ≡ d.epoch

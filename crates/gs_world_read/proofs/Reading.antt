@@ -281,7 +281,7 @@ module _ {D : Type 0} (seen : D → List ℕ) (failures : D → ℕ) (stays : St
         its_ask = Comes (asks_at r.moment r.req (requests.Call (calls.FindForReading path index)))
 
         l : LooksHalted seen failures unarmed d client number h (calls.FindForReading path index) answer mid (as_answer (calls.FindForReading path index) answer mid r)
-        l = looked (λ disk call place. refl) d client number h mid (calls.FindForReading path index) answer refl now.halted (as_answer (calls.FindForReading path index) answer mid r)
+        l = looked d client number h mid (calls.FindForReading path index) answer refl now.halted (as_answer (calls.FindForReading path index) answer mid r)
 
         abbrev p : IsPlaceOf d l.made.now.nodes.master path index answer
         p = l.looks
@@ -489,7 +489,7 @@ module _ {D : Type 0} (seen : D → List ℕ) (failures : D → ℕ) (stays : St
           → WentAmong seen failures among client h request reply mid went → LooksAmong seen failures among client mid next looks → Behind before (request, reply) next
       by_pair (requests.Call (calls.Status p)) (replies.Answer answer) mid next went looks may all all_then =
           replied (requests.Call (calls.Status p)) (replies.Answer answer) mid went (refl, (went.own, refl)) next looks all all_then (λ l e k same. never_status p (replies.Answer answer) l same) (λ same.
-          let l = looked (λ disk call place. refl) d client number h mid (calls.Status p) answer refl now.halted (as_answer (calls.Status p) answer mid went) in
+          let l = looked d client number h mid (calls.Status p) answer refl now.halted (as_answer (calls.Status p) answer mid went) in
           status_tells answer l.made.now.nodes.master (subst (λ q. IsStatusOf d l.made.now.nodes.master q answer) may l.looks))
       by_pair (requests.Call (calls.FindForReading p index)) (replies.Answer answer) mid next went looks may all all_then = at_path p (sym may) went all
         where

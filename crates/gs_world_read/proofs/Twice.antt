@@ -210,13 +210,13 @@ module _ (sizes : HaveSizes) (law : AreNumbered) {D : Type 0} (rises : (x : Setu
     t = new_call b.made.answers.master.config b.made.answers.master.state c.req b.made.event.moment call
 
     its : MadeThere seen failures unarmed b.made.now b.made.event.moment b.made.answers.master c.req call (answers.Epoch number) b.made.next.nodes
-    its = there seen failures unarmed (λ disk place where_it. refl) b.made.now b.made.next b.made.event b.made.said b.made.happens c.req call (answers.Epoch number) halt within_back.0 good_now.well.types good_now.well.steady b.made.answers
+    its = there seen failures unarmed b.made.now b.made.next b.made.event b.made.said b.made.happens c.req call (answers.Epoch number) halt within_back.0 good_now.well.types good_now.well.steady b.made.answers
 
     its_commits : Commits b.made.answers.master.state c.req call t
-    its_commits = commits seen failures unarmed (λ disk place where_it. refl) b.made.now b.made.next b.made.event b.made.said b.made.happens c.req call (answers.Epoch number) halt within_back.0 good_now.well.types good_now.well.steady b.made.answers
+    its_commits = commits seen failures unarmed b.made.now b.made.next b.made.event b.made.said b.made.happens c.req call (answers.Epoch number) halt within_back.0 good_now.well.types good_now.well.steady b.made.answers
 
     its_fits : replayed b.made.answers.master.state.durable t.records ≡ Some t.after.durable
-    its_fits = fits seen failures unarmed (λ disk place where_it. refl) b.made.now b.made.next b.made.event b.made.said b.made.happens c.req call (answers.Epoch number) halt within_back.0 good_now.well.types good_now.well.steady b.made.answers
+    its_fits = fits seen failures unarmed b.made.now b.made.next b.made.event b.made.said b.made.happens c.req call (answers.Epoch number) halt within_back.0 good_now.well.types good_now.well.steady b.made.answers
 
     told_now : IsToldAt seen b.made.now.nodes.master b.made.answers.master.state.durable
     told_now = told_stands seen failures b.made.now.nodes.master b.made.answers.master.state.durable (record { master = b.made.answers.master; stands = b.made.answers.stands; sound = its_commits.sound; keeps = refl })
@@ -233,7 +233,7 @@ module _ (sizes : HaveSizes) (law : AreNumbered) {D : Type 0} (rises : (x : Setu
   -- ---- the two of them
 
   one : HaltsBy seen failures unarmed client r.old calls.PrepareCommit (answers.Epoch epoch) r.prepared r.prepares
-  one = commits_halt seen failures unarmed (λ disk call place. refl) client r.old r.prepared calls.PrepareCommit (answers.Epoch epoch) old.are old.well.types old.well.steady refl r.prepares r.only
+  one = commits_halt seen failures unarmed client r.old r.prepared calls.PrepareCommit (answers.Epoch epoch) old.are old.well.types old.well.steady refl r.prepares r.only
 
   runs_end : RunsTo seen failures unarmed S4 r.start r.end
   runs_end = runs_in seen failures client r.reads.pairs r.start r.end r.reads.exchanged
@@ -254,7 +254,7 @@ module _ (sizes : HaveSizes) (law : AreNumbered) {D : Type 0} (rises : (x : Setu
   later = good_on S5 r.end r.later r.passes r.within_between bare_later end
 
   two : HaltsBy seen failures unarmed client r.later calls.RollbackCommit (answers.Epoch (epoch + 1)) r.back r.commits
-  two = commits_halt seen failures unarmed (λ disk call place. refl) client r.later r.back calls.RollbackCommit (answers.Epoch (epoch + 1)) later.are later.well.types later.well.steady refl r.commits r.only_then
+  two = commits_halt seen failures unarmed client r.later r.back calls.RollbackCommit (answers.Epoch (epoch + 1)) later.are later.well.types later.well.steady refl r.commits r.only_then
 
   abbrev d1 : Durable
   d1 = one.durable
