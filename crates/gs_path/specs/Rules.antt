@@ -11,9 +11,13 @@ abbrev pub elements_of : List ℕ → Path
 elements_of [] = []
 elements_of (c ∷ rest) = slice_split (λ b. b == 47) (c ∷ rest)
 
+-- a path has at most so many elements
+abbrev pub is_within_depth : Path → Bool
+is_within_depth p = nat_le (length p) 64
+
 -- these elements, if there are at most 64 and each passes
 abbrev pub judged : (Name → Bool) → Path → Result Path Refusal
-judged passes p = if nat_le (length p) 64 && list_all passes p then Ok p else Err BadPath
+judged passes p = if is_within_depth p && list_all passes p then Ok p else Err BadPath
 
 -- the path of a text that begins with a slash
 abbrev pub read_by : (Name → Bool) → List ℕ → Result Path Refusal
