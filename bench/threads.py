@@ -1,23 +1,62 @@
 #!/usr/bin/env python3
-"""Measures callers of a store whose nodes run in threads beside the same writes on one thread, by turns in one run.
+"""A store whose nodes run in threads: how fast it is, at size, with growths refused, and many times over.
 
-    bench/threads.py [--times N] [--repeats R] [--program PATH]
+    bench/threads.py speed [--times N] [--repeats R]
+    bench/threads.py size [--writes N] [--callers N]
+    bench/threads.py growths [--runs N] [--limit SECONDS] [--seed N]
+    bench/threads.py soak [--runs N] [--limit SECONDS] [--seed N]
 
-Without a program it builds gs_callers as it stands, unproved. For writes of 64 KB and for appends of 100 bytes, with one, two and four callers,
-it prints what the callers make in a second, how many times that is what one thread makes of as many writes, how many processors were busy in
-threads, and the peak of memory beside that of one thread. It ends with status 1 where a write isn't accepted."""
+Without programs each builds what it runs as it stands, unproved: `--program PATH` names a built chunkstore, `--callers-program PATH` a
+built gs_callers. Each ends with status 1 where something is wrong.
+
+speed    For writes of 64 KB and for appends of 100 bytes, with one, two and four callers: what the callers make in a second, how many times
+         that is what one thread makes of as many writes, how many processors were busy, and the peak of memory beside that of one thread,
+         by turns in one run. Wrong is a write that isn't accepted.
+size     Four callers write 50 bytes each, one by one, and in another run a hundred times as many. The nodes keep notes, and both runs end by
+         `finish_whole`. It prints the seconds by the clock, the peak of memory, the events and the messages, and how many times as much of
+         each the second run takes. Wrong is a run that ends badly, or a write that isn't accepted. No time is judged.
+growths  A script of names, writes and an upgrade that is rolled back runs on `chunkstore --threads`. In each run one call of malloc or
+         realloc fails, at places that are spread over all that a run makes. Which call that is differs from run to run, since threads take
+         turns as they like. A run has to end within its limit: with status 0 and an answer to each line; with status 1 where the store
+         couldn't be begun or ended; or with 2 where the words couldn't be read. The first answer that differs from those on one thread has
+         to be a refusal. The last line is 'N passed, M failed'.
+soak     Many runs, on one processor and on all, with `nice` and without: by turns such a script, whose answers have to be those of one
+         thread, and four callers that write 50 blocks each at once, all of which have to be accepted. Wrong is a run that differs, ends
+         badly or isn't over by its limit. The last line is 'N passed, M failed'."""
 
 import argparse
 import os
+import random
+import re
 import statistics
 import subprocess
 import sys
+import tempfile
 import time
 
 import beside
+import growths
 
 KINDS = [("write", "writes of 64 KB"), ("append", "appends of 100 bytes")]
 CALLERS = [1, 2, 4]
+SIZES = ["--servers", "3", "--racks", "2", "--block", "4", "--chunk", "16"]
+# How a run's processes are disturbed: on one processor, on all, and each of them put after all else.
+DISTURBED = [[], ["nice", "-n", "19"], ["taskset", "-c", "0"], ["taskset", "-c", "0", "nice", "-n", "19"]]
+WRITES, CALLERS = 50, 4
+FEW = 50
+PARTS = [("seconds", "{:.2f}"), ("busy", "{:.2f}"), ("peak", "{:,}"), ("events", "{:,}"), ("sent", "{:,}")]
+
+
+def program_of(asked, name):
+    """The program that is named, or one that is built."""
+    given = asked.program if name == "chunkstore" else asked.callers_program
+    if given:
+        return given
+    beside.placed(name, ("src",))
+    return beside.native(name)
+
+
+# ---- speed
 
 
 class Ran:
@@ -61,21 +100,187 @@ def row(program, kind, callers, asked):
     return all(run.accepted == many for run in alone + threads)
 
 
-def main():
-    parser = argparse.ArgumentParser(description="Measures callers of a store in threads beside one thread.")
-    parser.add_argument("--times", type=int, default=4_000)
-    parser.add_argument("--repeats", type=int, default=3)
-    parser.add_argument("--program")
-    asked = parser.parse_args()
-    if not asked.program:
-        beside.placed("gs_callers", ("src",))
-    program = asked.program or beside.native("gs_callers")
+def speed(asked):
+    program = program_of(asked, "gs_callers")
     well = True
     for kind, name in KINDS:
         print(f"{name}, {asked.times} in all:", flush=True)
         for callers in CALLERS:
             well = row(program, kind, callers, asked) and well
-    return 0 if well else 1
+    return well
+
+
+# ---- size
+
+
+class Whole(Ran):
+    """A run that tells how many writes were accepted, how many events there were, and how many messages."""
+
+    def tell(self, told):
+        self.accepted, self.events, self.sent = map(int, told.split())
+
+
+def size(asked):
+    program = program_of(asked, "gs_callers")
+    few, many = (Whole([program, "whole", "byte", str(asked.callers), str(writes)]) for writes in (FEW, asked.writes))
+    print(f"{asked.callers} callers, {FEW} and {asked.writes:,} writes each ({asked.writes / FEW:.0f} times):", flush=True)
+    for part, form in PARTS:
+        one, other = getattr(few, part), getattr(many, part)
+        print(f"{part:>8}: {form.format(one):>14} {form.format(other):>16} {other / one:8.1f} times", flush=True)
+    return (few.accepted, many.accepted) == (asked.callers * FEW, asked.callers * asked.writes)
+
+
+# ---- scripts, many times over
+
+
+def one_line(chance):
+    """A line of names or bytes over a few paths."""
+    path = f"/{chance.choice('abc')}/{chance.choice('fg')}"
+    kind = chance.randrange(8)
+    return [
+        f"mkdir /{chance.choice('abc')}",
+        f"create {path}",
+        f"write {path} {chance.randrange(24)} {chance.randrange(256):02x}{chance.randrange(256):02x}",
+        f"append {path} {chance.randrange(256):02x}",
+        f"read {path} 0 64",
+        f"mv {path} /{chance.choice('abc')}",
+        f"rm {path}",
+        f"snapshot {path} /{chance.choice('abc')}/{chance.choice('hi')}",
+    ][kind]
+
+
+def script_of(chance):
+    """Lines before a prepare, after it, and after its rollback."""
+    lines = [one_line(chance) for _ in range(30)] + ["rollingUpgrade prepare"]
+    lines += [one_line(chance) for _ in range(20)] + ["rollingUpgrade rollback", "ls /", "ls /a", "ls /b", "ls /c"]
+    return "".join(f"{line}\n" for line in lines).encode()
+
+
+def ended(words, limit, data=b""):
+    """What a run writes, or why it is none."""
+    try:
+        done = subprocess.run(words, input=data, stdout=subprocess.PIPE, stderr=subprocess.PIPE, timeout=limit)
+    except subprocess.TimeoutExpired:
+        return None, f"not at its end within {limit} seconds"
+    return (done.stdout, None) if done.returncode == 0 else (None, f"status {done.returncode}: {done.stderr[-200:]!r}")
+
+
+def script_run(program, before, seed, limit):
+    data = script_of(random.Random(seed))
+    wanted, why = ended([program, *SIZES], limit, data)
+    if why:
+        return f"on one thread: {why}"
+    told, why = ended([*before, program, *SIZES, "--threads"], limit, data)
+    if why or told == wanted:
+        return why
+    lines = zip(data.splitlines(), wanted.splitlines(), told.splitlines())
+    return next((f"{line!r}: {got!r}, not {right!r}" for line, right, got in lines if right != got), "answers are missing")
+
+
+def callers_run(program, before, limit):
+    told, why = ended([*before, program, "threads", "write", str(CALLERS), str(WRITES)], limit)
+    if why:
+        return why
+    return None if told.split() == [str(CALLERS * WRITES).encode()] else f"accepted {told!r} of {CALLERS * WRITES}"
+
+
+def soak(asked):
+    program, callers = program_of(asked, "chunkstore"), program_of(asked, "gs_callers")
+    failed, begun = 0, time.monotonic()
+    for number in range(asked.runs):
+        before = DISTURBED[number // 2 % len(DISTURBED)]
+        is_script = number % 2 == 0
+        why = script_run(program, before, asked.seed + number, asked.limit) if is_script else callers_run(callers, before, asked.limit)
+        if why:
+            failed += 1
+            print(f"run {number} ({'script' if is_script else 'callers'}, {' '.join(before) or 'as it is'}): {why}", flush=True)
+    print(f"{asked.runs - failed} passed, {failed} failed, in {time.monotonic() - begun:.0f} seconds", flush=True)
+    return not failed
+
+
+# ---- growths that are refused
+
+
+class Run:
+    """How a run ended, its answers, how many growths it made, and its seconds."""
+
+    def __init__(self, program, library, refused, data, limit):
+        settings = {"LD_PRELOAD": library, "REFUSED": str(refused)}
+        begun = time.monotonic()
+        self.status, self.answers, said = None, [], ""
+        try:
+            done = subprocess.run([program, *SIZES, "--threads"], input=data, env={**os.environ, **settings}, capture_output=True, timeout=limit)
+            self.status, self.answers, said = done.returncode, done.stdout.decode().splitlines(), done.stderr.decode()
+        except subprocess.TimeoutExpired:
+            pass
+        self.seconds = time.monotonic() - begun
+        counted = re.search(r"^growths (\d+)$", said, re.MULTILINE)
+        self.growths = int(counted[1]) if counted else 0
+        self.was_reached = "not reached" not in said
+        self.said = said
+
+
+def wrong_with(run, wanted):
+    """What is wrong with a run, if anything."""
+    if run.status is None:
+        return "not at its end within its limit"
+    if run.status not in (0, 1, 2):
+        return f"status {run.status}: {run.said[-200:]!r}"
+    if run.status == 0 and len(run.answers) != len(wanted):
+        return f"{len(run.answers)} answers to {len(wanted)} lines"
+    other = next((answer for answer, right in zip(run.answers, wanted) if answer != right), None)
+    return None if other is None or other.startswith("refused") else f"{other!r} is the first other answer"
+
+
+def refused_growths(asked):
+    program = program_of(asked, "chunkstore")
+    data = script_of(random.Random(asked.seed))
+    wanted = subprocess.run([program, *SIZES], input=data, capture_output=True, check=True).stdout.decode().splitlines()
+    failed, seen, slowest, reached = 0, {}, 0.0, 0
+    with tempfile.TemporaryDirectory() as folder:
+        library = growths.library(folder)
+        whole = Run(program, library, 0, data, asked.limit)
+        if whole.status != 0 or whole.answers != wanted or not whole.growths:
+            sys.exit(f"without a refusal: status {whole.status}, {whole.growths} growths")
+        print(f"{whole.growths} growths of {len(wanted)} lines, in {whole.seconds:.1f} seconds", flush=True)
+        for number in range(asked.runs):
+            refused = 1 + number * whole.growths // asked.runs
+            run = Run(program, library, refused, data, asked.limit)
+            why = wrong_with(run, wanted)
+            slowest, reached = max(slowest, run.seconds), reached + run.was_reached
+            other = next((answer for answer, right in zip(run.answers, wanted) if answer != right), "as ever")
+            word = f"status {run.status}" if run.status else " ".join(other.split()[:3])
+            seen[word] = seen.get(word, 0) + 1
+            if why:
+                failed += 1
+                print(f"growth {refused}: {why}", flush=True)
+    for word, many in sorted(seen.items()):
+        print(f"{many:5} {word}")
+    print(f"{reached} reached the growth; the slowest took {slowest:.1f} seconds", flush=True)
+    print(f"{asked.runs - failed} passed, {failed} failed", flush=True)
+    return not failed
+
+
+# Each part, with the runs that it makes where none is said.
+ASKED = {"speed": (speed, None), "size": (size, None), "growths": (refused_growths, 100), "soak": (soak, 1_000)}
+
+
+def main():
+    parser = argparse.ArgumentParser(description=__doc__, formatter_class=argparse.RawDescriptionHelpFormatter)
+    parser.add_argument("part", choices=ASKED)
+    parser.add_argument("--times", type=int, default=4_000)
+    parser.add_argument("--repeats", type=int, default=3)
+    parser.add_argument("--writes", type=int, default=100 * FEW)
+    parser.add_argument("--callers", type=int, default=4)
+    parser.add_argument("--runs", type=int)
+    parser.add_argument("--limit", type=float, default=120)
+    parser.add_argument("--seed", type=int, default=1)
+    parser.add_argument("--program")
+    parser.add_argument("--callers-program")
+    asked = parser.parse_args()
+    call, runs = ASKED[asked.part]
+    asked.runs = asked.runs or runs
+    return 0 if call(asked) else 1
 
 
 if __name__ == "__main__":
