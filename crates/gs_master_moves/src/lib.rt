@@ -5,6 +5,7 @@ ghost use Rattle.gs_base.specs.declared.config.Config.{Config};
 ghost use Rattle.gs_master_moves.specs.Asked.{EachMoveAsksSo, SettlesByAnswers, StartsAskedSo, StaysAskedSo};
 ghost use Rattle.gs_master_moves.specs.Called.{LocatedWereCalled, WaitingWereHeard};
 ghost use Rattle.gs_master_moves.specs.Epochs.{EpochsGo, EventsEndOnce, OnceStands, TicksEndOnce, WithinStays};
+ghost use Rattle.gs_master_moves.specs.ForCalls.{EventsAreFor, EventsStandFor, TicksAreFor};
 ghost use Rattle.gs_master_moves.specs.Guards.{Heard, IsMade};
 ghost use Rattle.gs_master_moves.specs.Laws.{ChainsStand, CutsAreBeginnings, CutsStand, EventsAreChains, EventsStand, TicksAreChains};
 ghost use Rattle.gs_master_moves.specs.Locations.{KeptWereLocated, LocatedAreRight, SentWereLocated};
@@ -31,6 +32,13 @@ pub fn an_event_ends_one_epoch_at_most()
     ensures within { WithinStays }
     ensures ticks { TicksEndOnce }
     ensures epochs { EpochsGo }
+{}
+
+/// Each move of an event is made for a call: for the one that is heard in the event, which is new, or for one that has waited for just this. What ends an epoch, scans, or begins or gives up a prepare, is that very call.
+pub fn each_move_is_made_for_a_call()
+    ensures events { EventsAreFor }
+    ensures ticks { TicksAreFor }
+    ensures stand { EventsStandFor }
 {}
 
 /// So is what a tick does before it writes a checkpoint that is due: where memory is wanting for that one, the tick is done without it.
