@@ -3,8 +3,9 @@
 
 ghost use Rattle.gs_chunk_kept.specs.Kept.{MembersAreThere};
 
-/// In each world of each run of a chunk's machine in which the master knows the chunk and no rollback goes on, each member of the settled view has a live replica, unless it has lost it since it promised what it promises. So no
-/// message that was ever sent makes a member drop it, however late, and none goes at a rollback that a member learns late.
+/// This holds in each world of each run of a chunk's machine, where the master knows the chunk and no rollback goes on.
+/// Each member of the settled view has a live replica, unless it was lost there after the member had promised what it promises.
+/// So no message that was ever sent makes a member drop its replica, however late it comes. Nor does one go at a rollback that a member learns of late.
 pub fn members_keep_their_replicas()
     ensures { MembersAreThere }
 {}

@@ -1,4 +1,4 @@
--- What stands at the path of a file through a scan, and behind a chunk that is added.
+-- What stands at the path of a file through a scan, and after a chunk is added.
 use Rattle.std.proofs.Common.{◌≡◌, ◌∙◌, ◌||◌, ◌++◌, ℕ, Bool, true, false, not, cond, List, [], ◌∷◌, map, length, refl, ap, sym}
 use Rattle.std.specs.Prelude.{is_none, slice_get, Some, None, Result, Ok}
 use Rattle.std.specs.FinMap as fin
@@ -31,7 +31,7 @@ use Rattle.gs_master_spec.specs.Working.{scan_edits}
 use Rattle.gs_master_moves.proofs.Listed.{over_records}
 use Rattle.gs_master_moves.specs.ForCalls.{HasChunks, StandsAt}
 
--- ---- a chunk that is added stands behind the others
+-- ---- a chunk that is added stands after the others
 
 last_get : (xs : List ℕ) (c : ℕ) → slice_get (xs ++ c ∷ []) (length xs) ≡ Some c
 last_get [] c = refl

@@ -365,7 +365,7 @@ module _ (all : List (ReqId × Call)) (config : Config) (heard : Heard) (hears :
     all_first : AllByRecursion (IsRecordedFor all config heard s t) (move_turn config s move).records
     all_first = all_weaker (EntryBy move) (IsRecordedFor all config heard s t) first_for (move_turn config s move).records (move_entries config heard s move well.0.made)
 
-  -- behind it calls end, which is recorded as refusals
+  -- after it calls end, which is recorded as refusals
 
   closing_entry : (s : State) (t : Turn) (m : Move) → closes m ≡ true → (entry : PlainEntry) → EntryBy m entry → IsRecordedFor all config heard s t entry
   closing_entry s t m ends (Edited by (AddChunk path chunk)) is = absurd (false≢true (ap closes (sym is.1) ∙ ends))

@@ -1,4 +1,4 @@
--- What the calls are answered by which an epoch ends or a rollback is done, and what a scan removes: of each call, whatever the master has met before.
+-- What a call is answered by which an epoch ends or a rollback is done, and what a scan removes. It is said of each call, whatever the master has met before.
 use Rattle.std.specs.Prelude.{[], ◌∷◌, ◌≡◌, ◌⊎◌, Bool, Err, List, None, Ok, Option, Result, Some, codes, false, filter, length, map, refl, true, ℕ}
 use Rattle.std.specs.FinMap as fin
 use Rattle.std.specs.List.{AllByRecursion}
@@ -25,13 +25,14 @@ use Rattle.gs_master_spec.specs.State.{Log, State, Turn, reply_to}
 use Rattle.gs_master_spec.specs.Volatile.{is_pending}
 use Rattle.gs_master_spec.specs.Working.{forgotten_chunks, removed_paths, scan_edits}
 
+-- an entry is one of some
 abbrev pub IsAmong : PlainEntry → List PlainEntry → Type 0
 IsAmong entry [] = ⊥
 IsAmong entry (x ∷ xs) = (x ≡ entry) ⊎ IsAmong entry xs
 
 -- ---- the end of an epoch
 
--- the epoch that is told by the record which is this call's own
+-- the epoch that a record tells, if it is this call's own record
 abbrev pub epoch_told : Call → PlainEntry → Option ℕ
 epoch_told calls.PrepareCommit (Prepare epoch moment chunks) = Some epoch
 epoch_told calls.Finalize (Finalize epoch) = Some epoch
@@ -39,35 +40,37 @@ epoch_told calls.RollbackBegin (RollbackBegin epoch) = Some epoch
 epoch_told calls.RollbackCommit (RollbackCommit epoch answers) = Some epoch
 epoch_told call entry = None
 
--- a reply to this request says this
+-- a message that is a reply to this request says this
 abbrev pub SaysOnly : ReqId → Result Answer Refusal → Body → Type 0
 SaysOnly req result (bodies.Reply to said) = to ≡ req → said ≡ result
 SaysOnly req result body = Unit {0}
 
--- It is answered this, and nothing else.
+-- The request is answered this, and nothing else.
 pub record IsAnsweredOnly (req : ReqId) (result : Result Answer Refusal) (messages : List Message) : Type 0 where
   pub says : OneSays req result messages
   pub only : AllByRecursion (λ (m : Message). SaysOnly req result m.body) messages
 
--- Where such a call, which doesn't wait, leaves its record, it is answered the epoch that the record tells, and nothing else. So where it is refused it has left none.
+-- Such a call, which doesn't wait, may leave its record. Then it is answered the epoch that the record tells, and nothing else. So a call that is refused has left none.
 abbrev pub EndsAreAnswered : Type 0
 EndsAreAnswered = (config : Config) (s : State) (req : ReqId) (moment : Moment) (call : Call) (entry : PlainEntry) (epoch : ℕ) → is_pending s.volatile.pending req ≡ false → let t = call_turn config s req moment call in
     IsAmong entry t.records → epoch_told call entry ≡ Some epoch → IsAnsweredOnly req (Ok (answers.Epoch epoch)) t.sent
 
 -- ---- a scan
 
+-- a record of what a scan removes or forgets
 abbrev pub is_of_scan : PlainEntry → Bool
 is_of_scan (Edited by (Remove path)) = true
 is_of_scan (Edited by (Forget chunks)) = true
 is_of_scan entry = false
 
+-- what is over at this moment, and what has no reference after that is removed
 abbrev pub removed_at : State → Moment → List Path
 removed_at s moment = removed_paths moment.0 (fin.entries s.durable.names.tree)
 
 abbrev pub forgotten_at : State → Moment → List ℕ
 forgotten_at s moment = forgotten_chunks moment.0 (fin.entries s.durable.names.tree) (fin.entries s.durable.names.refs)
 
--- What it removes is just what is over at the moment, and what it forgets is just what is left without a reference then; and it answers how many these are.
+-- A scan removes just what is over at the moment, and forgets just what is left without a reference then. It answers how many these are.
 pub record ScansSo (s : State) (req : ReqId) (moment : Moment) (t : Turn) : Type 0 where
   pub removes : filter is_of_scan t.records ≡ map (Edited own_request) (scan_edits (removed_at s moment) (forgotten_at s moment))
   pub says : OneSays req (Ok (answers.Scanned (length (removed_at s moment)) (length (forgotten_at s moment)))) t.sent
@@ -93,7 +96,7 @@ a_request = record { client = record { 0 = 1 }; number = 7 }
 abbrev a_log : Log
 a_log = record { records = 0; size = 20; limit = 1000; generation = 1 }
 
--- a store in which an upgrade stands, of which nothing else is kept
+-- a store in which an upgrade stands, and which keeps nothing else
 abbrev upgraded : State
 upgraded = record (fresh a_log) { durable = record start { phase = Upgrade; epoch = 1 } }
 

@@ -1,4 +1,4 @@
--- For which call a record is written: what puts a chunk into a file, scans, or ends an epoch.
+-- For which call a record is written: an edit of the tree, a chunk that is put into a file, a scan, the end of an epoch.
 use Rattle.std.specs.Prelude.{◌≡◌, List, Ok, refl, ℕ}
 use Rattle.std.specs.List.{AllByRecursion}
 use Rattle.gs_base.specs.declared.config.Config.{Config}
@@ -19,7 +19,7 @@ use Rattle.gs_master_spec.specs.Settling.{own_request}
 use Rattle.gs_master_spec.specs.State.{State, Turn, reply_to}
 use Rattle.gs_master_asked_for.specs.Waits.{AreAskedFor, HearsOneOf, WasCalled, WasToWrite}
 
--- A move of the turn, with what comes before and behind it; this is one of its records, and what it sends the turn sends.
+-- A move of the turn, with the moves before and after it. The entry is one of its records, and the turn sends what the move sends.
 pub record IsWrittenWithin (config : Config) (heard : Heard) (s : State) (t : Turn) (entry : PlainEntry) : Type 0 where
   pub before : Turn
   pub first : Chain config (IsMadeWellFor config heard) s before
@@ -31,7 +31,7 @@ pub record IsWrittenWithin (config : Config) (heard : Heard) (s : State) (t : Tu
   pub rest : Chain config (IsMadeWellFor config heard) (move_turn config before.after move).after next
   pub last : t.after ≡ next.after
 
--- A chunk is added for a call to extend the file, behind its last chunk. Behind the move it stands at the place that the call named, and is settled on the view that the move tells the call.
+-- A chunk is added for a call to extend the file, after its last chunk. After the move it stands at the place that the call named, and is settled on the view that the call is told.
 pub record IsAddedFor (all : List (ReqId × Call)) (config : Config) (heard : Heard) (s : State) (t : Turn) (req : ReqId) (path : Path) (chunk : ℕ) (entry : PlainEntry) : Type 0 where
   pub within : IsWrittenWithin config heard s t entry
   pub index : ℕ
@@ -43,7 +43,7 @@ pub record IsAddedFor (all : List (ReqId × Call)) (config : Config) (heard : He
   pub says : IsIn (reply_to req (Ok (answers.Location chunk view epoch))) t.sent
   pub located : IsLocatedBy (move_turn config within.before.after within.move).after chunk view epoch
 
--- A chunk is put in the place of another for a call to find that place for writing. The other stood there before.
+-- A chunk takes the place of another for a call to find that place for writing. The other stood there before.
 pub record IsReplacedFor (all : List (ReqId × Call)) (config : Config) (heard : Heard) (s : State) (t : Turn) (path : Path) (index old new : ℕ) (entry : PlainEntry) : Type 0 where
   pub within : IsWrittenWithin config heard s t entry
   pub req : ReqId
@@ -58,14 +58,15 @@ pub record IsEditedFor (all : List (ReqId × Call)) (config : Config) (heard : H
   pub was : WasCalled all req call
   pub edits : IsEditOf within.before.after call edit
 
--- a scan is called, that is new
+-- a scan is called, and the call is new
 abbrev pub IsScanned : Heard → State → Type 0
 IsScanned heard s = (req : ReqId) × IsNew heard s req calls.Scan
 
--- this call is heard, and is new
+-- this is called, and the call is new
 abbrev pub IsCalledNow : Heard → State → Call → Type 0
 IsCalledNow heard s call = (req : ReqId) × IsNew heard s req call
 
+-- each record is for its call; of those of refusals, views, holders and checkpoints nothing is said
 abbrev pub IsRecordedFor : List (ReqId × Call) → Config → Heard → State → Turn → PlainEntry → Type 0
 IsRecordedFor all config heard s t (Edited by (AddChunk path chunk)) = IsAddedFor all config heard s t by path chunk (Edited by (AddChunk path chunk))
 IsRecordedFor all config heard s t (Edited by (Cow path index old new)) = (by ≡ own_request) × IsReplacedFor all config heard s t path index old new (Edited by (Cow path index old new))
@@ -85,7 +86,7 @@ IsRecordedFor all config heard s t entry = Unit {0}
 
 -- ---- what is to hold
 
--- So it is of each record of a turn, where calls wait as they were heard.
+-- This holds of each record of a turn, where calls wait as they were heard.
 abbrev pub RecordsAreFor : Type 0
 RecordsAreFor = (all : List (ReqId × Call)) (config : Config) (heard : Heard) (s : State) (t : Turn) → EndsOnce config (IsMadeWellFor config heard) s t → HearsOneOf all heard → AreAskedFor all s → AllByRecursion (IsRecordedFor all config heard s t) t.records
 

@@ -1,4 +1,4 @@
--- To which call it is told where a chunk is: the chunk stands at the place that the call named.
+-- To which call a location is told: the chunk stands at the place that the call named.
 use Rattle.std.specs.Prelude.{[], ◌∷◌, ◌≡◌, ◌⊎◌, List, None, Some, codes, refl, slice_get, take, ℕ}
 use Rattle.std.specs.FinMap as fin
 use Rattle.gs_tree.specs.Edits.{chunks_in}
@@ -29,13 +29,13 @@ IsAtPlaceOf names chunk (calls.FindForWriting path index stamp) = StandsAt names
 IsAtPlaceOf names chunk (calls.Extend path index) = StandsAt names path index chunk
 IsAtPlaceOf names chunk call = ⊥
 
--- where it is found for writing it has a primary
+-- a view that is told to a call to find the chunk for writing has a primary
 abbrev pub IsLedFor : Call → View → Type 0
 IsLedFor (calls.FindForWriting path index stamp) view = IsLed view
 IsLedFor call view = Unit {0}
 
--- A move of the turn tells a call that was heard, now or before, where a chunk is. Behind that move the chunk stands at the place that the call named; the view that is told is its settled one, and the epoch the one that
--- stands; and nothing is rolled back. Where the call is to find a chunk for writing the view has a primary.
+-- A move of the turn tells a call that was heard, now or before, where a chunk is. After that move the chunk stands at the place that the call named.
+-- The view that is told is its settled one, the epoch is the one that stands, and no rollback goes on. The view has a primary where the call is to find the chunk for writing.
 pub record IsToldFor (all : List (ReqId × Call)) (config : Config) (heard : Heard) (s : State) (t : Turn) (req : ReqId) (chunk : ℕ) (view : View) (epoch : ℕ) : Type 0 where
   pub within : IsLocatedWithin config (IsMadeWellFor config heard) s t req chunk view epoch
   pub call : Call
@@ -44,23 +44,23 @@ pub record IsToldFor (all : List (ReqId × Call)) (config : Config) (heard : Hea
   pub located : IsLocatedBy (move_turn config within.before.after within.move).after chunk view epoch
   pub led : IsLedFor call view
 
--- it was told before, or it is told so
+-- it was told before, or the turn tells it so
 abbrev pub WasToldFor : List (ReqId × Call) → Config → Heard → State → Turn → ReqId → ℕ → View → ℕ → Type 0
 WasToldFor all config heard s t req chunk view epoch = KeepsLocation s req chunk view epoch ⊎ IsToldFor all config heard s t req chunk view epoch
 
 -- ---- what is to hold
 
--- So it is of each reply that a turn sends, where calls wait as they were heard,
+-- This holds of each reply that a turn sends, where calls wait as they were heard.
 abbrev pub SentAreFor : Type 0
 SentAreFor = (all : List (ReqId × Call)) (config : Config) (heard : Heard) (s : State) (t : Turn) → EndsOnce config (IsMadeWellFor config heard) s t → HearsOneOf all heard → AreAskedFor all s →
     AllByRecursion (λ (m : Message). IsToldOnlyIf (WasToldFor all config heard s t) m.body) t.sent
 
--- and of each that is kept behind it.
+-- It holds of each reply that is kept after the turn.
 abbrev pub KeptAreFor : Type 0
 KeptAreFor = (all : List (ReqId × Call)) (config : Config) (heard : Heard) (s : State) (t : Turn) (req : ReqId) (chunk : ℕ) (view : View) (epoch : ℕ) → EndsOnce config (IsMadeWellFor config heard) s t → HearsOneOf all heard → AreAskedFor all s →
     KeepsLocation t.after req chunk view epoch → WasToldFor all config heard s t req chunk view epoch
 
--- And so of each that is told by the records that stand, where a disk fails behind some of them.
+-- It holds of each reply that the records tell which stand, where a disk fails after some of them.
 abbrev pub PartsTellFor : Type 0
 PartsTellFor = (all : List (ReqId × Call)) (config : Config) (heard : Heard) (s : State) (t : Turn) (many : ℕ) (d : Durable) (req : ReqId) (chunk : ℕ) (view : View) (epoch : ℕ) → EndsOnce config (IsMadeWellFor config heard) s t → HearsOneOf all heard → AreAskedFor all s →
     replayed s.durable (take many t.records) ≡ Some d → IsToldIn d.replies req chunk view epoch → WasToldFor all config heard s t req chunk view epoch
@@ -73,7 +73,7 @@ f = codes "f" ∷ []
 at_the_place_that_was_asked : (names : NamesView) → IsAtPlaceOf names 7 (calls.Extend f 2) ≡ StandsAt names f 2 7
 at_the_place_that_was_asked names = refl
 
--- another chunk stands there, so that this one is told is no answer
+-- another chunk stands there, so this one is no answer
 another_chunk_is_no_answer : (names : NamesView) → fin.get names.tree f ≡ Some (File (8 ∷ [])) → IsAtPlaceOf names 7 (calls.FindForWriting f 0 None) → ⊥
 another_chunk_is_no_answer names file here = never (eight file) here
   where

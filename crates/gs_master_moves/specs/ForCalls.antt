@@ -39,7 +39,7 @@ use Rattle.gs_master_moves.specs.Moves.{Alone, Beside, FromNow, Further, Move, B
 abbrev pub IsHeardAs : Heard → ReqId → Call → Type 0
 IsHeardAs heard req call = (from : ℕ) × (heard ≡ Some (from, bodies.Call req call))
 
--- it is later than what was answered last, and doesn't wait: so it is new
+-- the call is heard, it is later than what its client was answered last, and it doesn't wait
 pub record IsNew (heard : Heard) (s : State) (req : ReqId) (call : Call) : Type 0 where
   pub heard_so : IsHeardAs heard req call
   pub later : is_later (last_reply s req.client) req.number ≡ true
@@ -70,11 +70,13 @@ IsPlaceOf names chunk view (calls.FindForWriting path index stamp) = StandsAt na
 IsPlaceOf names chunk view (calls.Extend path index) = StandsAt names path index chunk
 IsPlaceOf names chunk view call = ⊥
 
+-- a call that is heard names that place
 abbrev pub IsLookedUpFor : Heard → State → ReqId → ℕ → View → Type 0
 IsLookedUpFor heard s req chunk view = (call : Call) × IsNew heard s req call × IsPlaceOf s.durable.names chunk view call
 
 -- ---- what a call waits for
 
+-- a call waits to put this chunk at the end of this file; for a lease of it at this place; to copy this tree
 abbrev pub waits_at_end : Path → ℕ → Waiting → Bool
 waits_at_end path chunk (waits.Extend p new) = same_path p path && new == chunk
 waits_at_end path chunk waiting = false
@@ -94,7 +96,7 @@ pub record IsForWriting (heard : Heard) (s : State) (req : ReqId) (path : Path) 
   pub here : StandsAt s.durable.names path index chunk
   pub visible : is_visible path ≡ true
 
--- A call to extend a file is heard, behind its last chunk, and it may write there.
+-- A call to extend a file after its last chunk is heard, and it may write there.
 pub record IsForEnd (heard : Heard) (s : State) (req : ReqId) (path : Path) : Type 0 where
   pub index : ℕ
   pub new : IsNew heard s req (calls.Extend path index)
@@ -102,18 +104,19 @@ pub record IsForEnd (heard : Heard) (s : State) (req : ReqId) (path : Path) : Ty
   pub visible : is_visible path ≡ true
   pub free : IsFree s req (path ∷ []) (path ∷ [])
 
--- what a call waits for from now on, where a view of the chunk is proposed: what it asks for
+-- a view of the chunk is proposed, and a call that is heard waits for it from now on: it asks for just that
 abbrev pub IsBegunFor : Heard → State → ReqId → ℕ → Waiting → Type 0
 IsBegunFor heard s req chunk (waits.Lease path index leased) = (leased ≡ chunk) × IsForWriting heard s req path index chunk × IsFree s req (path ∷ []) []
 IsBegunFor heard s req chunk (waits.Quiet path index quiet) = (quiet ≡ chunk) × IsForWriting heard s req path index chunk
 IsBegunFor heard s req chunk (waits.Replicate copied target) = IsNew heard s req calls.Replicate
 IsBegunFor heard s req chunk waiting = ⊥
 
--- and where it has waited: for a lease of the copy that it has waited for, which stands at that place now
+-- a call that has waited for a copy waits further, for a lease of that copy, which stands at its place now
 abbrev pub IsFurtherFor : State → ReqId → ℕ → Waiting → Type 0
 IsFurtherFor s req chunk (waits.Lease path index leased) = (leased ≡ chunk) × ((old : ℕ) × IsWaiting s req (waits_for_copy path index old chunk)) × StandsAt s.durable.names path index chunk
 IsFurtherFor s req chunk waiting = ⊥
 
+-- the call beside which a view is proposed, if there is one
 abbrev pub IsBesideFor : Heard → State → ℕ → Beside → Type 0
 IsBesideFor heard s chunk Alone = Unit {0}
 IsBesideFor heard s chunk (FromNow req waiting) = IsBegunFor heard s req chunk waiting
@@ -124,21 +127,23 @@ abbrev pub IsCopiedFor : Heard → State → ℕ → Beside → Type 0
 IsCopiedFor heard s chunk (FromNow req (waits.Copy path index old new)) = IsForWriting heard s req path index chunk
 IsCopiedFor heard s chunk beside = Unit {0}
 
+-- a call that waits to copy a tree was heard to do so
 abbrev pub IsTreeFor : Heard → State → ReqId → Waiting → Type 0
 IsTreeFor heard s req (waits.Snapshot from to) = IsNew heard s req (calls.Snapshot from to)
 IsTreeFor heard s req waiting = ⊥
 
--- where a call is told where a chunk is: it is looked up at once, or the call has waited for its lease, and the view has a primary
+-- a call is told where a chunk is: the chunk is looked up at once, or the call has waited for its lease and the view has a primary
 abbrev pub IsAnswerFor : Heard → State → ReqId → Answer → Bool → Type 0
 IsAnswerFor heard s req (answers.Location chunk view epoch) false = IsLookedUpFor heard s req chunk view
 IsAnswerFor heard s req (answers.Location chunk view epoch) true = (path : Path) × (index : ℕ) × IsWaiting s req (waits_for_lease path index chunk) × IsLed view
 IsAnswerFor heard s req answer over = Unit {0}
 
+-- the call by which a prepare is begun, or given up
 abbrev pub flag_call : Bool → Call
 flag_call true = calls.PrepareBegin
 flag_call false = calls.PrepareAbort
 
--- an edit that a call makes at once is the one that it asks for: a rename's target as it is resolved, and a deletion under the next number
+-- An edit that a call makes at once is the one that it asks for. A rename has its target as it is resolved. A deletion has the next number; of its moment nothing is said here.
 abbrev pub IsEditOf : State → Call → PlainEdit → Type 0
 IsEditOf s (calls.Mkdirs path) edit = edit ≡ Mkdirs path
 IsEditOf s (calls.Create path) edit = edit ≡ Create path
@@ -150,6 +155,7 @@ IsEditOf s call edit = ⊥
 
 -- ---- of each move
 
+-- for which call a move is made; of moves that need none nothing is said
 abbrev pub IsFor : Heard → State → Move → Type 0
 IsFor heard s (Begins chunk purpose call beside) = IsBesideFor heard s chunk beside
 IsFor heard s (Makes targets req path) = IsForEnd heard s req path
@@ -170,18 +176,18 @@ IsFor heard s move = Unit {0}
 
 -- ---- what is to hold
 
--- So each move of each event of a firm master is made for a call,
+-- Each move of each event of a firm master is made for a call.
 abbrev pub IsMadeFor : Config → Heard → State → Move → Type 0
 IsMadeFor config heard s move = IsMade config heard s move × IsFor heard s move
 
 abbrev pub EventsAreFor : Type 0
 EventsAreFor = (config : Config) (s : State) (event : Event) → IsNamed event → IsFirm s → EndsOnce config (IsMadeFor config (heard_in event)) (met_in s event) (turn_of config s event)
 
--- also where memory is wanting for the checkpoint of a tick,
+-- So are those of a tick where memory is wanting for the checkpoint that is due.
 abbrev pub TicksAreFor : Type 0
 TicksAreFor = (config : Config) (s : State) (moment : Moment) → IsFirm s → AllFit s (and_then (for_each s (proposals s) (pressed moment)) granted) → EndsOnce config (IsMadeFor config None) s (and_then (for_each s (proposals s) (pressed moment)) granted)
 
--- and what is durable stands before and behind it, where the master is steady.
+-- Where the master is steady, what is durable stands before and after each move.
 abbrev pub IsMadeWellFor : Config → Heard → State → Move → Type 0
 IsMadeWellFor config heard s move = IsMadeWell config heard s move × IsFor heard s move
 
@@ -193,8 +199,8 @@ EventsStandFor = (config : Config) (s : State) (event : Event) → IsNamed event
 abbrev f : Path
 f = codes "f" ∷ []
 
-a_prepare_is_for_its_call : (heard : Heard) (s : State) (req : ReqId) → IsFor heard s (Finalizes req) ≡ IsNew heard s req calls.Finalize
-a_prepare_is_for_its_call heard s req = refl
+a_finalize_is_for_its_call : (heard : Heard) (s : State) (req : ReqId) → IsFor heard s (Finalizes req) ≡ IsNew heard s req calls.Finalize
+a_finalize_is_for_its_call heard s req = refl
 
 its_own_end : waits_at_end f 7 (waits.Extend f 7) ≡ true
 its_own_end = refl

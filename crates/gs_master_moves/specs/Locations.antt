@@ -37,7 +37,7 @@ pub record IsToldIn (replies : fin.FinMap client_cmp KeptReply) (caller : ReqId)
 abbrev pub KeepsLocation : State → (caller : ReqId) (chunk : ℕ) → View → (epoch : ℕ) → Type 0
 KeepsLocation s caller chunk view epoch = IsToldIn s.durable.replies caller chunk view epoch ⊎ IsToldIn s.volatile.replies caller chunk view epoch
 
--- A move of the turn tells so. Some moves were made before it, and the others behind it; and the records of the turn are theirs.
+-- A move of the turn tells so. Some moves were made before it, and the others after it. The records of the turn are those of these moves.
 pub record IsLocatedWithin (config : Config) (Holds : State → Move → Type 0) (s : State) (t : Turn) (caller : ReqId) (chunk : ℕ) (view : View) (epoch : ℕ) : Type 0 where
   pub before : Turn
   pub first : Chain config Holds s before

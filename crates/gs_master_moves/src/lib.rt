@@ -34,7 +34,9 @@ pub fn an_event_ends_one_epoch_at_most()
     ensures epochs { EpochsGo }
 {}
 
-/// Each move of an event is made for a call: for the one that is heard in the event, which is new, or for one that has waited for just this. What ends an epoch, scans, or begins or gives up a prepare, is that very call.
+/// Each move of an event of a firm master is made for a call: for the one that is heard in the event and is new, or for one that has waited for just this.
+/// A move that ends an epoch, scans, or begins or gives up a prepare is made for that very call.
+/// Views that are proposed for no call, reports and ticks are not said to have one.
 pub fn each_move_is_made_for_a_call()
     ensures events { EventsAreFor }
     ensures ticks { TicksAreFor }

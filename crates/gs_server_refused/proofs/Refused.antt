@@ -37,7 +37,7 @@ use Rattle.gs_store.specs.Serving.{apply, done_in}
 use Rattle.gs_store.specs.Slots.{Live, Slot, first_of, unless_live, unless_promised}
 use Rattle.gs_store.specs.Stores.{Store}
 use Rattle.gs_store.specs.Stores as stores
-use Rattle.gs_server_refused.specs.Refused.{HearsEdit, IsNumberedAt, IsOver, IsRefusedAt, NumbersNone, OverAreLeft, OverAreNotNumbered, OverStay, RefusedAreNeverNumbered, RefusedAreNotNumbered, RefusedAreOver, asks, part_of}
+use Rattle.gs_server_refused.specs.Refused.{HearsEdit, IsNumberedAt, IsOver, IsRefusedAt, NumbersNone, OverChangeNothing, OverAreNotNumbered, OverStay, RefusedAreNeverNumbered, RefusedAreNotNumbered, RefusedAreOver, asks, part_of}
 
 -- ---- what an edit comes to
 
@@ -217,14 +217,14 @@ put_over req e m new h p number above o = by_key (eq_by_cmp client_cmp req.clien
         record { kept = new; there = fin.get-insert client_total m e.client new req.client ∙ ap (λ b. cond b (Some new) (fin.get m req.client)) is; within = omega arith }
     by_key false is = record { kept = o.kept; there = fin.get-insert client_total m e.client new req.client ∙ ap (λ b. cond b (Some new) (fin.get m req.client)) is ∙ o.there; within = o.within }
 
--- behind an edit
+-- after an edit
 edit_over : (req e : ReqId) (m : Refusals) (h : Here) (p : Place) (part : Part) → h.refused ≡ fin.get m e.client → Comes h p e part → IsOverIn req m → IsOverIn req (keep_refusal (Some e) part.kept m)
 edit_over req e m h p part found (inl old) o = subst (λ k. IsOverIn req (keep_refusal (Some e) k m)) (sym old.rests.kept) o
 edit_over req e m h p part found (inr (above, inl none)) o = subst (λ k. IsOverIn req (keep_refusal (Some e) k m)) (sym none.1) o
 edit_over req e m h p part found (inr (above, inr (refusal, said, kept, rests))) o =
     subst (λ k. IsOverIn req (keep_refusal (Some e) k m)) (sym kept) (put_over req e m (record { number = e.number; refusal = refusal }) h p refl (subst (IsAbove h p e) found above) o)
 
--- behind a message about a chunk
+-- after a message about a chunk
 chunk_over : (req : ReqId) (s : Server) (from : NodeId) (handle : ℕ) (said : Chunk) (moment : Moment) → IsOverIn req s.kept.refused → IsOverIn req (handle_body s from (bodies.About handle said) moment).after.kept.refused
 chunk_over req s from handle (chunks.Edit e stamp op) moment o = edit_over req e s.kept.refused (here_of s moment handle (Some e)) (place_of handle s) (edit (here_of s moment handle (Some e)) (place_of handle s) e stamp op) refl (edit_comes (here_of s moment handle (Some e)) (place_of handle s) e stamp op) o
 chunk_over req s from handle (chunks.Forward stamp number e op bytes) moment o =
@@ -333,8 +333,8 @@ rests_leaves handle req h p part s r =
     ∙ ap (λ c. servers.with_store (store_of s) (with_leases (servers.change_lease handle c s.dropped.leases) (servers.with_refused (keep_refusal (Some req) part.kept s.kept.refused) s))) r.lease
     ∙ ap (λ k. servers.with_store (store_of s) (with_leases s.dropped.leases (servers.with_refused (keep_refusal (Some req) k s.kept.refused) s))) r.kept
 
-pub over_are_left : OverAreLeft
-over_are_left e s req k o =
+pub over_change_nothing : OverChangeNothing
+over_change_nothing e s req k o =
     let h : Here = here_of s k.moment k.handle (Some req) in
     let p : Place = place_of k.handle s in
     let part : Part = edit h p req k.stamp k.op in

@@ -151,7 +151,7 @@ module _ {D : Type 0} (seen : D → List ℕ) (failures : D → ℕ) (armed : Di
 
   pub told_later : (begun old new : History D) (step : Step) → Goes seen failures armed step old new → (req : ReqId) (chunk : ℕ) (view : View) (epoch : ℕ) → WasTold seen failures armed begun old req chunk view epoch → WasTold seen failures armed begun new req chunk view epoch
   told_later begun old new step goes req chunk view epoch w =
-      record { old = w.old; mid = w.mid; before = w.before; step = w.step; behind = w.behind ++ step ∷ []; first = w.first; goes = w.goes; rest = one_more w.behind w.mid old new step w.rest goes; told = w.told }
+      record { old = w.old; mid = w.mid; before = w.before; step = w.step; after = w.after ++ step ∷ []; first = w.first; goes = w.goes; rest = one_more w.after w.mid old new step w.rest goes; told = w.told }
 
   abbrev pub KeptAt : History D → History D → Type 0
   KeptAt begun h = (m : MasterOf D) → h.nodes.master ≡ Standing m → (req : ReqId) (chunk : ℕ) (view : View) (epoch : ℕ) → KeepsLocation m.state req chunk view epoch → WasTold seen failures armed begun h req chunk view epoch
@@ -195,7 +195,7 @@ module _ {D : Type 0} (seen : D → List ℕ) (failures : D → ℕ) (armed : Di
       of_turn : (t : Turn) → TurnsAt step old m t → is_failed m.state.fault ≡ false → (f : IsTurnFor step old m t) → (req : ReqId) (chunk : ℕ) (view : View) (epoch : ℕ) → WasToldFor f.all m.config (heard_at step old.sent) m.state t req chunk view epoch → W req chunk view epoch
       of_turn t made sound f req chunk view epoch (inl k) = kept_before req chunk view epoch k
       of_turn t made sound f req chunk view epoch (inr is) =
-          record { old = old; mid = new; before = before; step = step; behind = []; first = runs; goes = goes; rest = refl; told = record { m = m; t = t; at = at; sound = sound; turns = made; all = f.all; were = f.were; told = is } }
+          record { old = old; mid = new; before = before; step = step; after = []; first = runs; goes = goes; rest = refl; told = record { m = m; t = t; at = at; sound = sound; turns = made; all = f.all; were = f.were; told = is } }
 
       part_told : (t : Turn) → TurnsAt step old m t → is_failed m.state.fault ≡ false → (many : ℕ) (e : Durable) → replayed m.state.durable (take many t.records) ≡ Some e → (req : ReqId) (chunk : ℕ) (view : View) (epoch : ℕ) → IsToldIn e.replies req chunk view epoch → W req chunk view epoch
       part_told t made sound many e fit req chunk view epoch k =

@@ -42,7 +42,7 @@ pub record IsCallSent (sent : Sent) (req : ReqId) (call : Call) : Type 0 where
   pub from : message.from ≡ nodes.Client req.client
   pub is : message.body ≡ bodies.Call req call
 
--- so each of these was
+-- each of these calls was sent so
 abbrev pub WereSent : Sent → List (ReqId × Call) → Type 0
 WereSent sent all = (req : ReqId) (call : Call) → WasCalled all req call → IsCallSent sent req call
 
@@ -67,20 +67,20 @@ pub record WaitAsSent (sent : Sent) (s : State) : Type 0 where
   pub were : WereSent sent all
   pub asked : AreAskedFor all s
 
--- So it is at a master of which no disk has failed. Where one has failed behind the record of an extend the file has one chunk more than the call named that waits still; but such a master does nothing more.
+-- This holds at a master of which no disk has failed. Where one has failed after the record of an extend, the file has one chunk more than the call named that still waits. But such a master does nothing more.
 abbrev pub WaitAt : {D : Type 0} → Sent → MasterPlace D → Type 0
 WaitAt sent (Standing m) = WaitAsSent sent m.state ⊎ (is_failed m.state.fault ≡ true)
 WaitAt sent place = Unit {0}
 
 -- ---- the turn of a step
 
--- What it tells, records and lets wait is for the call that comes at the step, or for one that was sent before and has waited.
+-- What the turn tells, records and leaves waiting is for the call that comes at the step, or for one that was sent before and has waited.
 pub record IsForCalls {D : Type 0} (step : Step) (old : History D) (m : MasterOf D) (t : Turn) : Type 0 where
   pub all : List (ReqId × Call)
   pub were : WereSent old.sent all
   pub turn : IsAskedTurn all m.config (heard_at step old.sent) m.state t
 
--- So many records of the turn of the step stand behind what was told, and each of them is for its call.
+-- So many records of the turn of the step stand after what was told before, and each of them is for its call.
 pub record StandForCalls {D : Type 0} (step : Step) (old : History D) (d e : Durable) : Type 0 where
   pub m : MasterOf D
   pub t : Turn
@@ -91,7 +91,7 @@ pub record StandForCalls {D : Type 0} (step : Step) (old : History D) (d e : Dur
   pub calls : IsForCalls step old m t
   pub records : AllByRecursion (IsRecordedFor calls.all m.config (heard_at step old.sent) m.state t) (take many t.records)
 
--- The call comes at the step by which a prepare is committed, an upgrade finalized, or a rollback begun or done, of which this record tells; and it is answered the epoch of the record, and nothing else.
+-- At the step the call comes whose record this is: to commit a prepare, to finalize, or to begin or commit a rollback. It is answered the epoch of the record, and nothing else.
 pub record IsEndCalled {D : Type 0} (step : Step) (old : History D) (entry : PlainEntry) (t : Turn) : Type 0 where
   pub from : ℕ
   pub req : ReqId
@@ -101,7 +101,7 @@ pub record IsEndCalled {D : Type 0} (step : Step) (old : History D) (entry : Pla
   pub tells : epoch_told call entry ≡ Some epoch
   pub answered : IsAnsweredOnly req (Ok (answers.Epoch epoch)) t.sent
 
--- a record by which an epoch ends, or a rollback is done: it is some call's own
+-- a record by which an epoch ends, or a rollback is done: it is the own record of some call
 abbrev pub IsEnd : PlainEntry → Type 0
 IsEnd entry = (call : Call) × (epoch : ℕ) × (epoch_told call entry ≡ Some epoch)
 
@@ -130,19 +130,19 @@ module _ {D : Type 0} (seen : D → List ℕ) (failures : D → ℕ) (armed : Di
 
   -- ---- what is to hold
 
-  -- in each world of a run,
+  -- Each call that waits was sent, in each world of a run.
   abbrev pub CallsWaitAsSent : Type 0
   CallsWaitAsSent = (now : History D) → HasRun now → WaitAt now.sent now.nodes.master
 
-  -- of each turn that the master may make at a step, no disk of which has failed,
+  -- Each turn that a master may make at a step is for its calls, if no disk of it has failed.
   abbrev pub TurnsAreForCalls : Type 0
   TurnsAreForCalls = (now : History D) (step : Step) (m : MasterOf D) (t : Turn) → HasRun now → IsStepWithin step → now.nodes.master ≡ Standing m → is_failed m.state.fault ≡ false → TurnsAt step now m t → IsForCalls step now m t
 
-  -- of what stands behind each step, also where a disk fails at it,
+  -- Each record that stands after a step is for its call, also where a disk fails at the step.
   abbrev pub RecordsAreForCalls : Type 0
   RecordsAreForCalls = (now next : History D) (step : Step) (d e : Durable) → HasRun now → IsStepWithin step → Goes seen failures armed step now next → TellsAt seen now.nodes.master d → TellsAt seen next.nodes.master e → (e ≡ d) ⊎ StandForCalls step now d e
 
-  -- and of the ends of epochs.
+  -- The call that ends an epoch comes at the step that records it.
   abbrev pub EndsAreCalled : Type 0
   EndsAreCalled = (now : History D) (step : Step) (m : MasterOf D) (t : Turn) (entry : PlainEntry) → HasRun now → IsStepWithin step → now.nodes.master ≡ Standing m → is_failed m.state.fault ≡ false → TurnsAt step now m t → IsEnd entry → IsAmong entry t.records → IsEndCalled step now entry t
 

@@ -10,7 +10,7 @@ use Rattle.gs_world.specs.Histories.{History}
 use Rattle.gs_world.specs.Sent.{IsSent, Sent}
 use Rattle.gs_world_asked_for.specs.Asked.{HasRun}
 
--- a message was sent, by whom and to whom ever, by which this is called under this request
+-- some message was sent, by anybody to anybody, by which this is called under this request
 abbrev pub IsCalledIn : Sent → ReqId → Call → Type 0
 IsCalledIn sent req call = (message : Message) × IsSent message sent × (message.body ≡ bodies.Call req call)
 
@@ -18,6 +18,6 @@ IsCalledIn sent req call = (message : Message) × IsSent message sent × (messag
 abbrev pub AreOneCall : Sent → Type 0
 AreOneCall sent = (req : ReqId) (one other : Call) → IsCalledIn sent req one → IsCalledIn sent req other → one ≡ other
 
--- So it is in each world of a run.
+-- This holds in each world of a run.
 abbrev pub RequestsAreOneCall : {D : Type 0} → (D → List ℕ) → (D → ℕ) → (DiskId → ℕ → MasterPlace D → MasterPlace D) → Type 0
 RequestsAreOneCall {D} seen failures armed = (now : History D) → HasRun seen failures armed now → AreOneCall now.sent

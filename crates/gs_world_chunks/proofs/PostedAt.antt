@@ -28,7 +28,7 @@ module _ (P : Message → Type 0) (place : ℕ) (message : Message) where
   abbrev IfIn : Option (List Post) → Type 0
   IfIn o = message_in o place ≡ Some message → P message
 
-  -- what is put behind
+  -- what is put after the others
   appended_at : (moment : Moment) (messages : List Message) (old new : Line) → Appends moment messages old new → If old.0 → AllByRecursion P messages → If new.0
   appended_at moment [] old new is before well = subst (λ (l : Line). If l.0) (sym is) before
   appended_at moment (one ∷ messages) old new (mid, first, rest) before well = appended_at moment messages mid new rest (elim first [

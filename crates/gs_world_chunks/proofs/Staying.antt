@@ -76,7 +76,7 @@ use Rattle.gs_world_chunks.proofs.Sealed.{alternates, sealed_there}
 use Rattle.gs_world_chunks.proofs.SeeingThrough.{SeesNextThrough, sees_step_through}
 use Rattle.gs_world_chunks.proofs.Spared.{AllowsIn, StillLive, stays_by}
 use Rattle.gs_world_chunks.specs.Seeing.{Sees}
-use Rattle.gs_world_chunks.specs.Upgrading.{DropsNone, Spare, TakesNone, is_drop, is_harm, is_taken}
+use Rattle.gs_world_chunks.specs.Upgrading.{DropsNone, Spare, HarmsOrDropsNone, is_drop, is_harm, is_harm_or_drop}
 
 -- ---- small facts
 
@@ -99,35 +99,35 @@ image_there block size (Some t) xs stood = refl
 
 -- ---- what a step spares
 
--- it is no loss, damage or drop of what the server has of the chunk; or none that is taken
+-- a step is no loss, damage or drop of what the server has of the chunk, or is one that the server refuses
 abbrev pub SparedBy : ℕ → ℕ → Step → Option Call → Type 0
-SparedBy chunk id step call = ((is_harm chunk id step ≡ false) × (is_drop call ≡ false)) ⊎ (is_taken call ≡ false)
+SparedBy chunk id step call = ((is_harm chunk id step ≡ false) × (is_drop call ≡ false)) ⊎ (is_harm_or_drop call ≡ false)
 
-not_taken : (o : Option Call) → is_taken o ≡ false → is_drop o ≡ false
-not_taken (Some (calls.Drops promise)) is = absurd (false≢true (sym is))
-not_taken (Some (calls.Creates stamp)) is = refl
-not_taken (Some (calls.Advances stamp)) is = refl
-not_taken (Some (calls.CopiesIn stamp image sealed)) is = refl
-not_taken (Some (calls.TakesCopy h)) is = refl
-not_taken (Some (calls.TakesLease stamp)) is = refl
-not_taken (Some calls.Loses) is = refl
-not_taken (Some (calls.Damages block)) is = refl
-not_taken (Some (calls.MarksBad block)) is = refl
-not_taken (Some (calls.Applies stamp number req op bytes)) is = refl
-not_taken (Some calls.Seals) is = refl
-not_taken (Some calls.Unseals) is = refl
-not_taken (Some (calls.RollsBack epoch)) is = refl
-not_taken None is = refl
+no_drop : (o : Option Call) → is_harm_or_drop o ≡ false → is_drop o ≡ false
+no_drop (Some (calls.Drops promise)) is = absurd (false≢true (sym is))
+no_drop (Some (calls.Creates stamp)) is = refl
+no_drop (Some (calls.Advances stamp)) is = refl
+no_drop (Some (calls.CopiesIn stamp image sealed)) is = refl
+no_drop (Some (calls.TakesCopy h)) is = refl
+no_drop (Some (calls.TakesLease stamp)) is = refl
+no_drop (Some calls.Loses) is = refl
+no_drop (Some (calls.Damages block)) is = refl
+no_drop (Some (calls.MarksBad block)) is = refl
+no_drop (Some (calls.Applies stamp number req op bytes)) is = refl
+no_drop (Some calls.Seals) is = refl
+no_drop (Some calls.Unseals) is = refl
+no_drop (Some (calls.RollsBack epoch)) is = refl
+no_drop None is = refl
 
 none_dropped : (chunk id : ℕ) (step : Step) (call : Option Call) → SparedBy chunk id step call → is_drop call ≡ false
 none_dropped chunk id step call (inl both) = both.1
-none_dropped chunk id step call (inr kept) = not_taken call kept
+none_dropped chunk id step call (inr kept) = no_drop call kept
 
-lost_done : (r : Result Slot Refusal) (slot : Slot) → is_taken (if_done calls.Loses r) ≡ false → AllowsIn slot (if_done calls.Loses r)
+lost_done : (r : Result Slot Refusal) (slot : Slot) → is_harm_or_drop (if_done calls.Loses r) ≡ false → AllowsIn slot (if_done calls.Loses r)
 lost_done (Ok t) slot is = absurd (false≢true (sym is))
 lost_done (Err refusal) slot is = tt
 
-damaged_done : (block : ℕ) (r : Result Slot Refusal) (slot : Slot) → is_taken (if_done (calls.Damages block) r) ≡ false → AllowsIn slot (if_done (calls.Damages block) r)
+damaged_done : (block : ℕ) (r : Result Slot Refusal) (slot : Slot) → is_harm_or_drop (if_done (calls.Damages block) r) ≡ false → AllowsIn slot (if_done (calls.Damages block) r)
 damaged_done block (Ok t) slot is = absurd (false≢true (sym is))
 damaged_done block (Err refusal) slot is = tt
 
@@ -299,7 +299,7 @@ module _ {D : Type 0} (x : Setup D) (bytes : ReqId → List ℕ) (chunk id e : �
     own_stays after messages (Restarts is sends) met spared = behind_event at_server.Restarts after is tt
     own_stays after messages (Loses handle is sends) (moment, comes) spared = behind_event (at_server.Loses handle) after is (elim spared [
       | inl no_harm ↦ by_other (chunk == handle) refl no_harm.0
-      | inr kept ↦ by_taken (chunk == handle) (subst (λ (o : Option Server). is_taken (call_in chunk (Some (at_server.Loses handle)) o) ≡ false) at (subst (λ (o : Option at_server.Event). is_taken (call_in chunk o (slice_get old.nodes.servers id)) ≡ false) (event_is) kept))
+      | inr kept ↦ where_done (chunk == handle) (subst (λ (o : Option Server). is_harm_or_drop (call_in chunk (Some (at_server.Loses handle)) o) ≡ false) at (subst (λ (o : Option at_server.Event). is_harm_or_drop (call_in chunk o (slice_get old.nodes.servers id)) ≡ false) (event_is) kept))
     ])
       where
         event_is : event_at step old.sent id ≡ Some (at_server.Loses handle)
@@ -311,12 +311,12 @@ module _ {D : Type 0} (x : Setup D) (bytes : ReqId → List ℕ) (chunk id e : �
             let other : (handle == chunk) ≡ false = sym (ap (λ b. b && (handle == chunk)) (same_number id)) ∙ sym (ap (is_harm chunk id) comes) ∙ harmless in
             absurd (false≢true (sym other ∙ turned chunk handle is))
 
-        by_taken : (t : Bool) → is_taken (cond t (if_done calls.Loses (slots.lose (slot_in handle s))) None) ≡ false → AllowsIn (slot_in chunk s) (cond t (if_done calls.Loses (slots.lose (slot_in handle s))) None)
-        by_taken false kept = tt
-        by_taken true kept = lost_done (slots.lose (slot_in handle s)) (slot_in chunk s) kept
+        where_done : (t : Bool) → is_harm_or_drop (cond t (if_done calls.Loses (slots.lose (slot_in handle s))) None) ≡ false → AllowsIn (slot_in chunk s) (cond t (if_done calls.Loses (slots.lose (slot_in handle s))) None)
+        where_done false kept = tt
+        where_done true kept = lost_done (slots.lose (slot_in handle s)) (slot_in chunk s) kept
     own_stays after messages (Damages handle block is sends) (moment, comes) spared = behind_event (at_server.Damages handle block) after is (elim spared [
       | inl no_harm ↦ by_other (chunk == handle) refl no_harm.0
-      | inr kept ↦ by_taken (chunk == handle) (subst (λ (o : Option Server). is_taken (call_in chunk (Some (at_server.Damages handle block)) o) ≡ false) at (subst (λ (o : Option at_server.Event). is_taken (call_in chunk o (slice_get old.nodes.servers id)) ≡ false) (event_is) kept))
+      | inr kept ↦ where_done (chunk == handle) (subst (λ (o : Option Server). is_harm_or_drop (call_in chunk (Some (at_server.Damages handle block)) o) ≡ false) at (subst (λ (o : Option at_server.Event). is_harm_or_drop (call_in chunk o (slice_get old.nodes.servers id)) ≡ false) (event_is) kept))
     ])
       where
         event_is : event_at step old.sent id ≡ Some (at_server.Damages handle block)
@@ -328,9 +328,9 @@ module _ {D : Type 0} (x : Setup D) (bytes : ReqId → List ℕ) (chunk id e : �
             let other : (handle == chunk) ≡ false = sym (ap (λ b. b && (handle == chunk)) (same_number id)) ∙ sym (ap (is_harm chunk id) comes) ∙ harmless in
             absurd (false≢true (sym other ∙ turned chunk handle is))
 
-        by_taken : (t : Bool) → is_taken (cond t (if_done (calls.Damages block) (slots.damage block (slot_in handle s))) None) ≡ false → AllowsIn (slot_in chunk s) (cond t (if_done (calls.Damages block) (slots.damage block (slot_in handle s))) None)
-        by_taken false kept = tt
-        by_taken true kept = damaged_done block (slots.damage block (slot_in handle s)) (slot_in chunk s) kept
+        where_done : (t : Bool) → is_harm_or_drop (cond t (if_done (calls.Damages block) (slots.damage block (slot_in handle s))) None) ≡ false → AllowsIn (slot_in chunk s) (cond t (if_done (calls.Damages block) (slots.damage block (slot_in handle s))) None)
+        where_done false kept = tt
+        where_done true kept = damaged_done block (slots.damage block (slot_in handle s)) (slot_in chunk s) kept
 
   -- ---- a step
 
@@ -406,9 +406,9 @@ module _ (law : AreNumbered) {D : Type 0} (x : Setup D) (asked : ℕ → Asked) 
   spared_whole [] old a new b runs spare drops = tt
   spared_whole (step ∷ steps) old a new b (mid, c, moves, rest) spare drops = (inl (spare.0, drops.0), spared_whole steps mid c new b rest spare.1 drops.1)
 
-  pub spared_taken : (steps : List Step) (old : History D) (a : Account) (new : History D) (b : Account) (runs : Runs x steps old a new b) → TakesNone x chunk id steps old a new b runs → AreSpared steps old a new b runs
-  spared_taken [] old a new b runs kept = tt
-  spared_taken (step ∷ steps) old a new b (mid, c, moves, rest) kept = (inr kept.0, spared_taken steps mid c new b rest kept.1)
+  pub spared_unharmed : (steps : List Step) (old : History D) (a : Account) (new : History D) (b : Account) (runs : Runs x steps old a new b) → HarmsOrDropsNone x chunk id steps old a new b runs → AreSpared steps old a new b runs
+  spared_unharmed [] old a new b runs kept = tt
+  spared_unharmed (step ∷ steps) old a new b (mid, c, moves, rest) kept = (inr kept.0, spared_unharmed steps mid c new b rest kept.1)
 
   abbrev Ends : History D → Type 0
   Ends new = (r : Server) × (slice_get new.nodes.servers id ≡ Some r) × ((is_before (start_of (e + 1)) (slot_in chunk r).promise ≡ true) ⊎ StillLive (slot_in chunk r))

@@ -6,8 +6,9 @@ ghost use Rattle.gs_world_kept.specs.Kept.{ReplicasStay};
 
 use gs_server_laws::an_event_calls_what_it_says;
 
-/// A chunkserver that has a live replica of a chunk has one in each later world of each run, whatever messages come, how often and in which order, whatever is restarted, and whatever disks of the master fail, unless it was lost
-/// there or dropped, or went at a rollback for which nothing whole was sealed.
+/// A chunkserver that has a live replica of a chunk has one in each later world of each run.
+/// Three things end that: a loss there, a drop that it takes, and a rollback for which it has nothing whole sealed.
+/// Messages may come in any order and any number of times, nodes may restart, and disks of the master may fail.
 pub fn live_replicas_stay<D>()
     ensures { (x : Setup D) → ReplicasStay x }
 {

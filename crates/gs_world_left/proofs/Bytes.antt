@@ -38,10 +38,10 @@ use Rattle.gs_world_chunks.specs.Joined.{SeenSince}
 use Rattle.gs_world_chunks.specs.Moving.{account_behind}
 use Rattle.gs_world_chunks.specs.Running.{IsGiven, IsNew, IsToldAt, Moves, Runs, RunsBare, Setup, StepsWithin}
 use Rattle.gs_world_chunks.specs.SeenThrough.{SeesBothThrough}
-use Rattle.gs_world_chunks.specs.Upgrading.{IsUpgrading, RunsUpgraded, TakesNone}
+use Rattle.gs_world_chunks.specs.Upgrading.{IsUpgrading, RunsUpgraded, HarmsOrDropsNone}
 use Rattle.gs_world_left.proofs.Left.{rollback_leaves_members}
-use Rattle.gs_world_left.specs.Bytes.{HasNamedBy, HasSaidBy, HasTakenBy, KeepsBytesSince, LeavesBytes, RollbackLeavesBytes, RollbackLeavesTold, SaysWith, TakesNoneBare, TakesNoneBetween}
-use Rattle.gs_world_left.specs.Leaving.{HasLive, HasSaid, KeepsSince, LeavesMembers, TakesNoneWithin}
+use Rattle.gs_world_left.specs.Bytes.{HasNamedBy, HasSaidBy, HasTakenBy, KeepsBytesSince, LeavesBytes, RollbackLeavesBytes, RollbackLeavesTold, SaysWith, HarmsOrDropsNoneBare, HarmsOrDropsNoneBetween}
+use Rattle.gs_world_left.specs.Leaving.{HasLive, HasSaid, KeepsSince, LeavesMembers, HarmsOrDropsNoneWithin}
 use Rattle.gs_world_lift.proofs.Durable.{has_durable}
 use Rattle.gs_world_lift.specs.Left.{as_left, left_in}
 
@@ -85,13 +85,13 @@ module _ {D : Type 0} (x : Setup D) (Keeps : MasterPlace D → Durable → Type 
   -- from each world on the way
   abbrev Carries : (new : History D) (b : Account) (chunk server : ℕ) → ((steps : List Step) (mid : History D) (c : Account) → RunsUpgraded x steps mid c new b → Type 0) → ((steps : List Step) (mid : History D) → RunsWithinBy x Keeps steps mid new → Type 0) → Type 0
   Carries new b chunk server From To = (steps : List Step) (mid : History D) (c : Account) (within : RunsWithinBy x Keeps steps mid new) (rest : RunsUpgraded x steps mid c new b) →
-      (TakesNoneBetween x Keeps chunk server steps mid new within → TakesNoneWithin x chunk server steps mid c new b rest) → From steps mid c rest → To steps mid within
+      (HarmsOrDropsNoneBetween x Keeps chunk server steps mid new within → HarmsOrDropsNoneWithin x chunk server steps mid c new b rest) → From steps mid c rest → To steps mid within
 
   record IsAlike (steps : List Step) (old : History D) (a : Account) (new : History D) (within : RunsWithinBy x Keeps steps old new) : Type 1 where
     b : Account
     runs : RunsUpgraded x steps old a new b
     taken : (message : Message) → HasTaken x (λ (m : Message). m ≡ message) steps old a new b runs → HasTakenBy x Keeps (λ (m : Message). m ≡ message) steps old new within
-    spared : (chunk server : ℕ) → TakesNoneBetween x Keeps chunk server steps old new within → TakesNoneWithin x chunk server steps old a new b runs
+    spared : (chunk server : ℕ) → HarmsOrDropsNoneBetween x Keeps chunk server steps old new within → HarmsOrDropsNoneWithin x chunk server steps old a new b runs
     said : (From : (steps : List Step) (mid : History D) (c : Account) → RunsUpgraded x steps mid c new b → Type 0) (To : (steps : List Step) (mid : History D) → RunsWithinBy x Keeps steps mid new → Type 0) (chunk server : ℕ) (bytes : List ℕ) (place : MsgId) (message : Message)
         → Carries new b chunk server From To → Says x new b From chunk server bytes place message steps old a runs → HasSaidBy x Keeps new To chunk server bytes place message steps old within
 
@@ -109,11 +109,11 @@ module _ {D : Type 0} (x : Setup D) (Keeps : MasterPlace D → Durable → Type 
     alike_on : IsAlike (step ∷ steps) old a new (mid, one, going, on)
     alike_on = record { b = rest.b; runs = (mid, c, moves, stands, rest.runs); taken = taken_on; spared = λ chunk server none. (none.0, rest.spared chunk server none.1); said = said_on }
 
-  -- and those behind the commit
+  -- and those after the commit
   record HasPath (chunk server : ℕ) (steps : List Step) (old : History D) (a : Account) (new : History D) (bare : RunsBare x steps old new) : Type 0 where
     b : Account
     path : Runs x steps old a new b
-    spared : TakesNoneBare x Keeps chunk server steps old new bare → TakesNone x chunk server steps old a new b path
+    spared : HarmsOrDropsNoneBare x Keeps chunk server steps old new bare → HarmsOrDropsNone x chunk server steps old a new b path
 
   module _ (given : IsGiven x) where
     has_path : (chunk server : ℕ) (steps : List Step) (old new : History D) (a : Account) (bare : RunsBare x steps old new) → IsWell x old → HasPath chunk server steps old a new bare
@@ -240,7 +240,7 @@ module _ (sizes : HaveSizes) (law : AreNumbered) {D : Type 0} (x : Setup D) (Kee
             (keeps server named.place named.message) (says_of x prepared goes.now back first on.b behind rolled chunk server named.place named.message goes.between prepared first on.runs named.said);
       }
 
-  -- what a member had right behind the prepare
+  -- what a member had right after the prepare
 
   listed : is_listed before chunk ≡ true
   listed = referred_listed (fin.get before.names.refs chunk) referred

@@ -1,4 +1,4 @@
--- A server that would name a chunk of a rollback has the text of the prepare live, and keeps it; so each member that the commit counts has it behind the event at which it named the chunk.
+-- A server that would name a chunk of a rollback has the text of the prepare live, and keeps it. So each member that the commit counts has it after the event at which it named the chunk.
 use Rattle.std.proofs.Common.{◌≡◌, ◌∙◌, ◌+◌, ◌++◌, ◌<◌, ◌≤◌, ◌⊎◌, inl, inr, ℕ, Bool, true, false, List, [], ◌∷◌, None, Option, Some, refl, sym, ap, subst, slice_get, arith}
 use Rattle.std.specs.Prelude.{◌||◌, is_some}
 use Rattle.std.proofs.lemmas.Bool.{and_parts, false≢true}
@@ -56,7 +56,7 @@ use Rattle.gs_world_chunks.proofs.Reached.{run_stays}
 use Rattle.gs_world_chunks.proofs.Runs.{NextSeen, keeps_told, seen_next}
 use Rattle.gs_world_chunks.proofs.SeeingThrough.{SeesToThrough, each_sees_on_through, reached_well, sees_run_through}
 use Rattle.gs_world_chunks.proofs.Spared.{StillLive}
-use Rattle.gs_world_chunks.proofs.Staying.{IsStaying, spared_taken, staying_on}
+use Rattle.gs_world_chunks.proofs.Staying.{IsStaying, spared_unharmed, staying_on}
 use Rattle.gs_world_chunks.proofs.SurvivedOn.{fit_was}
 use Rattle.gs_world_chunks.proofs.Surviving.{fits, still, was_then}
 use Rattle.gs_world_chunks.proofs.Telling.{begins_so, stands_next}
@@ -69,10 +69,10 @@ use Rattle.gs_world_chunks.specs.Moving.{call_in, event_at}
 use Rattle.gs_world_chunks.specs.Running.{IsGiven, IsReached, Moves, Runs, Setup}
 use Rattle.gs_world_chunks.specs.Sealing.{IsLiveWith}
 use Rattle.gs_world_chunks.specs.SeenThrough.{SeesBothThrough}
-use Rattle.gs_world_chunks.specs.Upgrading.{IsUpgrading, RunsUpgraded, TakesNone, is_current, is_holder, is_taken}
+use Rattle.gs_world_chunks.specs.Upgrading.{IsUpgrading, RunsUpgraded, HarmsOrDropsNone, is_current, is_holder, is_harm_or_drop}
 use Rattle.gs_world_left.proofs.Named.{named_slot}
 use Rattle.gs_world_left.proofs.Texts.{text_there}
-use Rattle.gs_world_left.specs.Leaving.{HasNamed, HasSaid, KeepsOnTheWay, KeepsSince, NamersHaveTheText, RollbackLeavesMembers, SaysAt, TakesNoneWithin}
+use Rattle.gs_world_left.specs.Leaving.{HasNamed, HasSaid, KeepsOnTheWay, KeepsSince, NamersHaveTheText, RollbackLeavesMembers, SaysAt, HarmsOrDropsNoneWithin}
 use Rattle.gs_world_lift.proofs.AskingRuns.{of_one_edit, pushes_right}
 use Rattle.gs_world_lift.proofs.Running.{before as sent_before}
 use Rattle.gs_world_lift.specs.Going.{AllSent}
@@ -206,7 +206,7 @@ module _ (sizes : HaveSizes) (law : AreNumbered) {D : Type 0} (x : Setup D) (pre
     rolls_now : v.entry.is_rolling ≡ true
     rolls_now = next.last.told.rolling ∙ rolling
 
-    -- the epoch is the one behind that of the prepare
+    -- the epoch is the one after that of the prepare
     next_epoch : before.durable.epoch + 1 ≡ after.durable.epoch
     next_epoch = elim (still x bytes chunk (left_in prepared) before (left_in now) after k) [
       | inl y ↦
@@ -240,7 +240,7 @@ module _ (sizes : HaveSizes) (law : AreNumbered) {D : Type 0} (x : Setup D) (pre
         let at : epoch ≡ r.e + 1 = same ∙ sym next.last.told.epoch ∙ (okv.entry).epoch ∙ r.next in
         sym told.1 ∙ sym ((leads_later w v next.on.leads ok).how epoch told.0) ∙ ap v.known.how at ∙ r.how
 
-    -- right behind the prepare no server has learned of it yet
+    -- right after the prepare no server has learned of it yet
     none_yet : (s : Server) → slice_get prepared.nodes.servers id ≡ Some s → after.durable.epoch ≤ s.kept.epoch → ⊥
     none_yet s found high =
         let shows = here.since.first.alive.shows.members id s found in
@@ -342,13 +342,13 @@ module _ (sizes : HaveSizes) (law : AreNumbered) {D : Type 0} (x : Setup D) (pre
           (ap (is_before (start_of (e + 1))) slot_promise ∙ not_before_itself (start_of (e + 1))) live.0 live.1)
 
       -- and keeps it in each other one to which a run leads,
-      keeps_at : (t : History D) (d : Account) → AllSent (PushRight bytes) t.sent → AllSent (IsOfOneEdit asked) t.sent → (all : List Step) (path : Runs x all mid c t d) → TakesNone x chunk id all mid c t d path → (r : Server) → slice_get t.nodes.servers id ≡ Some r
+      keeps_at : (t : History D) (d : Account) → AllSent (PushRight bytes) t.sent → AllSent (IsOfOneEdit asked) t.sent → (all : List Step) (path : Runs x all mid c t d) → HarmsOrDropsNone x chunk id all mid c t d path → (r : Server) → slice_get t.nodes.servers id ≡ Some r
           → is_before (start_of after.durable.epoch) (slot_in chunk r).promise ≡ false → IsLiveWith x.config.chunk (start_of after.durable.epoch) (settled_edits before chunk) (slot_in chunk r)
       keeps_at t d right_t one_t all path spared r there below =
           let well = reached_well x mid c reached_mid in
           let to_last = sees_run_through x asked given law apart all mid t c d to_mid.last well path right_t one_t in
           let seen = seen_next x asked (left_in mid) (left_in t) c d to_mid.last to_last.last apart chunk (to_last.on chunk) here.since.last here.lives in
-          let ends = staying_on law x asked given chunk id e apart all mid t c d to_mid.last well path right_t one_t here.since.last.alive here.lives s staying (spared_taken law x asked given chunk id e all mid c t d path spared) in
+          let ends = staying_on law x asked given chunk id e apart all mid t c d to_mid.last well path right_t one_t here.since.last.alive here.lives s staying (spared_unharmed law x asked given chunk id e all mid c t d path spared) in
           let under : is_before (start_of (e + 1)) (slot_in chunk r).promise ≡ false = subst (λ n. is_before (start_of n) (slot_in chunk r).promise ≡ false) (sym next_epoch) below in
           let still_there = stays_at ends.0 r (same_server (slice_get t.nodes.servers id) ends.0 r ends.1 there) ends.2 under in
           subst (λ n. IsLiveWith x.config.chunk (start_of n) (settled_edits before chunk) (slot_in chunk r)) next_epoch
@@ -360,13 +360,13 @@ module _ (sizes : HaveSizes) (law : AreNumbered) {D : Type 0} (x : Setup D) (pre
             | inr still ↦ still
           ]
 
-      -- be it behind the commit
-      keeps_text : (all : List Step) (path : Runs x all mid c later last) → TakesNone x chunk id all mid c later last path → (r : Server) → slice_get later.nodes.servers id ≡ Some r → is_before (start_of after.durable.epoch) (slot_in chunk r).promise ≡ false →
+      -- be it after the commit
+      keeps_text : (all : List Step) (path : Runs x all mid c later last) → HarmsOrDropsNone x chunk id all mid c later last path → (r : Server) → slice_get later.nodes.servers id ≡ Some r → is_before (start_of after.durable.epoch) (slot_in chunk r).promise ≡ false →
           IsLiveWith x.config.chunk (start_of after.durable.epoch) (settled_edits before chunk) (slot_in chunk r)
       keeps_text all path = keeps_at later last right_last one_last all path
 
       -- or on the way to it
-      keeps_before : (left : List Step) (t : History D) (d : Account) → RunsUpgraded x left t d now after → (all : List Step) (path : Runs x all mid c t d) → TakesNone x chunk id all mid c t d path → (r : Server) → slice_get t.nodes.servers id ≡ Some r
+      keeps_before : (left : List Step) (t : History D) (d : Account) → RunsUpgraded x left t d now after → (all : List Step) (path : Runs x all mid c t d) → HarmsOrDropsNone x chunk id all mid c t d path → (r : Server) → slice_get t.nodes.servers id ≡ Some r
           → is_before (start_of after.durable.epoch) (slot_in chunk r).promise ≡ false → IsLiveWith x.config.chunk (start_of after.durable.epoch) (settled_edits before chunk) (slot_in chunk r)
       keeps_before left t d others = (
           let still_sent : StaySent t.sent now.sent = run_stays x asked given left t now d after (runs_of x left t now d after others) in
@@ -381,27 +381,27 @@ namers_have_the_text sizes law x prepared now before after chunk server s up rol
   λ later b steps r path spared there below. keeps_text sizes law x prepared now before after up rolling chunk server current later b steps path [] now after up (refl, refl) s found learned named_there steps path spared r there below,
 )
 
--- ---- a run on the way, and one behind it
+-- ---- a run on the way, and one after it
 
 module _ {D : Type 0} (x : Setup D) (chunk id : ℕ) (now : History D) (after : Account) (more : List Step) (later : History D) (b : Account) where
   -- joined, and in both nothing is taken
   abbrev Joined : (steps : List Step) (mid : History D) (c : Account) → Type 0
-  Joined steps mid c = (path : Runs x (steps ++ more) mid c later b) × TakesNone x chunk id (steps ++ more) mid c later b path
+  Joined steps mid c = (path : Runs x (steps ++ more) mid c later b) × HarmsOrDropsNone x chunk id (steps ++ more) mid c later b path
 
   abbrev Behind : History D → Account → Type 0
-  Behind h a = (path : Runs x more h a later b) × TakesNone x chunk id more h a later b path
+  Behind h a = (path : Runs x more h a later b) × HarmsOrDropsNone x chunk id more h a later b path
 
-  joined : (steps : List Step) (mid : History D) (c : Account) (rest : RunsUpgraded x steps mid c now after) → TakesNoneWithin x chunk id steps mid c now after rest → Behind now after → Joined steps mid c
+  joined : (steps : List Step) (mid : History D) (c : Account) (rest : RunsUpgraded x steps mid c now after) → HarmsOrDropsNoneWithin x chunk id steps mid c now after rest → Behind now after → Joined steps mid c
   joined [] mid c (is, same) kept behind = subst (λ h. Behind h c) is (subst (λ a. Behind now a) same behind)
   joined (step ∷ steps) mid c (next, d, moves, going, rest) kept behind = (let more_path = joined steps next d rest kept.1 behind in ((next, d, moves, more_path.0), (kept.0, more_path.1)))
 
 -- ---- a run with a step more
 
-module _ {D : Type 0} (x : Setup D) (chunk id : ℕ) (step : Step) (t u : History D) (d f : Account) (moves : Moves x step t d u f) (here : is_taken (call_in chunk (event_at step t.sent id) (slice_get t.nodes.servers id)) ≡ false) where
+module _ {D : Type 0} (x : Setup D) (chunk id : ℕ) (step : Step) (t u : History D) (d f : Account) (moves : Moves x step t d u f) (here : is_harm_or_drop (call_in chunk (event_at step t.sent id) (slice_get t.nodes.servers id)) ≡ false) where
   abbrev Longer : (all : List Step) (mid : History D) (c : Account) → Type 0
-  Longer all mid c = (path : Runs x (all ++ step ∷ []) mid c u f) × TakesNone x chunk id (all ++ step ∷ []) mid c u f path
+  Longer all mid c = (path : Runs x (all ++ step ∷ []) mid c u f) × HarmsOrDropsNone x chunk id (all ++ step ∷ []) mid c u f path
 
-  longer : (all : List Step) (mid : History D) (c : Account) (path : Runs x all mid c t d) → TakesNone x chunk id all mid c t d path → Longer all mid c
+  longer : (all : List Step) (mid : History D) (c : Account) (path : Runs x all mid c t d) → HarmsOrDropsNone x chunk id all mid c t d path → Longer all mid c
   longer [] mid c (is, same) kept = subst (λ h. Longer [] h c) is (subst (λ a. Longer [] t a) same ((u, f, moves, (refl, refl)), (here, tt)))
   longer (first ∷ all) mid c (next, g, one, rest) kept = (let more = longer all next g rest kept.1 in ((next, g, one, more.0), (kept.0, more.1)))
 
@@ -440,7 +440,7 @@ module _ (sizes : HaveSizes) (law : AreNumbered) {D : Type 0} (x : Setup D) (pre
       named_there : is_named after.durable.epoch (slot_in chunk l.after) ≡ true
       named_there = named_slot after.durable.epoch (store_of l.after) chunk (ap (λ hs. is_member hs chunk) (sym (l.names ∙ ap (λ n. named_at n after.durable.epoch (store_of l.after)) end)) ∙ member)
 
-      on_way : (left : List Step) (t : History D) (d : Account) (others : RunsUpgraded x left t d now after) (all : List Step) (path : Runs x all mid c t d) → TakesNone x chunk id all mid c t d path → KeepsOnTheWay x prepared now back before after last r chunk id place message left t d others
+      on_way : (left : List Step) (t : History D) (d : Account) (others : RunsUpgraded x left t d now after) (all : List Step) (path : Runs x all mid c t d) → HarmsOrDropsNone x chunk id all mid c t d path → KeepsOnTheWay x prepared now back before after last r chunk id place message left t d others
       on_way [] t d others all path kept = tt
       on_way (step ∷ left) t d (u, f, moves, going, others) all path kept = λ here_kept.
           let more = longer x chunk id step t u d f moves here_kept all mid c path kept in (

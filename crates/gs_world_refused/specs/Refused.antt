@@ -27,7 +27,7 @@ pub record IsNumberedIn {D : Type 0} (req : ReqId) (step : Step) (old new : Hist
   pub is : numbered step old new chunk ≡ Some found
   pub same : found.1.req ≡ req
 
--- A server refuses it at a step, be it the first time or again, and not for being older than another edit of its client; and memory isn't wanting for that.
+-- A server refuses it at a step, for the first time or again, and not as older than another edit of its client. Memory suffices for that.
 pub record IsRefusedIn {D : Type 0} (req : ReqId) (step : Step) (old new : History D) : Type 0 where
   pub server : ℕ
   pub s : Server
@@ -37,7 +37,7 @@ pub record IsRefusedIn {D : Type 0} (req : ReqId) (step : Step) (old new : Histo
   pub refused : IsRefusedAt event s req
   pub went : slice_get new.nodes.servers server ≡ Some (behind event s)
 
--- A client was told that its edit is refused, and not for being older than another one.
+-- A client was told that its edit is refused, and not as older than another one.
 pub record WasTold (sent : Sent) (req : ReqId) : Type 0 where
   pub message : Message
   pub refusal : Refusal
@@ -45,30 +45,30 @@ pub record WasTold (sent : Sent) (req : ReqId) : Type 0 where
   pub says : message.body ≡ bodies.Done req (Err refusal)
   pub other : refusal ≢ refusals.Old
 
--- no list of any chunk has it, nor what is kept of the last prepare
+-- no list of any chunk has it, nor has what is kept of the last prepare
 pub record StandsNowhere (req : ReqId) (a : Account) : Type 0 where
   pub lists : (chunk : ℕ) (stamp : Stamp) → AllByRecursion (λ (e : Edit). e.req ≢ req) (a.list chunk stamp)
   pub before : (chunk : ℕ) → AllByRecursion (λ (e : Edit). e.req ≢ req) (a.before chunk)
 
 module _ {D : Type 0} (x : Setup D) where
-  -- at none of some steps it is numbered
+  -- it is numbered at none of some steps
   abbrev pub NumbersNone : ReqId → (steps : List Step) (old : History D) (a : Account) (new : History D) (b : Account) → Runs x steps old a new b → Type 0
   NumbersNone req [] old a new b runs = Unit {0}
   NumbersNone req (step ∷ steps) old a new b (mid, c, moves, rest) = (IsNumberedIn req step old mid → ⊥) × NumbersNone req steps mid c new b rest
 
   -- ---- what is to hold
 
-  -- An edit that a server has refused is numbered at no later step, by no server: its message is to that server alone.
+  -- An edit that a server has refused is numbered at no later step, by any server: its message is to that server alone.
   abbrev pub RefusedAreNumberedNowhere : Type 0
   RefusedAreNumberedNowhere = (now mid later : History D) (a c b : Account) (step : Step) (steps : List Step) (req : ReqId) → IsReached x now a → Moves x step now a mid c → IsRefusedIn req step now mid → (runs : Runs x steps mid c later b) →
       (IsNumberedIn req step now mid → ⊥) × NumbersNone req steps mid c later b runs
 
-  -- So one that no step before has numbered stands in no list then and later: it is never settled.
+  -- If no step before has numbered it either, it stands in no list, then or later. So it is never settled.
   abbrev pub RefusedStandNowhere : Type 0
   RefusedStandNowhere = (now mid later : History D) (a c b : Account) (step : Step) (steps : List Step) (req : ReqId) (r : IsReached x now a) → NumbersNone req r.steps r.begun r.first now a r.runs → Moves x step now a mid c → IsRefusedIn req step now mid →
       Runs x steps mid c later b → StandsNowhere req b
 
-  -- The same of one of which a client was told that it is refused.
+  -- The same of an edit of which a client was told that it is refused.
   abbrev pub ToldAreNumberedNowhere : Type 0
   ToldAreNumberedNowhere = (now later : History D) (a b : Account) (steps : List Step) (req : ReqId) → IsReached x now a → WasTold now.sent req → (runs : Runs x steps now a later b) → NumbersNone req steps now a later b runs
 

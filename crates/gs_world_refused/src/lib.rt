@@ -1,4 +1,4 @@
-//! What becomes of an edit that a chunkserver has refused, over runs of a store: where no step before has numbered it, it is settled nowhere.
+//! What becomes, over runs of a store, of an edit that a chunkserver has refused. If no step before has numbered it, it is settled nowhere.
 #![tactic(auto)]
 
 ghost use Rattle.gs_world_chunks.specs.Running.{Setup};
@@ -9,8 +9,9 @@ use gs_server_refused::{
 };
 use gs_world_chunks::each_chunk_of_a_store_is_a_run_of_its_machine;
 
-/// An edit that a chunkserver has refused, but for being older than another one of its client, is numbered at no later step of a run, whatever messages come, how often and in which order, whatever is restarted, lost or damaged, and whatever
-/// disks of the master fail: that server doesn't, and no other is asked. So where no step before has numbered it, no list of any chunk has it, then or later, and it is never settled.
+/// An edit that a chunkserver has refused is numbered at no later step of a run, unless it was refused as older than another one of its client.
+/// That server doesn't number it, and no other is asked to. If no step before has numbered it either, no list of any chunk has it, then or later. So it is never settled.
+/// Messages may come in any order and any number of times, nodes may restart, replicas may be lost or damaged, and disks of the master may fail.
 pub fn a_refused_edit_is_settled_nowhere<D>()
     ensures numbered { (x : Setup D) → RefusedAreNumberedNowhere x }
     ensures settled { (x : Setup D) → RefusedStandNowhere x }
@@ -19,7 +20,8 @@ pub fn a_refused_edit_is_settled_nowhere<D>()
     each_chunk_of_a_store_is_a_run_of_its_machine::<D>();
 }
 
-/// The same of each edit of which a client was told that it is refused, but for being older than another one of it: it is numbered at no later step, and where no step before has numbered it, it stands in no list, then or later.
+/// The same holds of each edit of which a client was told that it is refused, and not as older than another one.
+/// It is numbered at no later step. If no step before has numbered it, it stands in no list, then or later.
 pub fn an_edit_that_was_told_refused_is_settled_nowhere<D>()
     ensures numbered { (x : Setup D) → ToldAreNumberedNowhere x }
     ensures settled { (x : Setup D) → ToldStandNowhere x }

@@ -1,4 +1,4 @@
-use Rattle.gs_server_refused.proofs.Refused.{over_are_left, over_not_numbered, over_stay, refused_are_never_numbered, refused_are_not_numbered, refused_are_over}
+use Rattle.gs_server_refused.proofs.Refused.{over_change_nothing, over_not_numbered, over_stay, refused_are_never_numbered, refused_are_not_numbered, refused_are_over}
 use Rattle.gs_server_refused.proofs.a_refused_edit_is_never_numbered.Goals as goal
 
 pub returns-clause-over : goal.returns-clause-over
@@ -7,8 +7,8 @@ returns-clause-over c = refused_are_over
 pub returns-clause-stay : goal.returns-clause-stay
 returns-clause-stay c = over_stay
 
-pub returns-clause-left : goal.returns-clause-left
-returns-clause-left c = over_are_left
+pub returns-clause-unchanged : goal.returns-clause-unchanged
+returns-clause-unchanged c = over_change_nothing
 
 pub returns-clause-later : goal.returns-clause-later
 returns-clause-later c = refused_are_not_numbered
