@@ -36,7 +36,8 @@ use Rattle.gs_master_spec.specs.Volatile.{is_pending}
 use Rattle.gs_master_spec.specs.Working.{scan_edits, scan_plan, scanned, waiting_for}
 use Rattle.gs_master_spec.specs.declared.change.Change.TheVariants as changes
 use Rattle.gs_master_spec.specs.declared.pending.Pending.{Pending}
-use Rattle.gs_master_asked_for.specs.Ended.{EndsAreAnswered, IsAmong, IsAnsweredOnly, SaysOnly, ScansAreExact, ScansSo, epoch_told, forgotten_at, is_of_scan, removed_at}
+use Rattle.gs_master_copies.specs.Held.{IsIn}
+use Rattle.gs_master_asked_for.specs.Ended.{EndsAreAnswered, IsAnsweredOnly, SaysOnly, ScansAreExact, ScansSo, epoch_told, forgotten_at, is_of_scan, removed_at}
 
 -- ---- choices
 
@@ -95,7 +96,7 @@ not_waiting req (p ∷ ps) none = by_head (same_op req p.req) refl none (not_wai
 -- ---- a turn, if it leaves the record, answers its epoch
 
 abbrev Answers : ReqId → Call → Turn → Type 0
-Answers req call t = (entry : PlainEntry) (epoch : ℕ) → IsAmong entry t.records → epoch_told call entry ≡ Some epoch → IsAnsweredOnly req (Ok (answers.Epoch epoch)) t.sent
+Answers req call t = (entry : PlainEntry) (epoch : ℕ) → IsIn entry t.records → epoch_told call entry ≡ Some epoch → IsAnsweredOnly req (Ok (answers.Epoch epoch)) t.sent
 
 none_told : (call : Call) (to : ReqId) (refusal : Refusal) → epoch_told call (Said to refusal) ≡ None
 none_told calls.PrepareCommit to refusal = refl
@@ -108,7 +109,7 @@ none_told call to refusal = refl
 abbrev AreNone : Call → List PlainEntry → Type 0
 AreNone call records = AllByRecursion (λ entry. epoch_told call entry ≡ None) records
 
-none_among : (call : Call) (records : List PlainEntry) (entry : PlainEntry) (epoch : ℕ) → AreNone call records → IsAmong entry records → epoch_told call entry ≡ Some epoch → ⊥
+none_among : (call : Call) (records : List PlainEntry) (entry : PlainEntry) (epoch : ℕ) → AreNone call records → IsIn entry records → epoch_told call entry ≡ Some epoch → ⊥
 none_among call [] entry epoch all here is = here
 none_among call (x ∷ xs) entry epoch all (inl same) is = none_some (sym all.0 ∙ ap (epoch_told call) same ∙ is)
 none_among call (x ∷ xs) entry epoch all (inr here) is = none_among call xs entry epoch all.1 here is
@@ -136,9 +137,9 @@ refused_answers s to req call refusal = none_answers to call (refused s req refu
 
 -- its first record is such, and it answers the epoch
 first_answers : (req : ReqId) (call : Call) (t : Turn) (first : PlainEntry) (rest : List PlainEntry) (now : ℕ) → t.records ≡ first ∷ rest → epoch_told call first ≡ Some now → AreNone call rest → IsAnsweredOnly req (Ok (answers.Epoch now)) t.sent → Answers req call t
-first_answers req call t first rest now records told none answered entry epoch here is = by_place (subst (IsAmong entry) records here)
+first_answers req call t first rest now records told none answered entry epoch here is = by_place (subst (IsIn entry) records here)
   where
-    by_place : (first ≡ entry) ⊎ IsAmong entry rest → IsAnsweredOnly req (Ok (answers.Epoch epoch)) t.sent
+    by_place : (first ≡ entry) ⊎ IsIn entry rest → IsAnsweredOnly req (Ok (answers.Epoch epoch)) t.sent
     by_place (inl same) = subst (λ n. IsAnsweredOnly req (Ok (answers.Epoch n)) t.sent) (some_is (sym told ∙ ap (epoch_told call) same ∙ is)) answered
     by_place (inr there) = absurd (none_among call rest entry epoch none there is)
 

@@ -17,6 +17,7 @@ use Rattle.gs_msg.specs.declared.message.Message.{Message}
 use Rattle.gs_path.specs.Path.{Path}
 use Rattle.gs_master_record.specs.Plain.{Edited, Finalize, Forget, PlainEntry, Prepare, Remove, RollbackBegin, RollbackCommit}
 use Rattle.gs_master_asked.specs.AtOnce.{OneSays}
+use Rattle.gs_master_copies.specs.Held.{IsIn}
 use Rattle.gs_master_record.specs.declared.checkpoint.Phase.TheVariants.{Upgrade}
 use Rattle.gs_master_spec.specs.Durable.{start}
 use Rattle.gs_master_spec.specs.Handling.{call_turn, fresh, new_call}
@@ -24,11 +25,6 @@ use Rattle.gs_master_spec.specs.Settling.{own_request}
 use Rattle.gs_master_spec.specs.State.{Log, State, Turn, reply_to}
 use Rattle.gs_master_spec.specs.Volatile.{is_pending}
 use Rattle.gs_master_spec.specs.Working.{forgotten_chunks, removed_paths, scan_edits}
-
--- an entry is one of some
-abbrev pub IsAmong : PlainEntry → List PlainEntry → Type 0
-IsAmong entry [] = ⊥
-IsAmong entry (x ∷ xs) = (x ≡ entry) ⊎ IsAmong entry xs
 
 -- ---- the end of an epoch
 
@@ -53,7 +49,7 @@ pub record IsAnsweredOnly (req : ReqId) (result : Result Answer Refusal) (messag
 -- Such a call, which doesn't wait, may leave its record. Then it is answered the epoch that the record tells, and nothing else. So a call that is refused has left none.
 abbrev pub EndsAreAnswered : Type 0
 EndsAreAnswered = (config : Config) (s : State) (req : ReqId) (moment : Moment) (call : Call) (entry : PlainEntry) (epoch : ℕ) → is_pending s.volatile.pending req ≡ false → let t = call_turn config s req moment call in
-    IsAmong entry t.records → epoch_told call entry ≡ Some epoch → IsAnsweredOnly req (Ok (answers.Epoch epoch)) t.sent
+    IsIn entry t.records → epoch_told call entry ≡ Some epoch → IsAnsweredOnly req (Ok (answers.Epoch epoch)) t.sent
 
 -- ---- a scan
 

@@ -8,7 +8,8 @@ use Rattle.gs_base.specs.declared.numbers.ReqId.{ReqId}
 use Rattle.gs_base.specs.declared.refusal.Refusal.TheVariants as refusals
 use Rattle.gs_master.specs.Masters.{MasterOf}
 use Rattle.gs_master_asked_for.proofs.Ended.{ends_are_answered}
-use Rattle.gs_master_asked_for.specs.Ended.{IsAmong, IsAnsweredOnly, epoch_told}
+use Rattle.gs_master_copies.specs.Held.{IsIn}
+use Rattle.gs_master_asked_for.specs.Ended.{IsAnsweredOnly, epoch_told}
 use Rattle.gs_master_asked_for.specs.Recorded.{IsRecordedFor}
 use Rattle.gs_master_moves.specs.ForCalls.{IsNew}
 use Rattle.gs_master_moves.specs.Laws.{said_from}
@@ -39,13 +40,13 @@ use Rattle.gs_world_asked_for.specs.Asked.{EndsAreCalled, IsEndCalled, heard_at,
 none_some : {A : Type 0} {a : A} → ◌≡◌ {A = Option A} None (Some a) → ⊥
 none_some h = absurd (cc)
 
-one_among : (P : PlainEntry → Type 0) (entry : PlainEntry) (records : List PlainEntry) → AllByRecursion P records → IsAmong entry records → P entry
+one_among : (P : PlainEntry → Type 0) (entry : PlainEntry) (records : List PlainEntry) → AllByRecursion P records → IsIn entry records → P entry
 one_among P entry [] all among = absurd among
 one_among P entry (x ∷ records) all (inl is) = subst P is all.0
 one_among P entry (x ∷ records) all (inr among) = one_among P entry records all.1 among
 
-none_among : (entry : PlainEntry) (records : List PlainEntry) → records ≡ [] → IsAmong entry records → ⊥
-none_among entry records none among = subst (IsAmong entry) none among
+none_among : (entry : PlainEntry) (records : List PlainEntry) → records ≡ [] → IsIn entry records → ⊥
+none_among entry records none among = subst (IsIn entry) none among
 
 -- ---- what is heard is the call, and the turn is its own
 
@@ -91,16 +92,16 @@ module _ {D : Type 0} (now : History D) (m : MasterOf D) (t : Turn) (by : ℕ) (
   own_at (Comes event) made is = by_happening event.moment event.happening made is
   own_at (Takes client) made is = absurd made
 
-module _ {D : Type 0} (now : History D) (step : Step) (m : MasterOf D) (t : Turn) (made : TurnsAt step now m t) (entry : PlainEntry) (among : IsAmong entry t.records) where
+module _ {D : Type 0} (now : History D) (step : Step) (m : MasterOf D) (t : Turn) (made : TurnsAt step now m t) (entry : PlainEntry) (among : IsIn entry t.records) where
   called : (req : ReqId) (call : Call) (epoch : ℕ) → IsNew (heard_at step now.sent) m.state req call → epoch_told call entry ≡ Some epoch → IsEndCalled step now entry t
   called req call epoch new told = record { from = new.heard_so.0; req = req; call = call; epoch = epoch; comes = new.heard_so.1; tells = told; answered = (let own = own_at now m t new.heard_so.0 req call step made new.heard_so.1 in by_turn own.0 own.1) }
     where
       by_turn : (at : Moment) → IsOwn m.config m.state at new.heard_so.0 req call t → IsAnsweredOnly req (Ok (answers.Epoch epoch)) t.sent
       by_turn at (inl is) =
-          subst (λ (u : Turn). IsAnsweredOnly req (Ok (answers.Epoch epoch)) u.sent) (sym is) (ends_are_answered m.config m.state req at call entry epoch new.rests (subst (λ (u : Turn). IsAmong entry u.records) is among) told)
+          subst (λ (u : Turn). IsAnsweredOnly req (Ok (answers.Epoch epoch)) u.sent) (sym is) (ends_are_answered m.config m.state req at call entry epoch new.rests (subst (λ (u : Turn). IsIn entry u.records) is among) told)
       by_turn at (inr none) = absurd (none_among entry t.records none among)
 
-by_entry : {D : Type 0} (now : History D) (step : Step) (m : MasterOf D) (t : Turn) → TurnsAt step now m t → (all : List (ReqId × Call)) (call : Call) (entry : PlainEntry) (epoch : ℕ) → epoch_told call entry ≡ Some epoch → IsAmong entry t.records → IsRecordedFor all m.config (heard_at step now.sent) m.state t entry
+by_entry : {D : Type 0} (now : History D) (step : Step) (m : MasterOf D) (t : Turn) → TurnsAt step now m t → (all : List (ReqId × Call)) (call : Call) (entry : PlainEntry) (epoch : ℕ) → epoch_told call entry ≡ Some epoch → IsIn entry t.records → IsRecordedFor all m.config (heard_at step now.sent) m.state t entry
     → IsEndCalled step now entry t
 by_entry now step m t made all calls.PrepareCommit (Prepare e moment chunks) epoch told among is = called now step m t made (Prepare e moment chunks) among is.0 calls.PrepareCommit epoch is.1 told
 by_entry now step m t made all calls.PrepareCommit entry epoch told among is = absurd (none_some told)

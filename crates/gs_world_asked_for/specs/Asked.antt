@@ -6,7 +6,8 @@ use Rattle.gs_base.specs.declared.numbers.ClientId.{ClientId}
 use Rattle.gs_base.specs.declared.numbers.ReqId.{ReqId}
 use Rattle.gs_journal.specs.Records.{fresh, standing}
 use Rattle.gs_master.specs.Masters.{MasterOf}
-use Rattle.gs_master_asked_for.specs.Ended.{IsAmong, IsAnsweredOnly, epoch_told}
+use Rattle.gs_master_copies.specs.Held.{IsIn}
+use Rattle.gs_master_asked_for.specs.Ended.{IsAnsweredOnly, epoch_told}
 use Rattle.gs_master_asked_for.specs.Events.{IsAskedTurn}
 use Rattle.gs_master_asked_for.specs.Recorded.{IsRecordedFor}
 use Rattle.gs_master_asked_for.specs.Waits.{AreAskedFor, WasCalled}
@@ -144,7 +145,7 @@ module _ {D : Type 0} (seen : D → List ℕ) (failures : D → ℕ) (armed : Di
 
   -- The call that ends an epoch comes at the step that records it.
   abbrev pub EndsAreCalled : Type 0
-  EndsAreCalled = (now : History D) (step : Step) (m : MasterOf D) (t : Turn) (entry : PlainEntry) → HasRun now → IsStepWithin step → now.nodes.master ≡ Standing m → is_failed m.state.fault ≡ false → TurnsAt step now m t → IsEnd entry → IsAmong entry t.records → IsEndCalled step now entry t
+  EndsAreCalled = (now : History D) (step : Step) (m : MasterOf D) (t : Turn) (entry : PlainEntry) → HasRun now → IsStepWithin step → now.nodes.master ≡ Standing m → is_failed m.state.fault ≡ false → TurnsAt step now m t → IsEnd entry → IsIn entry t.records → IsEndCalled step now entry t
 
 -- ---- examples
 
