@@ -32,6 +32,7 @@ use Rattle.gs_master_spec.specs.declared.asking.Asking.{Asking}
 use Rattle.gs_master_spec.specs.declared.change.Change.TheVariants as changes
 use Rattle.gs_master_spec.specs.declared.pending.Pending.{Pending}
 use Rattle.gs_master_spec.specs.declared.pending.Waiting.{Waiting}
+use Rattle.gs_master_spec.specs.declared.pending.Waiting.TheVariants as waits
 use Rattle.gs_master_laws.specs.Standing.{CanWait, IsSought, IsToldCount, IsToldWaiting, Stands, may_ask, was_answered}
 use Rattle.gs_master_laws.proofs.AcceptedViews.{is_settled, or_left, or_right, proposes}
 use Rattle.gs_master_laws.proofs.Fresh.{next_is_fresh, not_false, left_after}
@@ -113,6 +114,15 @@ unwaited req f (p ∷ ps) out = by_test (same_call req p.req) refl out (λ h. un
     by_test : (c : Bool) → same_call req p.req ≡ c → (c || is_pending ps req) ≡ false → (is_pending ps req ≡ false → list_all (λ (q : Pending). not (same_call q.req req) || f q.waits) ps ≡ true) → ((not (same_call p.req req) || f p.waits) && list_all (λ (q : Pending). not (same_call q.req req) || f q.waits) ps) ≡ true
     by_test true is h rest = absurd (true≢false h)
     by_test false is h rest = both_true (not (same_call p.req req) || f p.waits) _ (ap (λ b. not b || f p.waits) (other_way req p.req is)) (rest h)
+
+-- who makes a chunk waits for no lease
+makes_asks : (chunk : ℕ) (w : Waiting) → makes chunk w ≡ true → may_ask purposes.Quiet w ≡ true
+makes_asks chunk (waits.Extend path new) is = refl
+makes_asks chunk (waits.Lease path index leased) is = absurd (false≢true is)
+makes_asks chunk (waits.Quiet path index quiet) is = refl
+makes_asks chunk (waits.Copy path index old new) is = refl
+makes_asks chunk (waits.Snapshot from to) is = refl
+makes_asks chunk (waits.Replicate copied target) is = refl
 
 -- a call that has just begun to wait
 pub for_begun : (d : Durable) (v : Volatile) (p : Pending) (chunk : ℕ) (purpose : Purpose) → is_pending v.pending p.req ≡ false → may_wait_for chunk p.waits ≡ true → may_ask purpose p.waits ≡ true → IsFor d (changed v (changes.Begin p)) chunk purpose (Some p.req)
@@ -318,7 +328,7 @@ module _ (b : Bool) (s : State) (req : ReqId) (h : Holds b s) (may : MayBegin s 
       room_good b s req (turned s whole) h
       (one_good b s (Propose new s.durable.next_version) whole (proposed s.durable new s.durable.next_version) (proposes s.durable new zero may.rolling some (or_right (is_settled s.durable new) (is_fresh new new) (next_is_fresh new 1 (omega arith) one)))
       (proposed_new s.durable (changed s.volatile (changes.Begin (waiting_call waiting))) purposes.Quiet members (Some req) (begun_call waiting (visible, told one)) may.rolling some one refl
-      (for_begun s.durable s.volatile (waiting_call waiting) new purposes.Quiet may.out right refl) (made_begun s.volatile (waiting_call waiting) new makes_it))
+      (for_begun s.durable s.volatile (waiting_call waiting) new purposes.Quiet may.out right (makes_asks new waiting makes_it)) (made_begun s.volatile (waiting_call waiting) new makes_it))
       (not_rolling (proposed s.durable new s.durable.next_version) refl)
       (λ n. keeps_numbers (Propose new s.durable.next_version) refl s.durable (proposed s.durable new s.durable.next_version) tt h.stands.kept n (proposes s.durable new zero may.rolling some (or_right (is_settled s.durable new) (is_fresh new new) (next_is_fresh new 1 (omega arith) one)))))))
 

@@ -84,10 +84,11 @@ OverMakeNothing = (config : Config) (s : State) (req : ReqId) (moment : Moment) 
 
 -- ---- what is asked for a chunk
 
--- a lease is asked for a call only where it waits for one
+-- a lease is asked for a call just where it waits for one
 abbrev pub may_ask : Purpose → Waiting → Bool
 may_ask purposes.Lease (waits.Lease path index chunk) = true
 may_ask purposes.Lease waiting = false
+may_ask purpose (waits.Lease path index chunk) = false
 may_ask purpose waiting = true
 
 abbrev pub IsToldCount : Option ℕ → Type 0

@@ -19,22 +19,24 @@ use Rattle.gs_path.specs.Path.{Path}
 use Rattle.gs_place.specs.Targets.{candidates, comes_before, first_candidate, is_candidate, picked_from}
 use Rattle.gs_tree.specs.Entry.{Entry, Dir, File}
 use Rattle.gs_tree.specs.Find.{Rows}
-use Rattle.gs_tree.specs.Edits.{same_path, hidden_path, target_of}
+use Rattle.gs_tree.specs.Edits.{same_path, hidden_path, target_of, chunks_in}
 use Rattle.gs_edit.specs.View.{NamesView}
 use Rattle.gs_lease.specs.declared.view.Purpose.TheVariants as purposes
+use Rattle.gs_lease.specs.declared.view.Term.{Term}
 use Rattle.gs_lease.specs.declared.view.View.{View}
+use Rattle.gs_lock.specs.Locks.{stands_in_the_way}
 use Rattle.gs_msg.specs.declared.answer.Answer.{Answer}
 use Rattle.gs_msg.specs.declared.answer.Answer.TheVariants as answers
 use Rattle.gs_master_record.specs.Plain.{PlainEdit, Hide, Snapshot, Rename}
 use Rattle.gs_master_spec.specs.Applied.{is_visible, view_in}
 use Rattle.gs_master_spec.specs.Beginning.{next_stamp, has_versions, has_handle, all_begun, begin_at, copy_plan, create_plan, waits_from_now, targets_for, counted_views, replica_counts}
-use Rattle.gs_master_spec.specs.Calls.{chunks_at, is_shared_in, answered_with, edited_by, edit_if, accept_plan, deleted, has_visible_child, looked_up, listing, status, location, location_on, found_chunk, is_shared, most_chunks, renames}
+use Rattle.gs_master_spec.specs.Calls.{chunks_at, is_shared_in, answered_with, edited_by, edit_if, accept_plan, deleted, has_visible_child, looked_up, listing, status, location, location_on, found_chunk, is_shared, most_chunks, renames, gets_chunk}
 use Rattle.gs_master_spec.specs.Chunks.{Chunk, chunk_at, has_entry, is_leased, is_quiet, is_wanted, members_of, members_in, view_of}
 use Rattle.gs_master_spec.specs.Durable.{Settled, is_given, is_listed, is_rolling}
 use Rattle.gs_master_spec.specs.Settling.{is_quiet_at, source_chunks}
 use Rattle.gs_master_spec.specs.State.{State, Plan, Turn, turned, and_then, if_room, joined, refused, all_ended_by}
 use Rattle.gs_master_spec.specs.Undoing.{edited_names}
-use Rattle.gs_master_spec.specs.Working.{ascending, begins, begins_new, may_use, leased, copied_on_write, written_at, found_for_writing, created_on, extended_at, extends, unquiet, is_wanted_at, begin_pending, begins_snapshot, snapshot_if, replicated_to, replicates_chunk, replicates_most, scanned, scan_plan, waiting_for, waits_for_any, removed_paths, forgotten_chunks, put_handles}
+use Rattle.gs_master_spec.specs.Working.{ascending, begins, begins_new, may_use, is_below, is_stamp, leased, copied_on_write, written_at, found_for_writing, created_on, extended_at, extends, unquiet, is_wanted_at, begin_pending, begins_snapshot, snapshot_if, replicated_to, replicates_chunk, replicates_most, scanned, scan_plan, waiting_for, waits_for_any, removed_paths, forgotten_chunks, put_handles}
 use Rattle.gs_master_spec.specs.Volatile.{is_pending}
 use Rattle.gs_master_spec.specs.declared.pending.Pending.{Pending}
 use Rattle.gs_master_spec.specs.declared.pending.Waiting.{Waiting}
@@ -51,6 +53,8 @@ use Rattle.gs_master_laws.proofs.AcceptedViews.{ascending_all, fewer_rows, or_le
 use Rattle.gs_master_laws.proofs.StandingCalls.{all_placed, found_placed, is_placed}
 use Rattle.gs_master_moves.proofs.Chains.{Chained, Turned, all_begun_chain, answered_chain, closing_chain, is_located, joined_together, looked_chain, refused_chain, room_chain, room_turned, test_chain, test_turned, then_chain, within}
 use Rattle.gs_master_moves.specs.Epochs.{ByItself, Closes}
+use Rattle.gs_master_moves.specs.ForCalls.{HasChunks, IsFor, IsLed, IsLookedUpFor, IsNew, StandsAt}
+use Rattle.gs_msg.specs.declared.call.Call.TheVariants as calls
 use Rattle.gs_master_moves.proofs.Ended.{some_pending}
 use Rattle.gs_master_moves.proofs.Free.{alone_free, found_here, shared_free}
 use Rattle.gs_master_moves.specs.Guards.{IsCalled, IsFree, IsOpenAt, IsRefusable, Heard, IsNext, TakesPlace, is_location, is_of_tree, is_still_for, moved_by}
@@ -203,15 +207,15 @@ all_still f xs none = all_of f xs xs (λ k here. not_false (f k) (none_passes (�
 module _ (config : Config) (heard : Heard) where
   -- ---- calls of the tree
 
-  edit_chain : (s : State) (req : ReqId) (edit : PlainEdit) (answer : Answer) → is_of_tree edit ≡ true → is_still_for s edit ≡ true → is_location answer ≡ false → IsFree s req [] (moved_by edit) → IsCalled heard s req → (names : Result NamesView Refusal) → edited_names edit s.durable.names ≡ names → Chained config heard s (edit_if s req edit answer names)
-  edit_chain s req edit answer tree still plain free called (Ok names) e = room_chain config heard s req (called, free.new) (turned s (accept_plan req edit answer)) (Moves s (Edits req edit answer) None (record { called = called; edits = (names, e); tree = tree; still = still; answers = plain; free = free }))
-  edit_chain s req edit answer tree still plain free called (Err refusal) e = refused_chain config heard s req (called, free.new) refusal
+  edit_chain : (s : State) (req : ReqId) (edit : PlainEdit) (answer : Answer) → is_of_tree edit ≡ true → is_still_for s edit ≡ true → is_location answer ≡ false → IsFree s req [] (moved_by edit) → IsCalled heard s req → IsFor heard s (Edits req edit answer) → (names : Result NamesView Refusal) → edited_names edit s.durable.names ≡ names → Chained config heard s (edit_if s req edit answer names)
+  edit_chain s req edit answer tree still plain free called for (Ok names) e = room_chain config heard s req (called, free.new) (turned s (accept_plan req edit answer)) (Moves s (Edits req edit answer) None (record { called = called; edits = (names, e); tree = tree; still = still; answers = plain; free = free }, for))
+  edit_chain s req edit answer tree still plain free called for (Err refusal) e = refused_chain config heard s req (called, free.new) refusal
 
-  edited_chain : (s : State) (req : ReqId) (edit : PlainEdit) (answer : Answer) → is_of_tree edit ≡ true → is_still_for s edit ≡ true → is_location answer ≡ false → IsFree s req [] (moved_by edit) → IsCalled heard s req → Chained config heard s (edited_by s req edit answer)
-  edited_chain s req edit answer tree still plain free called = edit_chain s req edit answer tree still plain free called (edited_names edit s.durable.names) refl
+  edited_chain : (s : State) (req : ReqId) (edit : PlainEdit) (answer : Answer) → is_of_tree edit ≡ true → is_still_for s edit ≡ true → is_location answer ≡ false → IsFree s req [] (moved_by edit) → IsCalled heard s req → IsFor heard s (Edits req edit answer) → Chained config heard s (edited_by s req edit answer)
+  edited_chain s req edit answer tree still plain free called for = edit_chain s req edit answer tree still plain free called for (edited_names edit s.durable.names) refl
 
-  deleted_chain : (s : State) (req : ReqId) (path : Path) (recursive : Bool) (moment : Moment) → IsFree s req [] (path ∷ []) → IsCalled heard s req → Chained config heard s (deleted s req path recursive moment)
-  deleted_chain s req path recursive moment free called =
+  deleted_chain : (s : State) (req : ReqId) (path : Path) (recursive : Bool) (moment : Moment) → IsFree s req [] (path ∷ []) → IsCalled heard s req → IsNew heard s req (calls.Delete path recursive) → Chained config heard s (deleted s req path recursive moment)
+  deleted_chain s req path recursive moment free called for =
       let hides = edited_by s req (Hide path moment.0 s.durable.next_hidden) (answers.Path (hidden_path path moment.0 s.durable.next_hidden)) in
       let third = if s.durable.next_hidden == 0 then refused s req refusals.Exhausted else hides in
       let second = if not recursive && has_visible_child (fin.entries s.durable.names.tree) path then refused s req refusals.NotEmpty else third in
@@ -219,7 +223,7 @@ module _ (config : Config) (heard : Heard) where
       (λ _. test_chain config heard s (is_none (fin.get s.durable.names.tree path)) _ second (λ _. answered_chain config heard s req answers.Absent refl)
       (λ _. test_chain config heard s (not recursive && has_visible_child (fin.entries s.durable.names.tree) path) (refused s req refusals.NotEmpty) third (λ _. refused_chain config heard s req (called, free.new) refusals.NotEmpty)
       (λ _. test_chain config heard s (s.durable.next_hidden == 0) (refused s req refusals.Exhausted) hides (λ _. refused_chain config heard s req (called, free.new) refusals.Exhausted)
-      (λ _. edited_chain s req (Hide path moment.0 s.durable.next_hidden) (answers.Path (hidden_path path moment.0 s.durable.next_hidden)) refl refl refl free called))))
+      (λ _. edited_chain s req (Hide path moment.0 s.durable.next_hidden) (answers.Path (hidden_path path moment.0 s.durable.next_hidden)) refl refl refl free called (calls.Delete path recursive, for, (moment.0, refl))))))
 
   -- ---- look-ups
 
@@ -234,13 +238,14 @@ module _ (config : Config) (heard : Heard) where
   status_plain s (Some (File chunks)) = refl
 
   -- Where a chunk of a file is looked up, the answer is a turn by itself.
-  pub located_turned : (s : State) (req : ReqId) → IsCalled heard s req → is_pending s.volatile.pending req ≡ false → (chunk : Result ℕ Refusal) → is_rolling s.durable.phase ≡ false → ((c : ℕ) → chunk ≡ Ok c → is_listed s.durable c ≡ true) → Turned config heard s (looked_up s req (location s.durable chunk))
-  located_turned s req called new (Err refusal) calm listed = within config heard (refused_chain config heard s req (called, new) refusal)
-  located_turned s req called new (Ok chunk) calm listed = by_view (view_in (fin.get s.durable.chunks chunk)) refl
+  pub located_turned : (s : State) (req : ReqId) → IsCalled heard s req → is_pending s.volatile.pending req ≡ false → (chunk : Result ℕ Refusal) → is_rolling s.durable.phase ≡ false → ((c : ℕ) → chunk ≡ Ok c → is_listed s.durable c ≡ true)
+      → ((c : ℕ) (view : View) → chunk ≡ Ok c → view_in (fin.get s.durable.chunks c) ≡ Some view → IsLookedUpFor heard s req c view) → Turned config heard s (looked_up s req (location s.durable chunk))
+  located_turned s req called new (Err refusal) calm listed for = within config heard (refused_chain config heard s req (called, new) refusal)
+  located_turned s req called new (Ok chunk) calm listed for = by_view (view_in (fin.get s.durable.chunks chunk)) refl
     where
       by_view : (o : Option View) → view_in (fin.get s.durable.chunks chunk) ≡ o → Turned config heard s (looked_up s req (location_on chunk s.durable.epoch o))
       by_view None is = within config heard (refused_chain config heard s req (called, new) refusals.NoReplica)
-      by_view (Some view) is = ByItself s (AnswersCall req (answers.Location chunk view s.durable.epoch) false) None (record { settled = is; now = refl; listed = listed chunk refl; calm = calm }, tt, called) refl
+      by_view (Some view) is = ByItself s (AnswersCall req (answers.Location chunk view s.durable.epoch) false) None ((record { settled = is; now = refl; listed = listed chunk refl; calm = calm }, tt, called), for chunk view refl is) refl
 
   -- a chunk that was found in a file is listed
   pub found_listed : (s : State) (path : Path) (index chunk : ℕ) → IsKept s.durable → found_chunk (fin.get s.durable.names.tree path) index ≡ Ok chunk → is_listed s.durable chunk ≡ true
@@ -258,24 +263,40 @@ module _ (config : Config) (heard : Heard) where
       test_chain config heard s (not (has_handle s.durable)) (refused s req refusals.Exhausted) (begins s req plan waiting) (λ _. refused_chain config heard s req may refusals.Exhausted) (λ _. begins_chain s req may plan waiting a)
 
   leased_turned : (s : State) (req : ReqId) → IsCalled heard s req → (path : Path) (index : ℕ) (stamp : Option Stamp) (moment : Moment) (chunk : ℕ) (c : Chunk) → IsOpenAt s req chunk → is_pending s.volatile.pending req ≡ false → has_entry s chunk ≡ true → is_shared s.durable.names chunk ≡ false → is_rolling s.durable.phase ≡ false → is_listed s.durable chunk ≡ true
+      → IsNew heard s req (calls.FindForWriting path index stamp) → StandsAt s.durable.names path index chunk → is_visible path ≡ true → IsFree s req (path ∷ []) [] → view_of c ≡ view_in (fin.get s.durable.chunks chunk)
       → Turned config heard s (leased s req path index stamp moment chunk c)
-  leased_turned s req called path index stamp moment chunk c clear new known alone calm listed =
+  leased_turned s req called path index stamp moment chunk c clear new known alone calm listed for here visible free sees =
       let begin = begins s req (begin_at s chunk purposes.Lease (Some req)) (waits.Lease path index chunk) in
       test_turned config heard s (is_leased c && may_use stamp moment (view_of c)) (looked_up s req (location s.durable (Ok chunk))) (if is_wanted c then refused s req refusals.Locked else begin)
-      (λ _. located_turned s req called new (Ok chunk) calm (λ b is. ap (is_listed s.durable) (sym (same chunk b is)) ∙ listed))
+      (λ led. located_turned s req called new (Ok chunk) calm (λ b is. ap (is_listed s.durable) (sym (same chunk b is)) ∙ listed)
+      (λ b view is has. (calls.FindForWriting path index stamp, for, (here ∙ ap Some (same chunk b is), led_by (view_of c) view (and_parts (is_leased c) (may_use stamp moment (view_of c)) led).1 (sees ∙ ap (λ q. view_in (fin.get s.durable.chunks q)) (same chunk b is) ∙ has)))))
       (λ _. within config heard (test_chain config heard s (is_wanted c) (refused s req refusals.Locked) begin (λ _. refused_chain config heard s req (called, new) refusals.Locked)
-      (λ _. begins_chain s req (called, new) (begin_at s chunk purposes.Lease (Some req)) (waits.Lease path index chunk) (Moves s (Begins chunk purposes.Lease (Some req) (FromNow req (waits.Lease path index chunk))) None (record { known = known; alone = alone; elsewhere = tt; called = called; clear = clear; begun = (new, tt) })))))
+      (λ _. begins_chain s req (called, new) (begin_at s chunk purposes.Lease (Some req)) (waits.Lease path index chunk) (Moves s (Begins chunk purposes.Lease (Some req) (FromNow req (waits.Lease path index chunk))) None (record { known = known; alone = alone; elsewhere = tt; called = called; clear = clear; begun = (new, tt) }, (refl, record { stamp = stamp; new = for; here = here; visible = visible }, free))))))
     where
+      view_is : {a b : View} → ◌≡◌ {A = Option View} (Some a) (Some b) → a ≡ b
+      view_is h = cc
+
+      led_of : (v : View) (term : Option Term) → v.term ≡ term → (is_below moment term && not (is_stamp stamp v.stamp)) ≡ true → IsLed v
+      led_of v None is e = absurd (false≢true e)
+      led_of v (Some term) is e = (term, is)
+
+      led_by : (o : Option View) (view : View) → may_use stamp moment o ≡ true → o ≡ Some view → IsLed view
+      led_by None view e is = absurd (false≢true e)
+      led_by (Some v) view e is = subst IsLed (view_is is) (led_of v v.term refl e)
+
       same : (a b : ℕ) → ◌≡◌ {A = Result ℕ Refusal} (Ok a) (Ok b) → a ≡ b
       same a b h = cc
 
-  written_turned : (s : State) (req : ReqId) → IsCalled heard s req → (path : Path) (index : ℕ) (stamp : Option Stamp) (moment : Moment) (chunk : ℕ) (settled : Option Settled) → slice_get (chunks_at s.durable.names path) index ≡ Some chunk → is_visible path ≡ true → IsFree s req (path ∷ []) (if is_shared_in s.durable.names (slice_get (chunks_at s.durable.names path) index) then path ∷ [] else []) → IsKept s.durable → fin.get s.durable.chunks chunk ≡ settled → has_entry s chunk ≡ true → is_rolling s.durable.phase ≡ false → is_listed s.durable chunk ≡ true
+  written_turned : (s : State) (req : ReqId) → IsCalled heard s req → (path : Path) (index : ℕ) (stamp : Option Stamp) (moment : Moment) (chunk : ℕ) (settled : Option Settled) → slice_get (chunks_at s.durable.names path) index ≡ Some chunk → is_visible path ≡ true → IsFree s req (path ∷ []) (if is_shared_in s.durable.names (slice_get (chunks_at s.durable.names path) index) then path ∷ [] else []) → IsKept s.durable → fin.get s.durable.chunks chunk ≡ settled → has_entry s chunk ≡ true → is_rolling s.durable.phase ≡ false → is_listed s.durable chunk ≡ true → IsNew heard s req (calls.FindForWriting path index stamp)
       → Turned config heard s (written_at s req path index stamp moment chunk (Some (record { settled = settled; asking = fin.get s.volatile.moving chunk })))
-  written_turned s req called path index stamp moment chunk settled here visible free k has known calm listed =
+  written_turned s req called path index stamp moment chunk settled here visible free k has known calm listed for =
       let c : Chunk = record { settled = settled; asking = fin.get s.volatile.moving chunk } in
       test_turned config heard s (is_shared s.durable.names chunk) (copied_on_write s req path index chunk c (view_of c)) (leased s req path index stamp moment chunk c) (λ shared. within config heard (by_view (record { here = here; visible = visible; free = shared_free s req path index chunk here shared free }) settled has))
-      (λ alone. leased_turned s req called path index stamp moment chunk c (record { path = path; index = index; here = here; clear = inl (alone_free s req path index chunk here alone free) }) free.new known alone calm listed)
+      (λ alone. leased_turned s req called path index stamp moment chunk c (record { path = path; index = index; here = here; clear = inl (alone_free s req path index chunk here alone free) }) free.new known alone calm listed for here visible (alone_free s req path index chunk here alone free) (sees settled has))
     where
+      sees : (o : Option Settled) → fin.get s.durable.chunks chunk ≡ o → view_of (record { settled = o; asking = fin.get s.volatile.moving chunk }) ≡ view_in (fin.get s.durable.chunks chunk)
+      sees o is = ap view_in (sym is)
+
       by_view : TakesPlace s req path index chunk → (o : Option Settled) → fin.get s.durable.chunks chunk ≡ o → let c : Chunk = record { settled = o; asking = fin.get s.volatile.moving chunk } in Chained config heard s (copied_on_write s req path index chunk c (view_of c))
       by_view takes None is = refused_chain config heard s req (called, takes.free.new) refusals.NoReplica
       by_view takes (Some x) is =
@@ -288,52 +309,77 @@ module _ (config : Config) (heard : Heard) where
           (λ quiet. let parts = quiet_parts x.is_moving (is_some (fin.get s.volatile.moving chunk)) (is_none x.view.term) quiet in
           begins_new_chain s req (called, takes.free.new) (copy_plan (next_stamp s.durable) chunk x.view s.durable.next_handle req) copy
           (Moves s (Copies chunk x.view req (FromNow req copy)) None (
-            record {
-              known = known;
-              listed = listed;
-              fresh = next_is s k;
-              given = k.handles chunk (ap is_some is);
-              settled = record { has = is ∙ ap (λ b. Some (record { view = x.view; is_moving = b })) parts.1.0; unasked = nothing_at (fin.get s.volatile.moving chunk) parts.0 };
-              quiet = nobody_at x.view.term parts.1.1;
-            },
-            called,
-            (refl, refl, takes),
+            (
+              record {
+                known = known;
+                listed = listed;
+                fresh = next_is s k;
+                given = k.handles chunk (ap is_some is);
+                settled = record { has = is ∙ ap (λ b. Some (record { view = x.view; is_moving = b })) parts.1.0; unasked = nothing_at (fin.get s.volatile.moving chunk) parts.0 };
+                quiet = nobody_at x.view.term parts.1.1;
+              },
+              called,
+              (refl, refl, takes),
+            ),
+            record { stamp = stamp; new = for; here = here; visible = visible },
           )))
-          (λ _. begins_chain s req (called, takes.free.new) (begin_at s chunk purposes.Quiet (Some req)) (waits.Quiet path index chunk) (Moves s (Begins chunk purposes.Quiet (Some req) (FromNow req (waits.Quiet path index chunk))) None (record { known = known; alone = tt; elsewhere = tt; called = called; clear = tt; begun = (takes.free.new, (refl, takes)) }))))
+          (λ _. begins_chain s req (called, takes.free.new) (begin_at s chunk purposes.Quiet (Some req)) (waits.Quiet path index chunk) (Moves s (Begins chunk purposes.Quiet (Some req) (FromNow req (waits.Quiet path index chunk))) None (record { known = known; alone = tt; elsewhere = tt; called = called; clear = tt; begun = (takes.free.new, (refl, takes)) }, (refl, record { stamp = stamp; new = for; here = here; visible = visible })))))
 
   pub found_turned : (s : State) (req : ReqId) → IsCalled heard s req → (path : Path) (index : ℕ) (stamp : Option Stamp) (moment : Moment) (chunk : Result ℕ Refusal) → is_visible path ≡ true
-      → IsFree s req (path ∷ []) (if is_shared_in s.durable.names (slice_get (chunks_at s.durable.names path) index) then path ∷ [] else []) → IsKept s.durable → is_rolling s.durable.phase ≡ false → found_chunk (fin.get s.durable.names.tree path) index ≡ chunk
+      → IsFree s req (path ∷ []) (if is_shared_in s.durable.names (slice_get (chunks_at s.durable.names path) index) then path ∷ [] else []) → IsKept s.durable → is_rolling s.durable.phase ≡ false → found_chunk (fin.get s.durable.names.tree path) index ≡ chunk → IsNew heard s req (calls.FindForWriting path index stamp)
       → Turned config heard s (found_for_writing s req path index stamp moment chunk)
   unfolding chunk_at
-  found_turned s req called path index stamp moment (Err refusal) visible free k calm is = within config heard (refused_chain config heard s req (called, free.new) refusal)
-  found_turned s req called path index stamp moment (Ok chunk) visible free k calm is = by_entry (has_entry s chunk) refl
+  found_turned s req called path index stamp moment (Err refusal) visible free k calm is for = within config heard (refused_chain config heard s req (called, free.new) refusal)
+  found_turned s req called path index stamp moment (Ok chunk) visible free k calm is for = by_entry (has_entry s chunk) refl
     where
       by_entry : (b : Bool) → has_entry s chunk ≡ b → Turned config heard s (written_at s req path index stamp moment chunk (if b then Some (record { settled = fin.get s.durable.chunks chunk; asking = fin.get s.volatile.moving chunk }) else None))
-      by_entry true known = written_turned s req called path index stamp moment chunk (fin.get s.durable.chunks chunk) (found_here (fin.get s.durable.names.tree path) index chunk is) visible free k refl known calm (found_listed s path index chunk k is)
+      by_entry true known = written_turned s req called path index stamp moment chunk (fin.get s.durable.chunks chunk) (found_here (fin.get s.durable.names.tree path) index chunk is) visible free k refl known calm (found_listed s path index chunk k is) for
       by_entry false known = within config heard (refused_chain config heard s req (called, free.new) refusals.NoReplica)
 
-  created_chain : (s : State) (req : ReqId) → IsCalled heard s req → is_pending s.volatile.pending req ≡ false → (path : Path) (targets : Option (List ℕ)) → IsKept s.durable → Chained config heard s (created_on s req path targets)
-  created_chain s req called new path None k = refused_chain config heard s req (called, new) refusals.NoServer
-  created_chain s req called new path (Some targets) k =
-      begins_new_chain s req (called, new) (create_plan (next_stamp s.durable) s.durable.next_handle targets req) (waits.Extend path s.durable.next_handle) (Moves s (Makes targets req path) None (next_is s k, called, new))
+  created_chain : (s : State) (req : ReqId) → IsCalled heard s req → is_pending s.volatile.pending req ≡ false → (path : Path) (targets : Option (List ℕ)) → IsKept s.durable → (index : ℕ) → IsNew heard s req (calls.Extend path index) → HasChunks s.durable.names path index → is_visible path ≡ true → IsFree s req (path ∷ []) (path ∷ []) → Chained config heard s (created_on s req path targets)
+  created_chain s req called new path None k index for here visible free = refused_chain config heard s req (called, new) refusals.NoServer
+  created_chain s req called new path (Some targets) k index for here visible free =
+      begins_new_chain s req (called, new) (create_plan (next_stamp s.durable) s.durable.next_handle targets req) (waits.Extend path s.durable.next_handle) (Moves s (Makes targets req path) None ((next_is s k, called, new), record { index = index; new = for; here = here; visible = visible; free = free }))
 
-  extended_turned : (s : State) (req : ReqId) → IsCalled heard s req → is_pending s.volatile.pending req ≡ false → (path : Path) (chunks : List ℕ) (index : ℕ) → IsKept s.durable → is_rolling s.durable.phase ≡ false → fin.get s.durable.names.tree path ≡ Some (File chunks) → Turned config heard s (extended_at config s req path chunks index)
-  extended_turned s req called new path chunks index k calm is =
+  extended_turned : (s : State) (req : ReqId) → IsCalled heard s req → is_pending s.volatile.pending req ≡ false → (path : Path) (chunks : List ℕ) (index : ℕ) → IsKept s.durable → is_rolling s.durable.phase ≡ false → fin.get s.durable.names.tree path ≡ Some (File chunks)
+      → IsNew heard s req (calls.Extend path index) → is_visible path ≡ true → IsFree s req (path ∷ []) (if gets_chunk (Some (File chunks)) index then path ∷ [] else []) → Turned config heard s (extended_at config s req path chunks index)
+  extended_turned s req called new path chunks index k calm is for visible free =
       let makes = created_on s req path (targets_for config (counted_views s) [] config.replicas) in
       test_turned config heard s (nat_lt index (length chunks)) (looked_up s req (location s.durable (found_chunk (Some (File chunks)) index)))
       (if nat_lt (length chunks) index || nat_le most_chunks index then refused s req refusals.Range else makes)
-      (λ _. located_turned s req called new (found_chunk (Some (File chunks)) index) calm (λ c found. found_listed s path index c k (ap (λ o. found_chunk o index) is ∙ found)))
-      (λ _. within config heard (test_chain config heard s (nat_lt (length chunks) index || nat_le most_chunks index) (refused s req refusals.Range) makes (λ _. refused_chain config heard s req (called, new) refusals.Range)
-      (λ _. created_chain s req called new path (targets_for config (counted_views s) [] config.replicas) k)))
+      (λ _. located_turned s req called new (found_chunk (Some (File chunks)) index) calm (λ c found. found_listed s path index c k (ap (λ o. found_chunk o index) is ∙ found))
+      (λ c view found has. (calls.Extend path index, for, ap (λ o. slice_get (chunks_in o) index) is ∙ found_here (Some (File chunks)) index c found)))
+      (λ past. within config heard (test_chain config heard s (nat_lt (length chunks) index || nat_le most_chunks index) (refused s req refusals.Range) makes (λ _. refused_chain config heard s req (called, new) refusals.Range)
+      (λ none. let last = at_last (length chunks) index past none in
+      created_chain s req called new path (targets_for config (counted_views s) [] config.replicas) k index for (record { chunks = chunks; file = is; count = last.0 }) visible
+      (record { new = free.new; free = sym (ap (λ b. stands_in_the_way s.volatile.locks req (path ∷ []) (if b then path ∷ [] else [])) last.1) ∙ free.free }))))
+    where
+      at_last : (many at : ℕ) → nat_lt at many ≡ false → (nat_lt many at || nat_le most_chunks at) ≡ false → (many ≡ at) × ((nat_lt at most_chunks && at == many) ≡ true)
+      at_last many at past none = (let two = neither (nat_lt many at) (nat_le most_chunks at) none in (grind (arith, nat_tests), both (nat_lt at most_chunks) (at == many) (less at two.1) (equal many at past two.0)))
+        where
+          neither : (a b : Bool) → (a || b) ≡ false → (a ≡ false) × (b ≡ false)
+          neither true b h = absurd (true≢false h)
+          neither false b h = (refl, h)
 
-  pub extends_turned : (s : State) (req : ReqId) → IsCalled heard s req → is_pending s.volatile.pending req ≡ false → (path : Path) (index : ℕ) (entry : Option (Entry ℕ)) → IsKept s.durable → is_rolling s.durable.phase ≡ false → fin.get s.durable.names.tree path ≡ entry → Turned config heard s (extends config s req path index entry)
-  extends_turned s req called new path index None k calm is = within config heard (refused_chain config heard s req (called, new) refusals.NotFound)
-  extends_turned s req called new path index (Some Dir) k calm is = within config heard (refused_chain config heard s req (called, new) refusals.IsADirectory)
-  extends_turned s req called new path index (Some (File chunks)) k calm is = extended_turned s req called new path chunks index k calm is
+          both : (a b : Bool) → a ≡ true → b ≡ true → (a && b) ≡ true
+          both true b p q = q
+          both false b p q = absurd (false≢true p)
 
-  snapshot_chain : (s : State) (req : ReqId) → IsCalled heard s req → IsFree s req [] [] → (from to : Path) (many : List ℕ) → unquiet s from ≡ many → list_all (has_entry s) many ≡ true → Chained config heard s (begins_snapshot s req from to many)
-  snapshot_chain s req called free from to [] is all = edited_chain s req (Snapshot from to) answers.Nothing refl (all_still (is_quiet_at s) (source_chunks s from) is) refl free called
-  snapshot_chain s req called free from to (chunk ∷ chunks) is all =
+          less : (a : ℕ) → nat_le most_chunks a ≡ false → nat_lt a most_chunks ≡ true
+          less a h = grind (arith, nat_tests)
+
+          equal : (m a : ℕ) → nat_lt a m ≡ false → nat_lt m a ≡ false → (a == m) ≡ true
+          equal m a p q = grind (arith, nat_tests)
+
+  pub extends_turned : (s : State) (req : ReqId) → IsCalled heard s req → is_pending s.volatile.pending req ≡ false → (path : Path) (index : ℕ) (entry : Option (Entry ℕ)) → IsKept s.durable → is_rolling s.durable.phase ≡ false → fin.get s.durable.names.tree path ≡ entry
+      → IsNew heard s req (calls.Extend path index) → is_visible path ≡ true → IsFree s req (path ∷ []) (if gets_chunk entry index then path ∷ [] else []) → Turned config heard s (extends config s req path index entry)
+  extends_turned s req called new path index None k calm is for visible free = within config heard (refused_chain config heard s req (called, new) refusals.NotFound)
+  extends_turned s req called new path index (Some Dir) k calm is for visible free = within config heard (refused_chain config heard s req (called, new) refusals.IsADirectory)
+  extends_turned s req called new path index (Some (File chunks)) k calm is for visible free = extended_turned s req called new path chunks index k calm is for visible free
+
+  snapshot_chain : (s : State) (req : ReqId) → IsCalled heard s req → IsFree s req [] [] → (from to : Path) (many : List ℕ) → unquiet s from ≡ many → list_all (has_entry s) many ≡ true → IsNew heard s req (calls.Snapshot from to) → Chained config heard s (begins_snapshot s req from to many)
+  snapshot_chain s req called free from to [] is all for = edited_chain s req (Snapshot from to) answers.Nothing refl (all_still (is_quiet_at s) (source_chunks s from) is) refl free called (calls.Snapshot from to, for, refl)
+  snapshot_chain s req called free from to (chunk ∷ chunks) is all for =
       let wait = turned s (begin_pending req (waits.Snapshot from to)) in
       let begin : State → Turn = λ next. all_begun next (chunk ∷ chunks) purposes.Quiet (Some req) in
       let both = if_room s (and_then wait begin) (refused s req refusals.Full) in
@@ -341,14 +387,14 @@ module _ (config : Config) (heard : Heard) where
       (if not (has_versions s.durable (length (chunk ∷ chunks))) then refused s req refusals.Exhausted else both) (λ _. refused_chain config heard s req (called, free.new) refusals.Locked)
       (λ _. test_chain config heard s (not (has_versions s.durable (length (chunk ∷ chunks)))) (refused s req refusals.Exhausted) both (λ _. refused_chain config heard s req (called, free.new) refusals.Exhausted)
       (λ _. room_chain config heard s req (called, free.new) (and_then wait begin)
-      (then_chain config heard s wait begin (Moves s (Waits req (waits.Snapshot from to)) None (called, refl, free.new)) (all_begun_chain config heard (chunk ∷ chunks) (Some req) wait.after all))))
+      (then_chain config heard s wait begin (Moves s (Waits req (waits.Snapshot from to)) None ((called, refl, free.new), for)) (all_begun_chain config heard (chunk ∷ chunks) (Some req) wait.after all))))
 
-  pub snapshot_if_chain : (s : State) (req : ReqId) → IsCalled heard s req → IsFree s req [] [] → (from to : Path) (rows : Result (Rows ℕ) Refusal) → IsKept s.durable → Chained config heard s (snapshot_if s req from to rows)
-  snapshot_if_chain s req called free from to (Ok rows) k =
+  pub snapshot_if_chain : (s : State) (req : ReqId) → IsCalled heard s req → IsFree s req [] [] → (from to : Path) (rows : Result (Rows ℕ) Refusal) → IsKept s.durable → IsNew heard s req (calls.Snapshot from to) → Chained config heard s (snapshot_if s req from to rows)
+  snapshot_if_chain s req called free from to (Ok rows) k for =
       snapshot_chain s req called free from to (unquiet s from) refl
       (weaker (unquiet s from)
       (passes_all (is_placed s.durable) (λ chunk. not (is_quiet_at s chunk)) (ascending (source_chunks s from))
-      (ascending_all (is_placed s.durable) (source_chunks s from) (fewer_rows (is_placed s.durable) _ (fin.entries s.durable.names.tree) (all_placed s.durable k)))))
+      (ascending_all (is_placed s.durable) (source_chunks s from) (fewer_rows (is_placed s.durable) _ (fin.entries s.durable.names.tree) (all_placed s.durable k))))) for
     where
       weaker : (xs : List ℕ) → list_all (is_placed s.durable) xs ≡ true → list_all (has_entry s) xs ≡ true
       weaker [] all = refl
@@ -356,38 +402,38 @@ module _ (config : Config) (heard : Heard) where
           let parts = and_parts (is_placed s.durable x) (list_all (is_placed s.durable) xs) all in
           let listed = and_parts (is_some (fin.get s.durable.names.refs x)) _ parts.0 in
           ap (λ b. b && list_all (has_entry s) xs) (or_left (is_some (fin.get s.durable.names.refs x)) (is_member s.volatile.unplaced x) listed.0) ∙ weaker xs parts.1
-  snapshot_if_chain s req called free from to (Err refusal) k = refused_chain config heard s req (called, free.new) refusal
+  snapshot_if_chain s req called free from to (Err refusal) k for = refused_chain config heard s req (called, free.new) refusal
 
   -- ---- making a replica
 
-  replicated_chain : (s : State) (req : ReqId) → IsCalled heard s req → is_pending s.volatile.pending req ≡ false → (chunk : ℕ) (members : List ℕ) (targets : Option (List ℕ)) → targets_for config (counted_views s) (members_in (view_in (fin.get s.durable.chunks chunk))) 1 ≡ targets → has_entry s chunk ≡ true → Chained config heard s (replicated_to s req chunk targets)
-  replicated_chain s req called new chunk members None is known = refused_chain config heard s req (called, new) refusals.NoServer
-  replicated_chain s req called new chunk members (Some []) is known = refused_chain config heard s req (called, new) refusals.NoServer
-  replicated_chain s req called new chunk members (Some (target ∷ targets)) is known =
+  replicated_chain : (s : State) (req : ReqId) → IsCalled heard s req → is_pending s.volatile.pending req ≡ false → (chunk : ℕ) (members : List ℕ) (targets : Option (List ℕ)) → targets_for config (counted_views s) (members_in (view_in (fin.get s.durable.chunks chunk))) 1 ≡ targets → has_entry s chunk ≡ true → IsNew heard s req calls.Replicate → Chained config heard s (replicated_to s req chunk targets)
+  replicated_chain s req called new chunk members None is known for = refused_chain config heard s req (called, new) refusals.NoServer
+  replicated_chain s req called new chunk members (Some []) is known for = refused_chain config heard s req (called, new) refusals.NoServer
+  replicated_chain s req called new chunk members (Some (target ∷ targets)) is known for =
       begins_chain s req (called, new) (begin_at s chunk (purposes.Copy target) (Some req)) (waits.Replicate chunk target)
       (Moves s (Begins chunk (purposes.Copy target) (Some req) (FromNow req (waits.Replicate chunk target))) None
-      (record { known = known; alone = tt; elsewhere = target_out config (counted_views s) (members_in (view_in (fin.get s.durable.chunks chunk))) target targets is; called = called; clear = tt; begun = (new, tt) }))
+      (record { known = known; alone = tt; elsewhere = target_out config (counted_views s) (members_in (view_in (fin.get s.durable.chunks chunk))) target targets is; called = called; clear = tt; begun = (new, tt) }, for))
 
-  replicates_chain : (s : State) (req : ReqId) → IsCalled heard s req → is_pending s.volatile.pending req ≡ false → (chunk : ℕ) → Chained config heard s (replicates_chunk config s req chunk (chunk_at s chunk))
+  replicates_chain : (s : State) (req : ReqId) → IsCalled heard s req → is_pending s.volatile.pending req ≡ false → (chunk : ℕ) → IsNew heard s req calls.Replicate → Chained config heard s (replicates_chunk config s req chunk (chunk_at s chunk))
   unfolding chunk_at
-  replicates_chain s req called new chunk = by_entry (has_entry s chunk) refl
+  replicates_chain s req called new chunk for = by_entry (has_entry s chunk) refl
     where
       by_entry : (b : Bool) → has_entry s chunk ≡ b → Chained config heard s (replicates_chunk config s req chunk (if b then Some (record { settled = fin.get s.durable.chunks chunk; asking = fin.get s.volatile.moving chunk }) else None))
       by_entry true known =
           let c : Chunk = record { settled = fin.get s.durable.chunks chunk; asking = fin.get s.volatile.moving chunk } in
           let targets = targets_for config (counted_views s) (members_of c) 1 in
-          test_chain config heard s (is_wanted c) (refused s req refusals.Locked) (replicated_to s req chunk targets) (λ _. refused_chain config heard s req (called, new) refusals.Locked) (λ _. replicated_chain s req called new chunk [] targets refl known)
+          test_chain config heard s (is_wanted c) (refused s req refusals.Locked) (replicated_to s req chunk targets) (λ _. refused_chain config heard s req (called, new) refusals.Locked) (λ _. replicated_chain s req called new chunk [] targets refl known for)
       by_entry false known = refused_chain config heard s req (called, new) refusals.NoReplica
 
-  pub most_chain : (s : State) (req : ReqId) → IsCalled heard s req → is_pending s.volatile.pending req ≡ false → (chunk : Option ℕ) → Chained config heard s (replicates_most config s req chunk)
-  most_chain s req called new None = answered_chain config heard s req (answers.Copied None) refl
-  most_chain s req called new (Some chunk) = replicates_chain s req called new chunk
+  pub most_chain : (s : State) (req : ReqId) → IsCalled heard s req → is_pending s.volatile.pending req ≡ false → (chunk : Option ℕ) → IsNew heard s req calls.Replicate → Chained config heard s (replicates_most config s req chunk)
+  most_chain s req called new None for = answered_chain config heard s req (answers.Copied None) refl
+  most_chain s req called new (Some chunk) for = replicates_chain s req called new chunk for
 
   -- ---- scanning
 
-  pub scans_turned : (s : State) (req : ReqId) → IsRefusable heard s req false → (moment : Moment) → Stands s.durable s.volatile → let removed = removed_paths moment.0 (fin.entries s.durable.names.tree) in let forgotten = forgotten_chunks moment.0 (fin.entries s.durable.names.tree) (fin.entries s.durable.names.refs) in
+  pub scans_turned : (s : State) (req : ReqId) → IsRefusable heard s req false → (moment : Moment) → Stands s.durable s.volatile → IsNew heard s req calls.Scan → let removed = removed_paths moment.0 (fin.entries s.durable.names.tree) in let forgotten = forgotten_chunks moment.0 (fin.entries s.durable.names.tree) (fin.entries s.durable.names.refs) in
       Turned config heard s (scanned s req removed forgotten)
-  scans_turned s req may moment k =
+  scans_turned s req may moment k for =
       let removed = removed_paths moment.0 (fin.entries s.durable.names.tree) in
       let forgotten = forgotten_chunks moment.0 (fin.entries s.durable.names.tree) (fin.entries s.durable.names.refs) in
       let scan = turned s (scan_plan removed forgotten) in
@@ -396,24 +442,24 @@ module _ (config : Config) (heard : Heard) where
       let behind = ended scan.after in
       room_turned config heard s req may (and_then (and_then scan ended) answer)
       (subst (Turned config heard s) (sym (joined_together scan behind (answer behind.after)))
-      (Closes s (Scans removed forgotten) None (joined behind (answer behind.after)) (record { moment = moment; removes = refl; forgets = refl; placed = λ c here. not_forgotten s k (λ e. e.1 == occurrences e.0 (all_chunks (gone moment.0 (fin.entries s.durable.names.tree)))) c here }) refl
-      (Then scan.after behind (answer behind.after) (closing_chain config heard (waiting_for s forgotten) refusals.NoReplica scan.after (some_pending (λ (p : Pending). waits_for_any forgotten p.waits) s.volatile.pending k.apart)) (Moves behind.after (AnswersCall req (answers.Scanned (length removed) (length forgotten)) false) None ((tt, tt, tt), refl)))))
+      (Closes s (Scans removed forgotten) None (joined behind (answer behind.after)) (record { moment = moment; removes = refl; forgets = refl; placed = λ c here. not_forgotten s k (λ e. e.1 == occurrences e.0 (all_chunks (gone moment.0 (fin.entries s.durable.names.tree)))) c here }, (req, for)) refl
+      (Then scan.after behind (answer behind.after) (closing_chain config heard (waiting_for s forgotten) refusals.NoReplica scan.after (some_pending (λ (p : Pending). waits_for_any forgotten p.waits) s.volatile.pending k.apart)) (Moves behind.after (AnswersCall req (answers.Scanned (length removed) (length forgotten)) false) None (((tt, tt, tt), tt), refl)))))
 
   -- ---- the calls of the tree
 
-  pub edits_chain : (s : State) (req : ReqId) (edit : PlainEdit) (answer : Answer) → is_of_tree edit ≡ true → is_still_for s edit ≡ true → is_location answer ≡ false → IsFree s req [] (moved_by edit) → IsCalled heard s req → Chained config heard s (edited_by s req edit answer)
-  edits_chain s req edit answer tree still plain free called = edited_chain s req edit answer tree still plain free called
+  pub edits_chain : (s : State) (req : ReqId) (edit : PlainEdit) (answer : Answer) → is_of_tree edit ≡ true → is_still_for s edit ≡ true → is_location answer ≡ false → IsFree s req [] (moved_by edit) → IsCalled heard s req → IsFor heard s (Edits req edit answer) → Chained config heard s (edited_by s req edit answer)
+  edits_chain s req edit answer tree still plain free called for = edited_chain s req edit answer tree still plain free called for
 
   -- a rename's record holds its target as it was resolved
-  pub renames_chain : (s : State) (req : ReqId) (from to : Path) → IsFree s req [] (from ∷ []) → IsCalled heard s req → Chained config heard s (renames s req from to)
-  renames_chain s req from to free called = by_names (edited_names (Rename from to) s.durable.names) refl
+  pub renames_chain : (s : State) (req : ReqId) (from to : Path) → IsFree s req [] (from ∷ []) → IsCalled heard s req → IsNew heard s req (calls.Rename from to) → Chained config heard s (renames s req from to)
+  renames_chain s req from to free called for = by_names (edited_names (Rename from to) s.durable.names) refl
     where
       by_names : (names : Result NamesView Refusal) → edited_names (Rename from to) s.durable.names ≡ names → Chained config heard s (edit_if s req (Rename from (target_of (fin.get s.durable.names.tree) from to)) answers.Nothing names)
       by_names (Err refusal) is = refused_chain config heard s req (called, free.new) refusal
-      by_names (Ok after) is = edit_chain s req (Rename from (target_of (fin.get s.durable.names.tree) from to)) answers.Nothing refl refl refl free called (Ok after) (resolved_does s.durable.names after from to is)
+      by_names (Ok after) is = edit_chain s req (Rename from (target_of (fin.get s.durable.names.tree) from to)) answers.Nothing refl refl refl free called (calls.Rename from to, for, refl) (Ok after) (resolved_does s.durable.names after from to is)
 
-  pub deletes_chain : (s : State) (req : ReqId) (path : Path) (recursive : Bool) (moment : Moment) → IsFree s req [] (path ∷ []) → IsCalled heard s req → Chained config heard s (deleted s req path recursive moment)
-  deletes_chain s req path recursive moment free called = deleted_chain s req path recursive moment free called
+  pub deletes_chain : (s : State) (req : ReqId) (path : Path) (recursive : Bool) (moment : Moment) → IsFree s req [] (path ∷ []) → IsCalled heard s req → IsNew heard s req (calls.Delete path recursive) → Chained config heard s (deleted s req path recursive moment)
+  deletes_chain s req path recursive moment free called for = deleted_chain s req path recursive moment free called for
 
   pub lists_chain : (s : State) (req : ReqId) → IsRefusable heard s req false → (path : Path) → Chained config heard s (looked_up s req (listing (fin.entries s.durable.names.tree) path (fin.get s.durable.names.tree path)))
   lists_chain s req may path = looked_chain config heard s req may _ (listed_plain s path (fin.get s.durable.names.tree path))

@@ -25,6 +25,7 @@ use Rattle.gs_master_moves.specs.Guards.{Heard, IsCalledFor, IsRefusable, IsRigh
 use Rattle.gs_master_moves.proofs.Ended.{AllPending, ended_pending}
 use Rattle.gs_master_moves.proofs.Fitting.{mapped}
 use Rattle.gs_master_moves.specs.Epochs.{EndsOnce, Within, closes, is_alone}
+use Rattle.gs_master_moves.specs.ForCalls.{IsAnswerFor, IsFor}
 use Rattle.gs_master_moves.specs.Moves.{Alone, Begins, BeginsRollback, Chain, Checkpoints, CommitsRollback, Copies, CopiesTree, Edits, Extends, Finalizes, Flags, Hears, Makes, Move, Moves, Prepares, Refuses, Replaces, Restores, Rests, Says, Scans, Sends, Settles, TellsRollback, Then, Waits, Answers as AnswersCall}
 
 -- What is joined doesn't go by which two are joined first.
@@ -46,6 +47,10 @@ plain_right s answer e = tt
 pub plain_called : (heard : Heard) (s : State) (req : ReqId) (answer : Answer) → is_location answer ≡ false → IsCalledFor heard s req answer
 plain_called heard s req (answers.Location chunk view epoch) e = absurd (true≢false e)
 plain_called heard s req answer e = tt
+
+pub plain_for : (heard : Heard) (s : State) (req : ReqId) (answer : Answer) (over : Bool) → is_location answer ≡ false → IsAnswerFor heard s req answer over
+plain_for heard s req (answers.Location chunk view epoch) over e = absurd (true≢false e)
+plain_for heard s req answer over e = tt
 
 -- a result tells where a chunk is
 abbrev pub is_located : Result Answer Refusal → Bool
@@ -89,14 +94,16 @@ module _ (config : Config) (heard : Heard) where
   may_within s Checkpoints may = (may, refl)
 
   abbrev pub Chained : State → Turn → Type 0
-  Chained s t = Chain config MayWithin s t
+  Chained s t = Chain config (λ u move. MayWithin u move × IsFor heard u move) s t
 
   -- turns that end one epoch at most
   abbrev pub Turned : State → Turn → Type 0
-  Turned s t = EndsOnce config (May config heard) s t
+  Turned s t = EndsOnce config (λ u move. May config heard u move × IsFor heard u move) s t
 
   pub within : {s : State} {t : Turn} → Chained s t → Turned s t
-  within {s} {t} chain = Within s t (mapped config MayWithin (λ u move. May config heard u move × (is_alone move ≡ false)) may_within s t chain)
+  within {s} {t} chain =
+      Within s t (mapped config (λ u move. MayWithin u move × IsFor heard u move) (λ u move. (May config heard u move × IsFor heard u move) × (is_alone move ≡ false))
+      (λ u move both. (let may = may_within u move both.0 in ((may.0, both.1), may.1))) s t chain)
 
   pub rests : (s : State) → Chained s (unmoved s)
   rests s = Rests s None
@@ -109,10 +116,10 @@ module _ (config : Config) (heard : Heard) where
   MayRefuse s req = IsRefusable heard s req false
 
   pub refused_chain : (s : State) (req : ReqId) → MayRefuse s req → (refusal : Refusal) → Chained s (refused s req refusal)
-  refused_chain s req may refusal = Moves s (Refuses req refusal false) (Some refusal) may
+  refused_chain s req may refusal = Moves s (Refuses req refusal false) (Some refusal) (may, tt)
 
   pub ended_chain : (s : State) (req : ReqId) → is_pending s.volatile.pending req ≡ true → (refusal : Refusal) → Chained s (ended_by s req refusal)
-  ended_chain s req waits refusal = Moves s (Refuses req refusal true) None waits
+  ended_chain s req waits refusal = Moves s (Refuses req refusal true) None (waits, tt)
 
   -- each of them still waits when those before it have ended
   pub all_ended_chain : (reqs : List ReqId) (refusal : Refusal) (s : State) → AllPending s.volatile.pending reqs → Chained s (all_ended_by s reqs refusal)
@@ -125,11 +132,11 @@ module _ (config : Config) (heard : Heard) where
   room_chain s req may t a = pick (Chained s) (fits s.log t.records) t (refused s req refusals.Full) a (refused_chain s req may refusals.Full)
 
   -- calls that wait are refused, behind a scan, or behind the beginning of a rollback
-  pub closing_chain : (reqs : List ReqId) (refusal : Refusal) (s : State) → AllPending s.volatile.pending reqs → Chain config (λ u move. May config heard u move × (closes move ≡ true)) s (all_ended_by s reqs refusal)
+  pub closing_chain : (reqs : List ReqId) (refusal : Refusal) (s : State) → AllPending s.volatile.pending reqs → Chain config (λ u move. (May config heard u move × IsFor heard u move) × (closes move ≡ true)) s (all_ended_by s reqs refusal)
   closing_chain [] refusal s all = Rests s None
   closing_chain (req ∷ reqs) refusal s all =
       let t = ended_by s req refusal in
-      Then s t (all_ended_by t.after reqs refusal) (Moves s (Refuses req refusal true) None (all.0, refl)) (closing_chain reqs refusal t.after (subst (λ ps. AllPending ps reqs) (sym (ended_pending s req refusal)) all.1))
+      Then s t (all_ended_by t.after reqs refusal) (Moves s (Refuses req refusal true) None ((all.0, tt), refl)) (closing_chain reqs refusal t.after (subst (λ ps. AllPending ps reqs) (sym (ended_pending s req refusal)) all.1))
 
   pub room_turned : (s : State) (req : ReqId) → MayRefuse s req → (t : Turn) → Turned s t → Turned s (if_room s t (refused s req refusals.Full))
   room_turned s req may t a = pick (Turned s) (fits s.log t.records) t (refused s req refusals.Full) a (within (refused_chain s req may refusals.Full))
@@ -144,7 +151,7 @@ module _ (config : Config) (heard : Heard) where
   test_chain s false t u f g = g refl
 
   pub answered_chain : (s : State) (req : ReqId) (answer : Answer) → is_location answer ≡ false → Chained s (answered_with s req answer)
-  answered_chain s req answer plain = Moves s (AnswersCall req answer false) None ((plain_right s answer plain, tt, plain_called heard s req answer plain), ap (λ b. b && true) plain)
+  answered_chain s req answer plain = Moves s (AnswersCall req answer false) None (((plain_right s answer plain, tt, plain_called heard s req answer plain), ap (λ b. b && true) plain), plain_for heard s req answer false plain)
 
   pub looked_chain : (s : State) (req : ReqId) → MayRefuse s req → (result : Result Answer Refusal) → is_located result ≡ false → Chained s (looked_up s req result)
   looked_chain s req may (Ok answer) plain = answered_chain s req answer plain
@@ -171,5 +178,5 @@ module _ (config : Config) (heard : Heard) where
   all_begun_chain (chunk ∷ many) call s all =
       let parts = and_parts (has_entry s chunk) (list_all (has_entry s) many) all in
       let next = begun s chunk purposes.Quiet call in
-      then_chain s next (λ after. all_begun after many purposes.Quiet call) (Moves s (Begins chunk purposes.Quiet call Alone) None (record { known = parts.0; alone = tt; elsewhere = tt; called = tt; clear = tt; begun = tt }))
+      then_chain s next (λ after. all_begun after many purposes.Quiet call) (Moves s (Begins chunk purposes.Quiet call Alone) None (record { known = parts.0; alone = tt; elsewhere = tt; called = tt; clear = tt; begun = tt }, tt))
       (all_begun_chain many call next.after (all_entries many s chunk purposes.Quiet call parts.1))

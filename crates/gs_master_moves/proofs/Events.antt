@@ -292,7 +292,7 @@ module _ (config : Config) where
       (λ _. test_chain config came s (fits s.log begin.records) begin (unmoved s) (λ _. all_begun_chain config came many None s all) (λ _. rests config came s)) (λ _. rests config came s)
 
   next_chain : (came : Heard) (s : State) (server epoch : ℕ) → Chained config came s (sends s (next_epoch s.durable server epoch))
-  next_chain came s server epoch = Moves s (Says (next_epoch s.durable server epoch)) None (next_right came s server epoch, next_asks server (slice_get s.durable.ends epoch) epoch, next_said came s server epoch (slice_get s.durable.ends epoch))
+  next_chain came s server epoch = Moves s (Says (next_epoch s.durable server epoch)) None ((next_right came s server epoch, next_asks server (slice_get s.durable.ends epoch) epoch, next_said came s server epoch (slice_get s.durable.ends epoch)), tt)
 
   reported_chain : (s : State) (server epoch : ℕ) (replicas : List Reported) → Chained config (Some (server, bodies.Report epoch replicas)) s (reported s server epoch replicas)
   reported_chain s server epoch replicas =
@@ -305,7 +305,7 @@ module _ (config : Config) where
           let came : Heard = Some (server, bodies.Report epoch replicas) in
           let dropped = sends s (drops s server replicas) in
           let right = subst (λ e. AreRight (Some (server, bodies.Report e replicas)) s (drops s server replicas)) (sym (same_number epoch s.durable.epoch both.1)) (strays_right s server replicas both.0 replicas (λ r here. here)) in
-          then_chain config came s dropped (made_quiet (lost s server replicas)) (Moves s (Says (drops s server replicas)) None (right, drops_ask s server replicas, each_said came s (λ (r : Reported). about r.handle (abouts.Drop s.durable.epoch r.promise) server) (λ r. tt) (filter (λ (r : Reported). is_stray (chunk_at s r.handle) server) replicas)))
+          then_chain config came s dropped (made_quiet (lost s server replicas)) (Moves s (Says (drops s server replicas)) None ((right, drops_ask s server replicas, each_said came s (λ (r : Reported). about r.handle (abouts.Drop s.durable.epoch r.promise) server) (λ r. tt) (filter (λ (r : Reported). is_stray (chunk_at s r.handle) server) replicas)), tt))
           (quiet_chain came (lost s server replicas) s
           (filter_holds (has_entry s) (λ chunk. is_lost_at server (chunk_at s chunk) && not (is_told_sound replicas chunk)) (fin.keys s.durable.chunks)
           (λ chunk k. lost_known s server chunk (and_parts (is_lost_at server (chunk_at s chunk)) (not (is_told_sound replicas chunk)) k).0)))
@@ -317,7 +317,7 @@ module _ (config : Config) where
       test_chain config came s (nat_lt epoch s.durable.epoch) (sends s (next_epoch s.durable server epoch)) (if is_rolling s.durable.phase && (epoch == s.durable.epoch) then t else unmoved s) (λ _. next_chain came s server epoch)
       (λ _. test_chain config came s (is_rolling s.durable.phase && (epoch == s.durable.epoch)) t (unmoved s)
       (λ both. let parts = and_parts (is_rolling s.durable.phase) (epoch == s.durable.epoch) both in
-      Moves s (Restores server handles) None (record { said = ap (λ e. Some (server, bodies.Learned e handles)) (same_number epoch s.durable.epoch parts.1); rolling = parts.0 }))
+      Moves s (Restores server handles) None (record { said = ap (λ e. Some (server, bodies.Learned e handles)) (same_number epoch s.durable.epoch parts.1); rolling = parts.0 }, tt))
       (λ _. rests config came s))
 
   module _ (s : State) (h : Holds true s) where
@@ -340,7 +340,7 @@ module _ (config : Config) where
         let leased = is_leased_under stamp (chunk_at s chunk) in
         let message = about chunk (abouts.Renewed stamp (end_of moment)) server in
         test_chain config came s (leased && not s.volatile.is_preparing) (sends s (message ∷ [])) (unmoved s)
-        (λ both. Moves s (Says (message ∷ [])) None ((leased_right s chunk stamp (and_parts leased (not s.volatile.is_preparing) both).0, tt), refl, (tt, tt))) (λ _. rests config came s)
+        (λ both. Moves s (Says (message ∷ [])) None (((leased_right s chunk stamp (and_parts leased (not s.volatile.is_preparing) both).0, tt), refl, (tt, tt)), tt)) (λ _. rests config came s)
     about_chain server chunk moment (abouts.Bad stamp) low =
         let came : Heard = Some (server, bodies.About chunk (abouts.Bad stamp)) in
         test_chain config came s (may_begin s.durable.phase && is_lost_at server (chunk_at s chunk)) (made_quiet (chunk ∷ []) s) (unmoved s)
@@ -357,7 +357,7 @@ module _ (config : Config) where
     server_chain server moment said named = Rests s (Some refusals.Stray)
 
     client_chain : (moment : Moment) (client : ClientId) (said : Body) → Turned config (said_from (nodes.Client client) said) s (from_client config s moment said)
-    client_chain moment client (bodies.Call req call) = call_chain config (Some (client.0, bodies.Call req call)) s req (client.0, call, refl) moment call h
+    client_chain moment client (bodies.Call req call) = call_chain config (Some (client.0, bodies.Call req call)) s req moment call (client.0, refl) h
     client_chain moment client said = within config None (Rests s (Some refusals.Stray))
 
     node_chain : (moment : Moment) (said : Body) (from : NodeId) → IsNamedBody said → Turned config (said_from from said) s (from_node config s moment said from)
@@ -390,7 +390,7 @@ module _ (config : Config) where
   all_held moment (proposal ∷ many) s h = let t = pressed moment proposal s in all_held moment many t.after (pressed_good s h moment proposal).holds
 
   written_chain : (s : State) (refusal : Option Refusal) → (refusal ≡ None → May config None s Checkpoints) → Chained config None s (written_unless s refusal)
-  written_chain s None may = Moves s Checkpoints None (may refl)
+  written_chain s None may = Moves s Checkpoints None (may refl, tt)
   written_chain s (Some refusal) may = Rests s (Some refusal)
 
   may_write : (s : State) → Holds true s → first_of (checkpoint_tests (is_failed s.fault) s.volatile.is_preparing s.log (checkpoint_body s.durable)) ≡ None → May config None s Checkpoints
@@ -406,7 +406,7 @@ module _ (config : Config) where
 
   -- what is said of it is left out at a tick
   quietly_written : (s : State) (refusal : Option Refusal) → (refusal ≡ None → May config None s Checkpoints) → Chained config None s (record (written_unless s refusal) { said = None })
-  quietly_written s None may = Moves s Checkpoints None (may refl)
+  quietly_written s None may = Moves s Checkpoints None (may refl, tt)
   quietly_written s (Some refusal) may = Rests s None
 
   due_chain : (s : State) → Holds true s → Chained config None s (written_if_due s)
@@ -420,19 +420,19 @@ module _ (config : Config) where
       let all = for_each s (proposals s) (pressed moment) in
       test_chain config None s (is_failed s.fault) (met_by s refusals.Device) (and_then (and_then all granted) written_if_due) (λ _. Rests s (Some refusals.Device))
       (λ _. then_chain config None s (and_then all granted) written_if_due
-      (then_chain config None s all granted (all_pressed moment (proposals s) s h) (Moves all.after (Says _) None (all_granted None all.after (fin.keys all.after.durable.chunks), grants_ask (chunk_at all.after) (fin.keys all.after.durable.chunks), grants_said None all.after (chunk_at all.after) (fin.keys all.after.durable.chunks))))
+      (then_chain config None s all granted (all_pressed moment (proposals s) s h) (Moves all.after (Says _) None ((all_granted None all.after (fin.keys all.after.durable.chunks), grants_ask (chunk_at all.after) (fin.keys all.after.durable.chunks), grants_said None all.after (chunk_at all.after) (fin.keys all.after.durable.chunks)), tt)))
       (due_chain (and_then all granted).after (all_held moment (proposals s) s h)))
 
   -- what a tick does before it writes a checkpoint
   steps_chain : (s : State) (moment : Moment) → Holds true s → Chained config None s (and_then (for_each s (proposals s) (pressed moment)) granted)
   steps_chain s moment h =
       let all = for_each s (proposals s) (pressed moment) in
-      then_chain config None s all granted (all_pressed moment (proposals s) s h) (Moves all.after (Says _) None (all_granted None all.after (fin.keys all.after.durable.chunks), grants_ask (chunk_at all.after) (fin.keys all.after.durable.chunks), grants_said None all.after (chunk_at all.after) (fin.keys all.after.durable.chunks)))
+      then_chain config None s all granted (all_pressed moment (proposals s) s h) (Moves all.after (Says _) None ((all_granted None all.after (fin.keys all.after.durable.chunks), grants_ask (chunk_at all.after) (fin.keys all.after.durable.chunks), grants_said None all.after (chunk_at all.after) (fin.keys all.after.durable.chunks)), tt))
 
   -- ---- a restart
 
   reopened_chain : (s : State) → IsKept s.durable → Chained config None s (reopened config s)
-  reopened_chain s k = Moves s (Says (told_again config s.durable)) None (by_phase (is_rolling s.durable.phase) refl, by_test (is_rolling s.durable.phase), said_so (is_rolling s.durable.phase))
+  reopened_chain s k = Moves s (Says (told_again config s.durable)) None ((by_phase (is_rolling s.durable.phase) refl, by_test (is_rolling s.durable.phase), said_so (is_rolling s.durable.phase)), tt)
     where
       by_phase : (b : Bool) → is_rolling s.durable.phase ≡ b → AreRight None s (if b then tell_all config s.durable.epoch ends.Rollback else [])
       by_phase true rolling = all_told None s s.durable.epoch ends.Rollback (rolled_end s k rolling) (count_from 0 config.servers)

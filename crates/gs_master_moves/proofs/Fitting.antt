@@ -63,20 +63,27 @@ mapped config P Q f s t (Moves u move said held) = Moves u move said (f s move h
 mapped config P Q f s t (Then u first next a b) = Then u first next (mapped config P Q f s first a) (mapped config P Q f first.after next b)
 
 -- and where a turn that ends one epoch at most fits, each of its moves does
-module _ (config : Config) (heard : Heard) (Q : State → Move → Type 0) (made : (s : State) (move : Move) → May config heard s move × AllFit s (move_turn config s move) → Q s move) where
-  part_fitted : (is : Move → Bool) (b : Bool) (s : State) (t : Turn) → Chain config (λ u move. May config heard u move × (is move ≡ b)) s t → AllFit s t → Chain config (λ u move. Q u move × (is move ≡ b)) s t
+module _ (config : Config) (heard : Heard) (P Q : State → Move → Type 0) (may : (s : State) (move : Move) → P s move → May config heard s move) (made : (s : State) (move : Move) → P s move × AllFit s (move_turn config s move) → Q s move) where
+  part_fitted : (is : Move → Bool) (b : Bool) (s : State) (t : Turn) → Chain config (λ u move. P u move × (is move ≡ b)) s t → AllFit s t → Chain config (λ u move. Q u move × (is move ≡ b)) s t
   part_fitted is b s t chain fit =
-      mapped config (λ u move. (May config heard u move × (is move ≡ b)) × AllFit u (move_turn config u move)) (λ u move. Q u move × (is move ≡ b)) (λ u move both. (made u move (both.0.0, both.1), both.0.1)) s t
-      (fitted config heard (λ u move. May config heard u move × (is move ≡ b)) (λ u move may. may.0) s t chain fit)
+      mapped config (λ u move. (P u move × (is move ≡ b)) × AllFit u (move_turn config u move)) (λ u move. Q u move × (is move ≡ b)) (λ u move both. (made u move (both.0.0, both.1), both.0.1)) s t
+      (fitted config heard (λ u move. P u move × (is move ≡ b)) (λ u move held. may u move held.0) s t chain fit)
 
-  pub once_fitted : (s : State) (t : Turn) → EndsOnce config (May config heard) s t → AllFit s t → EndsOnce config Q s t
+  pub once_fitted : (s : State) (t : Turn) → EndsOnce config P s t → AllFit s t → EndsOnce config Q s t
   once_fitted s t (Within u v chain) fit = Within s t (part_fitted is_alone false s t chain fit)
-  once_fitted s t (ByItself u move said may is) fit = ByItself s move said (made s move (may, fit)) is
-  once_fitted s t (Closes u move said next may is chain) fit =
+  once_fitted s t (ByItself u move said held is) fit = ByItself s move said (made s move (held, fit)) is
+  once_fitted s t (Closes u move said next held is chain) fit =
       let first = move_turn config s move in
       let parts = split first.records next.records s.durable next.after.durable fit in
-      let left = move_leaves config heard s move parts.mid may parts.first in
-      Closes s move said next (made s move (may, parts.first ∙ ap Some (sym left))) is (part_fitted closes true first.after next chain (subst (λ m. replayed m next.records ≡ Some next.after.durable) (sym left) parts.then))
+      let left = move_leaves config heard s move parts.mid (may s move held) parts.first in
+      Closes s move said next (made s move (held, parts.first ∙ ap Some (sym left))) is (part_fitted closes true first.after next chain (subst (λ m. replayed m next.records ≡ Some next.after.durable) (sym left) parts.then))
+
+-- what holds of each of its moves may be weakened
+pub once_mapped : (config : Config) (P Q : State → Move → Type 0) → ((s : State) (move : Move) → P s move → Q s move) → (s : State) (t : Turn) → EndsOnce config P s t → EndsOnce config Q s t
+once_mapped config P Q f s t (Within u v chain) = Within s t (mapped config (λ u move. P u move × (is_alone move ≡ false)) (λ u move. Q u move × (is_alone move ≡ false)) (λ u move both. (f u move both.0, both.1)) s t chain)
+once_mapped config P Q f s t (ByItself u move said held is) = ByItself s move said (f s move held) is
+once_mapped config P Q f s t (Closes u move said next held is chain) =
+    Closes s move said next (f s move held) is (mapped config (λ u move. P u move × (closes move ≡ true)) (λ u move. Q u move × (closes move ≡ true)) (λ u move both. (f u move both.0, both.1)) (move_turn config s move).after next chain)
 
 -- such a turn is a chain
 pub once_chain : (config : Config) (P : State → Move → Type 0) (s : State) (t : Turn) → EndsOnce config P s t → Chain config P s t

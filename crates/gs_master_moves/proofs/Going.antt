@@ -1,5 +1,5 @@
 -- How a chunk is settled, and how the calls that waited for it go on, are chains of moves.
-use Rattle.std.proofs.Common.{◌≡◌, ◌∙◌, ◌&&◌, ◌||◌, inl, inr, ℕ, Bool, true, false, not, cond, List, [], ◌∷◌, filter, refl, ap, sym, subst, ◌-◌}
+use Rattle.std.proofs.Common.{◌≡◌, ◌∙◌, ◌==◌, ◌&&◌, ◌||◌, inl, inr, ℕ, Bool, true, false, not, cond, List, [], ◌∷◌, filter, refl, ap, sym, subst, ◌-◌}
 use Rattle.std.specs.Prelude.{is_some, option_and_then, option_map, unwrap_or, Option, Some, None, Result, Ok, Err, if◌then◌else◌, is_none, nat_lt, slice_get}
 use Rattle.std.specs.Cmp.{nat_cmp_total, tied_itself}
 use Rattle.std.specs.FinMap as fin
@@ -73,6 +73,10 @@ use Rattle.gs_master_moves.proofs.Chains.{Chained, all_ended_chain, ended_chain,
 use Rattle.gs_master_moves.proofs.Free.{copied_itself, copies_itself, cow_here, extends_itself}
 use Rattle.gs_master_moves.specs.Guards.{Heard, HasCarried, IsCalled, IsMadeBy, IsNext, IsOpenAt, IsSettledOn, IsWaiting, IsYes, May, settled_chunk, waits_for_copy, waits_to_copy, waits_to_extend, hears_call}
 use Rattle.gs_master_moves.specs.FindingQuiet.{AllFindQuiet, FindsQuiet}
+use Rattle.gs_master_moves.specs.ForCalls.{IsLed, StandsAt, waits_at_end, waits_for_lease, waits_for_tree}
+use Rattle.gs_base.specs.MemberLaws.{eqb_itself}
+use Rattle.gs_edit.proofs.Tables.{same_itself}
+use Rattle.gs_tree.specs.Edits.{same_path}
 use Rattle.gs_master_moves.specs.Moves.{Further, Moves, Answers as AnswersCall, Begins, Copies, CopiesTree, Extends, Hears, Replaces, Sends, Settles}
 
 -- ---- what each step is made of
@@ -264,6 +268,21 @@ is_of_file (waits.Quiet path index quiet) = true
 is_of_file (waits.Lease path index leased) = true
 is_of_file waiting = false
 
+-- who waits so waits so
+ends_itself : (path : Path) (new : ℕ) → waits_at_end path new (waits.Extend path new) ≡ true
+ends_itself path new = ap (λ b. b && (new == new)) (same_itself path) ∙ eqb_itself new
+
+leases_itself : (path : Path) (index chunk : ℕ) → waits_for_lease path index chunk (waits.Lease path index chunk) ≡ true
+leases_itself path index chunk = ap (λ b. b && (index == index && chunk == chunk)) (same_itself path) ∙ ap (λ b. b && (chunk == chunk)) (eqb_itself index) ∙ eqb_itself chunk
+
+trees_itself : (from to : Path) → waits_for_tree from to (waits.Snapshot from to) ≡ true
+trees_itself from to = ap (λ b. b && same_path to to) (same_itself from) ∙ same_itself to
+
+-- it waits for a lease
+abbrev is_leasing : Waiting → Bool
+is_leasing (waits.Lease path index leased) = true
+is_leasing waiting = false
+
 turned_about : (a b : ReqId) → same_call a b ≡ true → same_call b a ≡ true
 turned_about a b h = ap (same_call b) (same_parts a b h) ∙ same_self b
 
@@ -273,13 +292,13 @@ module _ (config : Config) (came : Heard) (silent : hears_call came ≡ false) (
   room_for_chain : (s : State) (req : ReqId) → is_pending s.volatile.pending req ≡ true → (t : Turn) → Chained config came s t → Chained config came s (if_room_for s req t)
   room_for_chain s req there t a = test_chain config came s (fits s.log t.records) t (ended_by s req refusals.Full) (λ _. a) (λ _. ended_chain config came s req there refusals.Full)
 
-  leased_next_chain : (req : ReqId) (path : Path) (index new : ℕ) (s : State) → is_pending s.volatile.pending req ≡ true → IsOpenAt s req new → has_entry s new ≡ true → is_shared s.durable.names new ≡ false → Chained config came s (leased_next req path index new s)
-  leased_next_chain req path index new s there clear known alone =
+  leased_next_chain : (req : ReqId) (path : Path) (index new : ℕ) (s : State) → is_pending s.volatile.pending req ≡ true → IsOpenAt s req new → has_entry s new ≡ true → is_shared s.durable.names new ≡ false → (old : ℕ) → IsWaiting s req (waits_for_copy path index old new) → StandsAt s.durable.names path index new → Chained config came s (leased_next req path index new s)
+  leased_next_chain req path index new s there clear known alone old copies here =
       let t = turned s (waits_on (begin_at s new purposes.Lease (Some req)) req (waits.Lease path index new)) in
       let begin = if_room_for s req t in
       test_chain config came s (not (may_begin s.durable.phase)) (ended_by s req refusals.RollingBack) (if not (has_versions s.durable 1) then ended_by s req refusals.Exhausted else begin) (λ _. ended_chain config came s req there refusals.RollingBack)
       (λ _. test_chain config came s (not (has_versions s.durable 1)) (ended_by s req refusals.Exhausted) begin (λ _. ended_chain config came s req there refusals.Exhausted)
-      (λ _. room_for_chain s req there t (Moves s (Begins new purposes.Lease (Some req) (Further req (waits.Lease path index new))) None (record { known = known; alone = alone; elsewhere = tt; called = tt; clear = clear; begun = refl }))))
+      (λ _. room_for_chain s req there t (Moves s (Begins new purposes.Lease (Some req) (Further req (waits.Lease path index new))) None (record { known = known; alone = alone; elsewhere = tt; called = tt; clear = clear; begun = refl }, (refl, (old, copies), here)))))
 
   -- the copy is listed once it has its place
   replaced_chain : (req : ReqId) (path : Path) (index old new : ℕ) (s : State) → IsWaiting s req (waits_for_copy path index old new) → new ≡ chunk → is_visible path ≡ true → Ready chunk s.durable → IsSettledOn s new view → has_entry s new ≡ true → (names : Result NamesView Refusal) → edited_names (Cow path index old new) s.durable.names ≡ names
@@ -292,16 +311,16 @@ module _ (config : Config) (came : Heard) (silent : hears_call came ≡ false) (
       let listed : is_listed t.after.durable new ≡ true = ap (λ o. is_listed (unwrap_or o s.durable) new) fit ∙ cow_lists path index old new s.durable.names names e in
       let alone : is_shared t.after.durable.names new ≡ false = ap (λ o. is_shared (unwrap_or o s.durable).names new) fit ∙ cow_alone path index old new s.durable.names names e in
       test_chain config came s (fits s.log (Edited own_request (Cow path index old new) ∷ [])) (and_then t (leased_next req path index new)) (ended_by s req refusals.Full)
-      (λ _. then_chain config came s t (leased_next req path index new) (Moves s (Replaces path index old new) None ((names, e), (view, settled), at_new, (req, waits_so)))
-      (leased_next_chain req path index new t.after there (record { path = path; index = index; here = ap (λ o. slice_get (chunks_at (unwrap_or o s.durable).names path) index) fit ∙ cow_here path index old new s.durable.names names e; clear = inr (old, waits_so) }) (or_left (is_listed t.after.durable new) (is_member t.after.volatile.unplaced new) listed) alone))
+      (λ _. then_chain config came s t (leased_next req path index new) (Moves s (Replaces path index old new) None (((names, e), (view, settled), at_new, (req, waits_so)), tt))
+      (leased_next_chain req path index new t.after there (record { path = path; index = index; here = ap (λ o. slice_get (chunks_at (unwrap_or o s.durable).names path) index) fit ∙ cow_here path index old new s.durable.names names e; clear = inr (old, waits_so) }) (or_left (is_listed t.after.durable new) (is_member t.after.volatile.unplaced new) listed) alone old waits_so (ap (λ o. slice_get (chunks_at (unwrap_or o s.durable).names path) index) fit ∙ cow_here path index old new s.durable.names names e)))
       (λ _. ended_chain config came s req there refusals.Full)
   replaced_chain req path index old new s waits_so same visible r settled at_new (Err refusal) e = ended_chain config came s req (does_wait s req (waits_for_copy path index old new) waits_so) refusal
 
-  extended_chain : (req : ReqId) (path : Path) (new : ℕ) (s : State) → IsCalled came s req → IsWaiting s req (waits_to_extend new) → IsSettledOn s new view → has_entry s new ≡ true → (names : Result NamesView Refusal) → edited_names (AddChunk path new) s.durable.names ≡ names
+  extended_chain : (req : ReqId) (path : Path) (new : ℕ) (s : State) → IsCalled came s req → IsWaiting s req (waits_to_extend new) → IsWaiting s req (waits_at_end path new) → IsSettledOn s new view → has_entry s new ≡ true → (names : Result NamesView Refusal) → edited_names (AddChunk path new) s.durable.names ≡ names
       → Chained config came s (edit_turn s req (edit_plan req (AddChunk path new) (answers.Location new view s.durable.epoch) (changes.Place new ∷ [])) names)
-  extended_chain req path new s called waits_so settled at_new (Ok names) e =
-      room_for_chain s req (does_wait s req (waits_to_extend new) waits_so) (turned s (edit_plan req (AddChunk path new) (answers.Location new view s.durable.epoch) (changes.Place new ∷ []))) (Moves s (Extends req path new view) None ((names, e), settled, at_new, called, waits_so, silent))
-  extended_chain req path new s called waits_so settled at_new (Err refusal) e = ended_chain config came s req (does_wait s req (waits_to_extend new) waits_so) refusal
+  extended_chain req path new s called waits_so ends settled at_new (Ok names) e =
+      room_for_chain s req (does_wait s req (waits_to_extend new) waits_so) (turned s (edit_plan req (AddChunk path new) (answers.Location new view s.durable.epoch) (changes.Place new ∷ []))) (Moves s (Extends req path new view) None (((names, e), settled, at_new, called, waits_so, silent), ends))
+  extended_chain req path new s called waits_so ends settled at_new (Err refusal) e = ended_chain config came s req (does_wait s req (waits_to_extend new) waits_so) refusal
 
   copied_chain : (req : ReqId) (path : Path) (index old : ℕ) (s : State) → IsWaiting s req (waits_to_copy path index old) → has_entry s old ≡ true → is_listed s.durable old ≡ true → IsNext s → is_given s.durable.next_handle old ≡ true → IsSettledOn s old view → view.term ≡ None → Chained config came s (copied s req path index old)
   copied_chain req path index old s waits_so known listed fresh given settled none =
@@ -312,12 +331,12 @@ module _ (config : Config) (came : Heard) (silent : hears_call came ≡ false) (
       test_chain config came s (not (may_begin s.durable.phase)) (ended_by s req refusals.RollingBack) (if not (has_handle s.durable && has_versions s.durable 1) then ended_by s req refusals.Exhausted else copy) (λ _. ended_chain config came s req there refusals.RollingBack)
       (λ _. test_chain config came s (not (has_handle s.durable && has_versions s.durable 1)) (ended_by s req refusals.Exhausted) copy (λ _. ended_chain config came s req there refusals.Exhausted)
       (λ _. subst (λ o. Chained config came s (copied_where s req path index old o)) (sym (quiet_on s old view known settled none))
-      (room_for_chain s req there t (Moves s (Copies old view req (Further req (waits.Copy path index old new))) None (record { known = known; listed = listed; fresh = fresh; given = given; settled = settled; quiet = none }, tt, (refl, refl, waits_so))))))
+      (room_for_chain s req there t (Moves s (Copies old view req (Further req (waits.Copy path index old new))) None ((record { known = known; listed = listed; fresh = fresh; given = given; settled = settled; quiet = none }, tt, (refl, refl, waits_so)), tt)))))
 
-  tree_chain : (req : ReqId) (from to : Path) (s : State) → is_pending s.volatile.pending req ≡ true → list_all (is_quiet_at s) (source_chunks s from) ≡ true → (names : Result NamesView Refusal) → edited_names (Snapshot from to) s.durable.names ≡ names
+  tree_chain : (req : ReqId) (from to : Path) (s : State) → is_pending s.volatile.pending req ≡ true → IsWaiting s req (waits_for_tree from to) → list_all (is_quiet_at s) (source_chunks s from) ≡ true → (names : Result NamesView Refusal) → edited_names (Snapshot from to) s.durable.names ≡ names
       → Chained config came s (edit_turn s req (edit_plan req (Snapshot from to) answers.Nothing []) names)
-  tree_chain req from to s called still (Ok names) e = room_for_chain s req called (turned s (edit_plan req (Snapshot from to) answers.Nothing [])) (Moves s (CopiesTree req from to) None ((names, e), still, called, silent))
-  tree_chain req from to s called still (Err refusal) e = ended_chain config came s req called refusal
+  tree_chain req from to s called so still (Ok names) e = room_for_chain s req called (turned s (edit_plan req (Snapshot from to) answers.Nothing [])) (Moves s (CopiesTree req from to) None (((names, e), still, called, silent), so))
+  tree_chain req from to s called so still (Err refusal) e = ended_chain config came s req called refusal
 
   settled_so : (s : State) (c : ℕ) → c ≡ chunk → Stays chunk view placed s → IsSettledOn s c view
   settled_so s c same k = subst (λ x. IsSettledOn s x view) (sym same) (record { has = k.has; unasked = k.unasked })
@@ -326,16 +345,16 @@ module _ (config : Config) (came : Heard) (silent : hears_call came ≡ false) (
   known_so s c same k = ap (has_entry s) same ∙ k.known
 
   -- a snapshot looks at no view
-  snapshot_chain : (s : State) (req : ReqId) (waiting : Waiting) → is_pending s.volatile.pending req ≡ true → is_snapshot waiting ≡ true → Chained config came s (goes_on s req view waiting)
+  snapshot_chain : (s : State) (req : ReqId) (waiting : Waiting) → is_pending s.volatile.pending req ≡ true → is_snapshot waiting ≡ true → ((test : Waiting → Bool) → is_waited_by (Some req) test s.volatile.pending ≡ test waiting) → Chained config came s (goes_on s req view waiting)
   unfolding goes_on
-  snapshot_chain s req (waits.Snapshot from to) called is =
+  snapshot_chain s req (waits.Snapshot from to) called is now =
       test_chain config came s (list_all (is_quiet_at s) (source_chunks s from)) (ended_by_edit s req (Snapshot from to) answers.Nothing []) (unmoved s)
-      (λ still. tree_chain req from to s called still (edited_names (Snapshot from to) s.durable.names) refl) (λ _. rests config came s)
-  snapshot_chain s req waiting called is = absurd (false≢true is)
+      (λ still. tree_chain req from to s called (now (waits_for_tree from to) ∙ trees_itself from to) still (edited_names (Snapshot from to) s.durable.names) refl) (λ _. rests config came s)
+  snapshot_chain s req waiting called is now = absurd (false≢true is)
 
-  -- A call that copies the chunk waits for a view without a lease, and one that waits for a chunk of a file waits for one that was placed in one.
+  -- A call that copies the chunk waits for a view without a lease, one that waits for a chunk of a file waits for one that was placed in one, and one that waits for a lease waits for a view with a primary.
   abbrev IsQuiet : Pending → Type 0
-  IsQuiet p = (is_quieting p.waits ≡ true → view.term ≡ None) × (is_of_file p.waits ≡ true → placed ≡ true)
+  IsQuiet p = (is_quieting p.waits ≡ true → view.term ≡ None) × (is_of_file p.waits ≡ true → placed ≡ true) × (is_leasing p.waits ≡ true → IsLed view)
 
   -- it waits
   goes_called : (s : State) (p : Pending) → CanGo chunk s.volatile p → is_pending s.volatile.pending p.req ≡ true
@@ -352,23 +371,23 @@ module _ (config : Config) (came : Heard) (silent : hears_call came ≡ false) (
 
   one_chain : (s : State) (p : Pending) → Holds true s → CanGo chunk s.volatile p → Ready chunk s.durable → Stays chunk view placed s → IsQuiet p → Chained config came s (goes_on s p.req view p.waits)
   unfolding goes_on
-  one_chain s p h go r k quiet = by_waiting p.waits refl go.may go.can.0 quiet.0 quiet.1
+  one_chain s p h go r k quiet = by_waiting p.waits refl go.may go.can.0 quiet.0 quiet.1 quiet.2
     where
       called : IsCalled came s p.req
       called = inr (goes_called s p go)
 
-      by_waiting : (w : Waiting) → w ≡ p.waits → may_wait_for chunk w ≡ true → list_all is_visible (paths_of w) ≡ true → (is_quieting w ≡ true → view.term ≡ None) → (is_of_file w ≡ true → placed ≡ true) → Chained config came s (goes_on s p.req view w)
-      by_waiting (waits.Extend path new) e may visible quiet in_file = extended_chain p.req path new s called (go.now (waits_to_extend new) ∙ ap (waits_to_extend new) (sym e) ∙ extends_itself path new) (settled_so s new (same_number new chunk may) k) (known_so s new (same_number new chunk may) k) (edited_names (AddChunk path new) s.durable.names) refl
-      by_waiting (waits.Lease path index leased) e may visible quiet in_file =
+      by_waiting : (w : Waiting) → w ≡ p.waits → may_wait_for chunk w ≡ true → list_all is_visible (paths_of w) ≡ true → (is_quieting w ≡ true → view.term ≡ None) → (is_of_file w ≡ true → placed ≡ true) → (is_leasing w ≡ true → IsLed view) → Chained config came s (goes_on s p.req view w)
+      by_waiting (waits.Extend path new) e may visible quiet in_file led = extended_chain p.req path new s called (go.now (waits_to_extend new) ∙ ap (waits_to_extend new) (sym e) ∙ extends_itself path new) (go.now (waits_at_end path new) ∙ ap (waits_at_end path new) (sym e) ∙ ends_itself path new) (settled_so s new (same_number new chunk may) k) (known_so s new (same_number new chunk may) k) (edited_names (AddChunk path new) s.durable.names) refl
+      by_waiting (waits.Lease path index leased) e may visible quiet in_file led =
           let settled = settled_so s leased (same_number leased chunk may) k in
-          Moves s (AnswersCall p.req (answers.Location leased view s.durable.epoch) true) None ((record { settled = ap view_in settled.has; now = refl; listed = ap (is_listed s.durable) (same_number leased chunk may) ∙ k.listed (in_file refl); calm = r.rolling }, settled, called), refl)
-      by_waiting (waits.Quiet path index old) e may visible quiet in_file = copied_chain p.req path index old s (go.now (waits_to_copy path index old) ∙ ap (waits_to_copy path index old) (sym e) ∙ copies_itself path index old) (known_so s old (same_number old chunk may) k) (ap (is_listed s.durable) (same_number old chunk may) ∙ k.listed (in_file refl)) (next_is s h.stands.kept) (h.stands.kept.handles old (ap is_some (settled_so s old (same_number old chunk may) k).has)) (settled_so s old (same_number old chunk may) k) (quiet refl)
-      by_waiting (waits.Copy path index old new) e may visible quiet in_file =
+          Moves s (AnswersCall p.req (answers.Location leased view s.durable.epoch) true) None (((record { settled = ap view_in settled.has; now = refl; listed = ap (is_listed s.durable) (same_number leased chunk may) ∙ k.listed (in_file refl); calm = r.rolling }, settled, called), refl), (path, index, go.now (waits_for_lease path index leased) ∙ ap (waits_for_lease path index leased) (sym e) ∙ leases_itself path index leased, led refl))
+      by_waiting (waits.Quiet path index old) e may visible quiet in_file led = copied_chain p.req path index old s (go.now (waits_to_copy path index old) ∙ ap (waits_to_copy path index old) (sym e) ∙ copies_itself path index old) (known_so s old (same_number old chunk may) k) (ap (is_listed s.durable) (same_number old chunk may) ∙ k.listed (in_file refl)) (next_is s h.stands.kept) (h.stands.kept.handles old (ap is_some (settled_so s old (same_number old chunk may) k).has)) (settled_so s old (same_number old chunk may) k) (quiet refl)
+      by_waiting (waits.Copy path index old new) e may visible quiet in_file led =
           replaced_chain p.req path index old new s (go.now (waits_for_copy path index old new) ∙ ap (waits_for_copy path index old new) (sym e) ∙ copied_itself path index old new) (same_number new chunk may) (left_true (is_visible path) visible) r (settled_so s new (same_number new chunk may) k) (known_so s new (same_number new chunk may) k) (edited_names (Cow path index old new) s.durable.names) refl
-      by_waiting (waits.Snapshot from to) e may visible quiet in_file = snapshot_chain s p.req (waits.Snapshot from to) (goes_called s p go) refl
-      by_waiting (waits.Replicate old target) e may visible quiet in_file =
+      by_waiting (waits.Snapshot from to) e may visible quiet in_file led = snapshot_chain s p.req (waits.Snapshot from to) (goes_called s p go) refl (λ test. go.now test ∙ ap test (sym e))
+      by_waiting (waits.Replicate old target) e may visible quiet in_file led =
           test_chain config came s (is_member view.members target) (ended_with s p.req (answers.Copied (Some (record { handle = old; server = target })))) (ended_by s p.req refusals.NoReplica)
-          (λ _. Moves s (AnswersCall p.req (answers.Copied (Some (record { handle = old; server = target }))) true) None ((tt, tt, tt), refl)) (λ _. ended_chain config came s p.req (goes_called s p go) refusals.NoReplica)
+          (λ _. Moves s (AnswersCall p.req (answers.Copied (Some (record { handle = old; server = target }))) true) None (((tt, tt, tt), refl), tt)) (λ _. ended_chain config came s p.req (goes_called s p go) refusals.NoReplica)
 
   -- ---- one after the other
 
@@ -388,7 +407,7 @@ module _ (config : Config) (came : Heard) (silent : hears_call came ≡ false) (
   snapshots_chain (p ∷ calls) s h go r all =
       let one = one_goes_so chunk view p calls s h go r in
       let t = goes_on s p.req view p.waits in
-      then_chain config came s t (all_go_on view calls) (snapshot_chain s p.req p.waits (goes_called s p go.0) all.0) (snapshots_chain calls t.after one.held one.going one.ready all.1)
+      then_chain config came s t (all_go_on view calls) (snapshot_chain s p.req p.waits (goes_called s p go.0) all.0 go.0.now) (snapshots_chain calls t.after one.held one.going one.ready all.1)
 
   abbrev AreQuiet : List Pending → Type 0
   AreQuiet ps = AllByRecursion IsQuiet ps
@@ -463,6 +482,35 @@ no_term (purposes.Copy target) members moment e = refl
 view_is : {a b : View} → ◌≡◌ {A = Option View} (Some a) (Some b) → a ≡ b
 view_is e = cc
 
+led_term : (purpose : Purpose) (asked members : List ℕ) (moment : Moment) → is_lease purpose ≡ true → may_settle asked members ≡ true → is_some (term_of purpose members moment) ≡ true
+unfolding is_lease
+led_term purposes.Lease asked [] moment e one = absurd (false≢true one)
+led_term purposes.Lease asked (m ∷ members) moment e one = refl
+led_term purposes.Quiet asked members moment e one = absurd (false≢true e)
+led_term (purposes.Copy target) asked members moment e one = absurd (false≢true e)
+
+view_led : (c : Chunk) (asking : Asking) (by : Poll) (moment : Moment) (view : View) → view_by c asking by moment ≡ Some view → is_lease asking.purpose ≡ true → IsLed view
+view_led c asking by moment view e leased = by_most (greatest by.counts) e
+  where
+    some_term : (o : Option Term) → is_some o ≡ true → (t : Term) × (o ≡ Some t)
+    some_term None h = absurd (false≢true h)
+    some_term (Some t) h = (t, refl)
+
+    by_test : (b : Bool) (made : View) → (b ≡ true → is_some made.term ≡ true) → (if b then Some made else None) ≡ Some view → IsLed view
+    by_test true made some h = subst IsLed (view_is h) (some_term made.term (some refl))
+    by_test false made some h = absurd (false≢true (ap is_some h))
+
+    by_most : (most : Option ℕ) → option_and_then (λ (ch : List ℕ × ℕ). if may_settle asking.asked ch.0 then Some (settled_view (proposed_in c asking) ch.0 ch.1 moment) else None) (option_map (λ count. (answerers by.counts count, count)) most) ≡ Some view → IsLed view
+    by_most None h = absurd (false≢true (ap is_some h))
+    by_most (Some count) h = by_test (may_settle asking.asked (answerers by.counts count)) (settled_view (proposed_in c asking) (answerers by.counts count) count moment) (λ one. led_term asking.purpose asking.asked (answerers by.counts count) moment leased one) h
+
+leases : (purpose : Purpose) (waiting : Waiting) → is_leasing waiting ≡ true → may_ask purpose waiting ≡ true → is_lease purpose ≡ true
+unfolding is_lease
+leases purposes.Lease (waits.Lease path index chunk) is may = refl
+leases purposes.Quiet (waits.Lease path index chunk) is may = absurd (false≢true may)
+leases (purposes.Copy target) (waits.Lease path index chunk) is may = absurd (false≢true may)
+leases purpose waiting is may = absurd (false≢true is)
+
 view_term : (c : Chunk) (asking : Asking) (by : Poll) (moment : Moment) (view : View) → view_by c asking by moment ≡ Some view → is_lease asking.purpose ≡ false → view.term ≡ None
 view_term c asking by moment view e other = by_most (greatest by.counts) e
   where
@@ -497,7 +545,11 @@ stands_in_file s chunk asking p k one mine none = by_listed (is_listed s.durable
     by_listed true e = refl
     by_listed false here = absurd (false≢true (sym (ap (λ c. is_waited_by c (makes chunk) s.volatile.pending) own ∙ one.now (makes chunk) ∙ none) ∙ k.own p.req own here))
 
-module _ (config : Config) (came : Heard) (silent : hears_call came ≡ false) (s : State) (chunk : ℕ) (asking : Asking) (view : View) (none : is_lease asking.purpose ≡ false → view.term ≡ None) (k : IsSought s.durable s.volatile chunk asking) where
+module _ (config : Config) (came : Heard) (silent : hears_call came ≡ false) (s : State) (chunk : ℕ) (asking : Asking) (view : View) (none : is_lease asking.purpose ≡ false → view.term ≡ None) (led : is_lease asking.purpose ≡ true → IsLed view) (k : IsSought s.durable s.volatile chunk asking) where
+  lease_file : (waiting : Waiting) → is_leasing waiting ≡ true → is_of_file waiting ≡ true
+  lease_file (waits.Lease path index leased) is = refl
+  lease_file waiting is = absurd (false≢true is)
+
   quiet_file : (waiting : Waiting) → is_quieting waiting ≡ true → is_of_file waiting ≡ true
   quiet_file (waits.Quiet path index quiet) is = refl
   quiet_file waiting is = absurd (false≢true is)
@@ -521,7 +573,7 @@ module _ (config : Config) (came : Heard) (silent : hears_call came ≡ false) (
           → AreQuiet config came silent chunk view (is_listed s.durable chunk) (cond b (p ∷ filter (λ (q : Pending). is_call q.req asking.call || is_copied_by s chunk q.waits) ps) (filter (λ (q : Pending). is_call q.req asking.call || is_copied_by s chunk q.waits) ps))
       by_test true concerned_so rest =
           let mine : is_of_file p.waits ≡ true → is_call p.req asking.call ≡ true = λ is. calls_it (is_call p.req asking.call) (is_copied_by s chunk p.waits) concerned_so (alone p.waits is) in
-          ((λ is. none (not_leased asking.purpose p.waits is (may (mine (quiet_file p.waits is)))), λ is. stands_in_file s chunk asking p k all.0 (mine is) (makes_none chunk p.waits is)), rest)
+          ((λ is. none (not_leased asking.purpose p.waits is (may (mine (quiet_file p.waits is)))), λ is. stands_in_file s chunk asking p k all.0 (mine is) (makes_none chunk p.waits is), λ is. led (leases asking.purpose p.waits is (may (mine (lease_file p.waits is))))), rest)
       by_test false other rest = rest
 
 module _ (config : Config) (came : Heard) (silent : hears_call came ≡ false) (s : State) (chunk : ℕ) (asking : Asking) (h : Holds true s) (has : fin.get s.volatile.moving chunk ≡ Some asking) (known : has_entry s chunk ≡ true) where
@@ -540,10 +592,10 @@ module _ (config : Config) (came : Heard) (silent : hears_call came ≡ false) (
       let calls = concerned s chunk asking.call in
       test_chain config came s (fits s.log records) (and_then t (all_go_on view calls)) (all_refused s chunk asking.call refusals.Full)
       (λ _. then_chain config came s t (all_go_on view calls)
-      (Moves s (Settles chunk asking carried view) None (record { by = by; moment = moment; known = known; has = has; made = made; view_is = e; carries = carries; leased = (h.stands.asked chunk asking has).leased }))
+      (Moves s (Settles chunk asking carried view) None (record { by = by; moment = moment; known = known; has = has; made = made; view_is = e; carries = carries; leased = (h.stands.asked chunk asking has).leased }, tt))
       (by_rolling t.after (is_rolling s.durable.phase) refl
       (λ still. all_chain config came silent chunk view (is_listed s.durable chunk) calls t.after so.good.holds so.going (so.ready still) (record { has = so.exact; unasked = so.unasked; known = settling_known s chunk asking carried view known; listed = λ there. ap (λ (n : NamesView). is_some (fin.get n.refs chunk)) (settling_names s chunk asking carried view) ∙ there })
-      (quiet_of config came silent s chunk asking view (view_term (settled_chunk s chunk) asking by moment view e) (h.stands.asked chunk asking has) s.volatile.pending (each_one s.volatile.pending h.stands.apart h.stands.calls)))))
+      (quiet_of config came silent s chunk asking view (view_term (settled_chunk s chunk) asking by moment view e) (view_led (settled_chunk s chunk) asking by moment view e) (h.stands.asked chunk asking has) s.volatile.pending (each_one s.volatile.pending h.stands.apart h.stands.calls)))))
       (λ _. all_ended_chain config came (requests_of calls) refusals.Full s (some_pending concerns s.volatile.pending h.stands.apart))
     where
       by_rolling : (next : State) (b : Bool) → is_rolling s.durable.phase ≡ b → (is_rolling s.durable.phase ≡ false → Chained config came next (all_go_on view (concerned s chunk asking.call) next)) → Chained config came next (all_go_on view (concerned s chunk asking.call) next)
@@ -557,7 +609,7 @@ module _ (config : Config) (came : Heard) (silent : hears_call came ≡ false) (
       let so = settles_so s chunk asking h has (settled_chunk s chunk) by carried moment view told e in
       by_rolling t.after (is_rolling s.durable.phase) refl
       (λ still. all_find config came silent chunk view (is_listed s.durable chunk) (concerned s chunk asking.call) t.after so.good.holds so.going (so.ready still) (record { has = so.exact; unasked = so.unasked; known = settling_known s chunk asking carried view known; listed = λ there. ap (λ (n : NamesView). is_some (fin.get n.refs chunk)) (settling_names s chunk asking carried view) ∙ there })
-      (quiet_of config came silent s chunk asking view (view_term (settled_chunk s chunk) asking by moment view e) (h.stands.asked chunk asking has) s.volatile.pending (each_one s.volatile.pending h.stands.apart h.stands.calls)))
+      (quiet_of config came silent s chunk asking view (view_term (settled_chunk s chunk) asking by moment view e) (view_led (settled_chunk s chunk) asking by moment view e) (h.stands.asked chunk asking has) s.volatile.pending (each_one s.volatile.pending h.stands.apart h.stands.calls)))
     where
       by_rolling : (next : State) (b : Bool) → is_rolling s.durable.phase ≡ b → (is_rolling s.durable.phase ≡ false → AllFindQuiet view (concerned s chunk asking.call) next) → AllFindQuiet view (concerned s chunk asking.call) next
       by_rolling next true is find = subst (λ (ps : List Pending). AllFindQuiet view (filter (λ (p : Pending). is_call p.req asking.call || is_copied_by s chunk p.waits) ps) next) (sym (h.rolling refl is)) tt
@@ -571,7 +623,7 @@ module _ (config : Config) (came : Heard) (silent : hears_call came ≡ false) (
       → Chained config came s (stepped s chunk (record { settled = fin.get s.durable.chunks chunk; asking = moves }) asking carried moment step)
   unfolding settled_by
   stepped_chain moves carried moment steps.Wait told of carries = rests config came s
-  stepped_chain moves carried moment (steps.Send source target) told of carries = Moves s (Sends chunk asking source target) None (record { known = known; has = has; copies = of.0; chosen = of.1 })
+  stepped_chain moves carried moment (steps.Send source target) told of carries = Moves s (Sends chunk asking source target) None (record { known = known; has = has; copies = of.0; chosen = of.1 }, tt)
   stepped_chain moves carried moment (steps.Settle by) told of carries = if_chain by carried moment (view_by (settled_chunk s chunk) asking by moment) told of carries refl
   stepped_chain moves carried moment steps.Fail told of carries = all_ended_chain config came (requests_of (concerned s chunk asking.call)) refusals.NoReplica s (some_pending concerns s.volatile.pending h.stands.apart)
 
@@ -610,7 +662,7 @@ module _ (config : Config) (came : Heard) (silent : hears_call came ≡ false) (
           let first = asked_so s h chunk asking new has stamp call purpose counts in
           let t = turned s (ask_plan chunk new) in
           let now : fin.get (fin.insert s.volatile.moving chunk new) chunk ≡ Some new = fin.get-insert nat_cmp_total s.volatile.moving chunk new chunk ∙ ap (λ o. cond (is_eq o) (Some new) (fin.get s.volatile.moving chunk)) (tied_itself nat_cmp_total chunk) in
-          then_chain config came s t (λ next. stepped next chunk (record { settled = fin.get s.durable.chunks chunk; asking = moves }) new carried moment step) (Moves s (Hears chunk new) None may)
+          then_chain config came s t (λ next. stepped next chunk (record { settled = fin.get s.durable.chunks chunk; asking = moves }) new carried moment step) (Moves s (Hears chunk new) None (may, tt))
           (stepped_chain config came silent t.after chunk new first.holds now known moves carried moment step step_told of carries)
 
   pub yes_chain : (server : ℕ) (stamp : Stamp) (count : ℕ) (carried : Bool) (moment : Moment) (asking : Option Asking) → IsNumber count → fin.get s.volatile.moving chunk ≡ asking → came ≡ Some (server, bodies.About chunk (abouts.Promised stamp count carried))

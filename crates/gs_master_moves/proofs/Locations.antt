@@ -1,6 +1,6 @@
 -- Where a client is told that a chunk is, it was told before, or a move of the chain looks it up.
-use Rattle.std.proofs.Common.{arith, ◌≡◌, ◌⊎◌, inl, inr, ◌∙◌, ◌==◌, ◌&&◌, ◌+◌, ◌++◌, ℕ, Bool, true, false, not, cond, List, [], ◌∷◌, refl, ap, sym, subst}
-use Rattle.std.specs.Prelude.{flat_map, is_some, map, nat_lt, Option, Some, None, Result, Ok, Err, if◌then◌else◌}
+use Rattle.std.proofs.Common.{arith, ◌≡◌, ◌⊎◌, inl, inr, ◌∙◌, ◌==◌, ◌&&◌, ◌+◌, ◌-◌, ◌≤◌, ◌++◌, ℕ, zero, suc, Bool, true, false, not, cond, List, [], ◌∷◌, refl, ap, sym, subst}
+use Rattle.std.specs.Prelude.{flat_map, is_some, length, map, nat_lt, take, Option, Some, None, Result, Ok, Err, if◌then◌else◌}
 use Rattle.std.specs.FinMap as fin
 use Rattle.std.specs.List.{AllByRecursion, list_all}
 use Rattle.std.specs.Ordering.{eq_by_cmp}
@@ -26,7 +26,9 @@ use Rattle.gs_path.specs.Path.{Path}
 use Rattle.gs_master_record.specs.Plain.{AddChunk, Cow, Create, Edited, Finalize, Forget, Hide, Holder, Mkdirs, PlainEdit, PlainEntry, Prepare, Propose, Remove, Rename, RollbackBegin, RollbackCommit, Said, Settle, Snapshot, Unhide, Whole}
 use Rattle.gs_master_record.specs.declared.checkpoint.Phase.TheVariants.{Ordinary, Rolling, Upgrade}
 use Rattle.gs_master_record.specs.declared.entry.Answered.{Answered}
-use Rattle.gs_master_spec.specs.Applied.{after_edit, after_undoing, applied, are_answers, are_at_rest, chunk_of_edit, held_by, is_next_epoch, may_be_settled, may_edit, may_propose, proposed, rolled_back, view_for, view_in, with_answer, with_edit, with_epoch, with_reply, with_view, without_prepared}
+use Rattle.std.proofs.Math.Seq.{take-append-add}
+use Rattle.std.proofs.lemmas.List.{append-nil, append_assoc, take-append-le}
+use Rattle.gs_master_spec.specs.Applied.{replayed, after_edit, after_undoing, applied, are_answers, are_at_rest, chunk_of_edit, held_by, is_next_epoch, may_be_settled, may_edit, may_propose, proposed, rolled_back, view_for, view_in, with_answer, with_edit, with_epoch, with_reply, with_view, without_prepared}
 use Rattle.gs_master_spec.specs.Chunks.{holder_records, is_holder, target_of}
 use Rattle.gs_master_spec.specs.Durable.{Durable, is_ordinary, is_rolling, is_upgrade, prepared_view, with_prepared}
 use Rattle.gs_master_spec.specs.Replies.{answer_to, client_cmp, is_later, later}
@@ -35,6 +37,7 @@ use Rattle.gs_master_spec.specs.State.{State, Turn, joined, answer_changes, end_
 use Rattle.gs_master_spec.specs.Undoing.{all_undone, edited_names}
 use Rattle.gs_master_spec.specs.Upgrades.{tell_all}
 use Rattle.gs_master_spec.specs.Volatile.{Volatile, all_changed, changed, is_call, let_go, let_go_of, without_call}
+use Rattle.gs_master_spec.specs.Whole.{checkpoint_of}
 use Rattle.gs_master_spec.specs.Working.{forget_if}
 use Rattle.gs_master_spec.specs.declared.asking.Asking.{Asking}
 use Rattle.gs_master_spec.specs.declared.change.Change.{Change}
@@ -45,6 +48,7 @@ use Rattle.gs_master_laws.proofs.Beginnings.{fits_gives}
 use Rattle.gs_master_laws.proofs.KeptViews.{same_key}
 use Rattle.gs_master_laws.proofs.Standing.{changed_more}
 use Rattle.gs_master_moves.proofs.Chains.{is_located}
+use Rattle.gs_master_moves.proofs.Fitting.{chain_leaves, split}
 use Rattle.gs_master_moves.proofs.Listed.{over_records}
 use Rattle.gs_master_moves.proofs.Right.{added_right, each_of, one_fits}
 use Rattle.gs_master_moves.specs.Guards.{AreSaidAgain, Heard, IsLocatedBy, IsMade, IsRightAnswer, IsSaidAgain, WasReplied, is_location, is_of_tree}
@@ -215,7 +219,7 @@ module _ (caller : ReqId) (chunk : ℕ) (view : View) (epoch : ℕ) where
       by_test false k = inl k
 
   -- the last reply to a client is kept
-  replied_before : (s : State) → WasReplied s caller place → KeepsLocation s caller chunk view epoch
+  pub replied_before : (s : State) → WasReplied s caller place → KeepsLocation s caller chunk view epoch
   replied_before s was = by_replies (fin.get s.durable.replies caller.client) (fin.get s.volatile.replies caller.client) refl refl was.has
     where
       durable : fin.get s.durable.replies caller.client ≡ Some was.reply → KeepsLocation s caller chunk view epoch
@@ -362,6 +366,66 @@ module _ (config : Config) (heard : Heard) (s : State) (caller : ReqId) (chunk :
   kept_by (CommitsRollback req names) made k = plain_by (CommitsRollback req names) (changes.RolledBack ∷ answer_changes s req (answers.Epoch s.durable.epoch)) made refl (accepted_keeps s req (changes.RolledBack ∷ []) s.durable.epoch refl) refl k
   kept_by Checkpoints made k = inl k
 
+  -- ---- where some of its records stand
+
+  -- they are all, or none of them tells a place
+  abbrev Part : ℕ → Move → Type 0
+  Part many move = (take many (move_turn config s move).records ≡ (move_turn config s move).records) ⊎ (list_all tells_no_place (take many (move_turn config s move).records) ≡ true)
+
+  one_or_none : (entry : PlainEntry) (many : ℕ) → (take many (entry ∷ []) ≡ entry ∷ []) ⊎ (list_all tells_no_place (take many (entry ∷ [])) ≡ true)
+  one_or_none entry zero = inr refl
+  one_or_none entry (suc zero) = inl refl
+  one_or_none entry (suc (suc many)) = inl refl
+
+  some_plain : (many : ℕ) (xs : List PlainEntry) → list_all tells_no_place xs ≡ true → list_all tells_no_place (take many xs) ≡ true
+  some_plain zero xs all = refl
+  some_plain (suc many) [] all = refl
+  some_plain (suc many) (x ∷ xs) all = (let parts = and_parts (tells_no_place x) (list_all tells_no_place xs) all in ap (λ b. b && list_all tells_no_place (take many xs)) parts.0 ∙ some_plain many xs parts.1)
+
+  plain_part : (many : ℕ) (move : Move) → list_all tells_no_place (move_turn config s move).records ≡ true → Part many move
+  plain_part many move all = inr (some_plain many (move_turn config s move).records all)
+
+  part_by : (many : ℕ) (move : Move) → IsMade config heard s move → Part many move
+  part_by many (Begins q purpose call Alone) made = plain_part many (Begins q purpose call Alone) refl
+  part_by many (Begins q purpose call (FromNow req waiting)) made = plain_part many (Begins q purpose call (FromNow req waiting)) refl
+  part_by many (Begins q purpose call (Further req waiting)) made = plain_part many (Begins q purpose call (Further req waiting)) refl
+  part_by many (Makes targets req path) made = plain_part many (Makes targets req path) refl
+  part_by many (Copies old at req Alone) made = plain_part many (Copies old at req Alone) refl
+  part_by many (Copies old at req (FromNow by waiting)) made = plain_part many (Copies old at req (FromNow by waiting)) refl
+  part_by many (Copies old at req (Further by waiting)) made = plain_part many (Copies old at req (Further by waiting)) refl
+  part_by many (Hears q asking) made = plain_part many (Hears q asking) refl
+  part_by many (Sends q asking source target) made = plain_part many (Sends q asking source target) refl
+  part_by many (Settles q asking carried at) made = plain_part many (Settles q asking carried at) (settle_tells (is_holder s.durable.phase (prepared_view s.durable q) carried asking at) q (target_of asking.purpose) at)
+  part_by many (Edits req edit answer) made = plain_part many (Edits req edit answer) (of_tree edit made.may.tree)
+  part_by many (Extends req path new at) made = one_or_none (Edited req (AddChunk path new)) many
+  part_by many (CopiesTree req from to) made = plain_part many (CopiesTree req from to) refl
+  part_by many (Replaces path index old new) made = plain_part many (Replaces path index old new) refl
+  part_by many (Scans removed forgotten) made = plain_part many (Scans removed forgotten) (scan_tells removed forgotten)
+  part_by many (Refuses req refusal over) made = plain_part many (Refuses req refusal over) (said_tells s req refusal)
+  part_by many (AnswersCall req answer true) made = plain_part many (AnswersCall req answer true) refl
+  part_by many (AnswersCall req answer false) made = plain_part many (AnswersCall req answer false) refl
+  part_by many (Waits req waiting) made = plain_part many (Waits req waiting) refl
+  part_by many (Restores server chunks) made = plain_part many (Restores server chunks) refl
+  part_by many (Says messages) made = plain_part many (Says messages) refl
+  part_by many (Flags req preparing now) made = plain_part many (Flags req preparing now) refl
+  part_by many (Prepares req moment) made = plain_part many (Prepares req moment) refl
+  part_by many (Finalizes req) made = plain_part many (Finalizes req) refl
+  part_by many BeginsRollback made = plain_part many BeginsRollback refl
+  part_by many (TellsRollback req now) made = plain_part many (TellsRollback req now) refl
+  part_by many (CommitsRollback req names) made = plain_part many (CommitsRollback req names) refl
+  part_by many Checkpoints made = one_or_none (Whole (checkpoint_of s.durable)) many
+
+  part_kept : (move : Move) (many : ℕ) (e : Durable) → IsMade config heard s move → replayed s.durable (take many (move_turn config s move).records) ≡ Some e → IsToldIn e.replies caller chunk view epoch → WasBy move
+  part_kept move many e made fit k = by_part (part_by many move made)
+    where
+      durable_is : {a b : Durable} → ◌≡◌ {A = Option Durable} (Some a) (Some b) → a ≡ b
+      durable_is h = cc
+
+      by_part : Part many move → WasBy move
+      by_part (inl all) = kept_by move made (inl (subst (λ (d : Durable). IsToldIn d.replies caller chunk view epoch) (durable_is (sym fit ∙ ap (replayed s.durable) all ∙ made.fits)) k))
+      by_part (inr plain) =
+          inl (inl (over_records (Before caller chunk view epoch) (λ d k. k) (λ d n e a b k. a (b k)) tells_no_place (record_before caller chunk view epoch) (take many (move_turn config s move).records) s.durable e plain fit k))
+
 -- ---- what a move sends
 
 module _ (config : Config) (heard : Heard) (s : State) where
@@ -457,17 +521,17 @@ module _ (config : Config) (heard : Heard) (Holds : State → Move → Type 0) (
   one_located : (s : State) (move : Move) (said : Option Refusal) (caller : ReqId) (chunk : ℕ) (view : View) (epoch : ℕ) → Holds s move → KeepsLocation s caller chunk view epoch ⊎ Locates s move caller chunk view epoch → Was s (record (move_turn config s move) { said = said }) caller chunk view epoch
   one_located s move said caller chunk view epoch holds (inl k) = inl k
   one_located s move said caller chunk view epoch holds (inr is) =
-      inr (record { before = record { after = s; records = []; sent = []; said = None }; first = Rests s None; move = move; holds = holds; locates = is; next = record { after = (move_turn config s move).after; records = []; sent = []; said = None }; rest = Rests (move_turn config s move).after None; last = refl })
+      inr (record { before = record { after = s; records = []; sent = []; said = None }; first = Rests s None; move = move; holds = holds; locates = is; next = record { after = (move_turn config s move).after; records = []; sent = []; said = None }; rest = Rests (move_turn config s move).after None; last = refl; records = sym (append-nil (move_turn config s move).records) })
 
   -- and so where others follow, or were made before
-  then_located : (s : State) (t next u : Turn) (caller : ReqId) (chunk : ℕ) (view : View) (epoch : ℕ) → Chain config Holds t.after next → u.after ≡ next.after → Was s t caller chunk view epoch → Was s u caller chunk view epoch
-  then_located s t next u caller chunk view epoch chain last (inl k) = inl k
-  then_located s t next u caller chunk view epoch chain last (inr w) =
-      inr (record { before = w.before; first = w.first; move = w.move; holds = w.holds; locates = w.locates; next = joined w.next next; rest = Then (move_turn config w.before.after w.move).after w.next next w.rest (subst (λ x. Chain config Holds x next) w.last chain); last = last })
+  then_located : (s : State) (t next u : Turn) (caller : ReqId) (chunk : ℕ) (view : View) (epoch : ℕ) → Chain config Holds t.after next → u.after ≡ next.after → u.records ≡ t.records ++ next.records → Was s t caller chunk view epoch → Was s u caller chunk view epoch
+  then_located s t next u caller chunk view epoch chain last are (inl k) = inl k
+  then_located s t next u caller chunk view epoch chain last are (inr w) =
+      inr (record { before = w.before; first = w.first; move = w.move; holds = w.holds; locates = w.locates; next = joined w.next next; rest = Then (move_turn config w.before.after w.move).after w.next next w.rest (subst (λ x. Chain config Holds x next) w.last chain); last = last; records = are ∙ ap (λ rs. rs ++ next.records) w.records ∙ append_assoc w.before.records ((move_turn config w.before.after w.move).records ++ w.next.records) next.records ∙ ap (λ rs. w.before.records ++ rs) (append_assoc (move_turn config w.before.after w.move).records w.next.records next.records) })
 
-  located_then : (s : State) (t next u : Turn) (caller : ReqId) (chunk : ℕ) (view : View) (epoch : ℕ) → Chain config Holds s t → u.after ≡ next.after → IsLocatedWithin config Holds t.after next caller chunk view epoch → Was s u caller chunk view epoch
-  located_then s t next u caller chunk view epoch chain last w =
-      inr (record { before = joined t w.before; first = Then s t w.before chain w.first; move = w.move; holds = w.holds; locates = w.locates; next = w.next; rest = w.rest; last = last ∙ w.last })
+  located_then : (s : State) (t next u : Turn) (caller : ReqId) (chunk : ℕ) (view : View) (epoch : ℕ) → Chain config Holds s t → u.after ≡ next.after → u.records ≡ t.records ++ next.records → IsLocatedWithin config Holds t.after next caller chunk view epoch → Was s u caller chunk view epoch
+  located_then s t next u caller chunk view epoch chain last are w =
+      inr (record { before = joined t w.before; first = Then s t w.before chain w.first; move = w.move; holds = w.holds; locates = w.locates; next = w.next; rest = w.rest; last = last ∙ w.last; records = are ∙ ap (λ rs. t.records ++ rs) w.records ∙ sym (append_assoc t.records w.before.records ((move_turn config w.before.after w.move).records ++ w.next.records)) })
 
   pub chain_keeps : (s : State) (t : Turn) (caller : ReqId) (chunk : ℕ) (view : View) (epoch : ℕ) → Chain config Holds s t → KeepsLocation t.after caller chunk view epoch → Was s t caller chunk view epoch
   chain_keeps s t caller chunk view epoch (Rests u said) k = inl k
@@ -475,8 +539,39 @@ module _ (config : Config) (heard : Heard) (Holds : State → Move → Type 0) (
   chain_keeps s t caller chunk view epoch (Then u first next a b) k = by_next (chain_keeps first.after next caller chunk view epoch b k) (λ here. chain_keeps s first caller chunk view epoch a here)
     where
       by_next : Was first.after next caller chunk view epoch → (KeepsLocation first.after caller chunk view epoch → Was s first caller chunk view epoch) → Was s t caller chunk view epoch
-      by_next (inl here) earlier = then_located s first next t caller chunk view epoch b refl (earlier here)
-      by_next (inr w) earlier = located_then s first next t caller chunk view epoch a refl w
+      by_next (inl here) earlier = then_located s first next t caller chunk view epoch b refl refl (earlier here)
+      by_next (inr w) earlier = located_then s first next t caller chunk view epoch a refl refl w
+
+  -- So it is of each reply that some of its records tell, where a disk fails behind these.
+  pub chain_tells : (s : State) (t : Turn) (caller : ReqId) (chunk : ℕ) (view : View) (epoch many : ℕ) (e : Durable) → Chain config Holds s t → replayed s.durable (take many t.records) ≡ Some e → IsToldIn e.replies caller chunk view epoch → Was s t caller chunk view epoch
+  chain_tells s t caller chunk view epoch many e (Rests u said) fit k = inl (inl (subst (λ (d : Durable). IsToldIn d.replies caller chunk view epoch) (durable_is (sym fit ∙ ap (replayed s.durable) (none_taken many))) k))
+    where
+      none_taken : (many : ℕ) → ◌≡◌ {A = List PlainEntry} (take many []) []
+      none_taken zero = refl
+      none_taken (suc many) = refl
+
+      durable_is : {a b : Durable} → ◌≡◌ {A = Option Durable} (Some a) (Some b) → a ≡ b
+      durable_is h = cc
+  chain_tells s t caller chunk view epoch many e (Moves u move said holds) fit k = one_located s move said caller chunk view epoch holds (part_kept config heard s caller chunk view epoch move many e (made s move holds) fit k)
+  chain_tells s t caller chunk view epoch many e (Then u first next a b) fit k =
+      by_place (λ here. chain_tells s first caller chunk view epoch many e a here k) (λ rest there. chain_tells first.after next caller chunk view epoch rest e b there k) (nat_lt many (length first.records)) refl
+    where
+      by_first : many ≤ length first.records → (replayed s.durable (take many first.records) ≡ Some e → Was s first caller chunk view epoch) → Was s t caller chunk view epoch
+      by_first within told = then_located s first next t caller chunk view epoch b refl refl (told (ap (replayed s.durable) (sym (take-append-le many first.records next.records within)) ∙ fit))
+
+      by_was : Was first.after next caller chunk view epoch → Was s t caller chunk view epoch
+      by_was (inl here) = then_located s first next t caller chunk view epoch b refl refl (chain_keeps s first caller chunk view epoch a here)
+      by_was (inr w) = located_then s first next t caller chunk view epoch a refl refl w
+
+      by_next : (rest : ℕ) → many ≡ length first.records + rest → (replayed first.after.durable (take rest next.records) ≡ Some e → Was first.after next caller chunk view epoch) → Was s t caller chunk view epoch
+      by_next rest is told =
+          let parts = split first.records (take rest next.records) s.durable e (ap (replayed s.durable) (sym (ap (λ n. take n (first.records ++ next.records)) is ∙ take-append-add first.records next.records rest)) ∙ fit) in
+          let left : first.after.durable ≡ parts.mid = chain_leaves config heard Holds (λ u move held. (made u move held).may) s first parts.mid a parts.first in
+          by_was (told (subst (λ (d : Durable). replayed d (take rest next.records) ≡ Some e) (sym left) parts.then))
+
+      by_place : (replayed s.durable (take many first.records) ≡ Some e → Was s first caller chunk view epoch) → ((rest : ℕ) → replayed first.after.durable (take rest next.records) ≡ Some e → Was first.after next caller chunk view epoch) → (c : Bool) → nat_lt many (length first.records) ≡ c → Was s t caller chunk view epoch
+      by_place told after true is = by_first (grind (arith, nat_tests)) told
+      by_place told after false is = by_next (many - length first.records) (grind (arith, nat_tests)) (after (many - length first.records))
 
   abbrev AreSent : (ReqId → ℕ → View → ℕ → Type 0) → List Message → Type 0
   AreSent P messages = AllByRecursion (λ (m : Message). IsToldOnlyIf P m.body) messages
@@ -498,12 +593,12 @@ module _ (config : Config) (heard : Heard) (Holds : State → Move → Type 0) (
   chain_sends s t (Moves u move said holds) =
       all_further (λ caller chunk view epoch. KeepsLocation s caller chunk view epoch ⊎ Locates s move caller chunk view epoch) (Was s t) (λ caller chunk view epoch was. one_located s move said caller chunk view epoch holds was) (move_turn config s move).sent (sent_by config heard s move (made s move holds))
   chain_sends s t (Then u first next a b) =
-      all_both (Was s t) first.sent next.sent (all_further (Was s first) (Was s t) (λ caller chunk view epoch was. then_located s first next t caller chunk view epoch b refl was) first.sent (chain_sends s first a))
+      all_both (Was s t) first.sent next.sent (all_further (Was s first) (Was s t) (λ caller chunk view epoch was. then_located s first next t caller chunk view epoch b refl refl was) first.sent (chain_sends s first a))
       (all_further (Was first.after next) (Was s t) later_on next.sent (chain_sends first.after next b))
     where
       later_on : (caller : ReqId) (chunk : ℕ) (view : View) (epoch : ℕ) → Was first.after next caller chunk view epoch → Was s t caller chunk view epoch
-      later_on caller chunk view epoch (inl here) = then_located s first next t caller chunk view epoch b refl (chain_keeps s first caller chunk view epoch a here)
-      later_on caller chunk view epoch (inr w) = located_then s first next t caller chunk view epoch a refl w
+      later_on caller chunk view epoch (inl here) = then_located s first next t caller chunk view epoch b refl refl (chain_keeps s first caller chunk view epoch a here)
+      later_on caller chunk view epoch (inr w) = located_then s first next t caller chunk view epoch a refl refl w
 
 pub kept_were_located : KeptWereLocated
 kept_were_located config heard s t caller chunk view epoch chain k = chain_keeps config heard (IsMade config heard) (λ u move made. made) s t caller chunk view epoch chain k

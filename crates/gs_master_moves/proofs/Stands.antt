@@ -21,11 +21,12 @@ use Rattle.gs_master_laws.specs.Promises.{IsKept, IsWritten}
 use Rattle.gs_master_laws.specs.Standing.{Event, Comes, Ticks, Renews, Restarts, turn_of}
 use Rattle.gs_master_laws.proofs.KeptAll.{keeps_all, tidied_kept}
 use Rattle.gs_master_laws.proofs.Writing.{events_written}
-use Rattle.gs_master_moves.proofs.Fitting.{chain_leaves, split}
-use Rattle.gs_master_moves.proofs.Made.{events_are_chains}
-use Rattle.gs_master_moves.specs.Epochs.{ByItself, Closes, OnceStands, Within, closes, is_alone}
+use Rattle.gs_master_moves.proofs.Fitting.{chain_leaves, once_mapped, split}
+use Rattle.gs_master_moves.proofs.Made.{events_are_chains, events_are_for}
+use Rattle.gs_master_moves.specs.ForCalls.{EventsStandFor, IsFor}
+use Rattle.gs_master_moves.specs.Epochs.{ByItself, Closes, EndsOnce, OnceStands, Within, closes, is_alone}
 use Rattle.gs_master_moves.specs.Guards.{Heard, IsMade}
-use Rattle.gs_master_moves.specs.Laws.{ChainsStand, CutsStand, EventsStand, IsMadeWell, met_in}
+use Rattle.gs_master_moves.specs.Laws.{ChainsStand, CutsStand, EventsStand, IsMadeWell, heard_in, met_in}
 use Rattle.gs_master_moves.specs.Moves.{Chain, Rests, Moves, Then, Alone, FromNow, Further, Move, Begins, Copies, Settles, Scans, Refuses, Answers as AnswersCall, Checkpoints, move_turn}
 
 durable_is : {a b : Durable} → ◌≡◌ {A = Option Durable} (Some a) (Some b) → a ≡ b
@@ -126,28 +127,38 @@ chains_stand config heard s t (Then u first next a b) written k =
     let two = chains_stand config heard first.after next b parts.1 one.behind in
     record { chain = Then u first next one.chain two.chain; behind = two.behind }
 
--- so it is of a turn that ends one epoch at most
-module _ (config : Config) (heard : Heard) where
-  part_stands : (is : Move → Bool) (b : Bool) (s : State) (t : Turn) → Chain config (λ u move. IsMade config heard u move × (is move ≡ b)) s t → IsWritten t → IsKept s.durable → Chain config (λ u move. IsMadeWell config heard u move × (is move ≡ b)) s t × IsKept t.after.durable
+-- so it is of a turn that ends one epoch at most, whatever else holds of its moves
+module _ (config : Config) (heard : Heard) (P : State → Move → Type 0) where
+  abbrev Also : State → Move → Type 0
+  Also u move = IsMade config heard u move × P u move
+
+  abbrev WellAlso : State → Move → Type 0
+  WellAlso u move = IsMadeWell config heard u move × P u move
+
+  part_stands : (is : Move → Bool) (b : Bool) (s : State) (t : Turn) → Chain config (λ u move. Also u move × (is move ≡ b)) s t → IsWritten t → IsKept s.durable → Chain config (λ u move. WellAlso u move × (is move ≡ b)) s t × IsKept t.after.durable
   part_stands is b s t (Rests u said) written k = (Rests u said, k)
   part_stands is b s t (Moves u move said made) written k =
-      let behind = move_kept config heard u move made.0 written k in (Moves u move said (record { made = made.0; before = k; behind = behind }, made.1), behind)
+      let behind = move_kept config heard u move made.0.0 written k in (Moves u move said ((record { made = made.0.0; before = k; behind = behind }, made.0.1), made.1), behind)
   part_stands is b s t (Then u first next a c) written k =
       let parts = both_of first.records next.records written in
       let one = part_stands is b u first a parts.0 k in
       let two = part_stands is b first.after next c parts.1 one.1 in
       (Then u first next one.0 two.0, two.1)
 
+  pub once_stands_also : (s : State) (t : Turn) → EndsOnce config Also s t → IsWritten t → IsKept s.durable → EndsOnce config WellAlso s t × IsKept t.after.durable
+  once_stands_also s t (Within u v chain) written k = (let part = part_stands is_alone false s t chain written k in (Within s t part.0, part.1))
+  once_stands_also s t (ByItself u move said made is) written k = (let behind = move_kept config heard u move made.0 written k in (ByItself s move said (record { made = made.0; before = k; behind = behind }, made.1) is, behind))
+  once_stands_also s t (Closes u move said next made is chain) written k =
+      let first = move_turn config s move in
+      let parts = both_of first.records next.records written in
+      let behind = move_kept config heard s move made.0 parts.0 k in
+      let rest = part_stands closes true first.after next chain parts.1 behind in
+      (Closes s move said next (record { made = made.0; before = k; behind = behind }, made.1) is rest.0, rest.1)
+
 pub once_stands : OnceStands
-once_stands config heard s t (Within u v chain) written k = let part = part_stands config heard is_alone false s t chain written k in record { turn = Within s t part.0; behind = part.1 }
-once_stands config heard s t (ByItself u move said made is) written k =
-    let behind = move_kept config heard u move made written k in record { turn = ByItself s move said (record { made = made; before = k; behind = behind }) is; behind = behind }
-once_stands config heard s t (Closes u move said next made is chain) written k =
-    let first = move_turn config s move in
-    let parts = both_of first.records next.records written in
-    let behind = move_kept config heard s move made parts.0 k in
-    let rest = part_stands config heard closes true first.after next chain parts.1 behind in
-    record { turn = Closes s move said next (record { made = made; before = k; behind = behind }) is rest.0; behind = rest.1 }
+once_stands config heard s t once written k =
+    let all = once_stands_also config heard (λ u move. Unit {0}) s t (once_mapped config (IsMade config heard) (λ u move. IsMade config heard u move × Unit {0}) (λ u move made. (made, tt)) s t once) written k in
+    record { turn = once_mapped config (λ u move. IsMadeWell config heard u move × Unit {0}) (IsMadeWell config heard) (λ u move both. both.0) s t all.0; behind = all.1 }
 
 met_kept : (s : State) (event : Event) → IsKept s.durable → IsKept (met_in s event).durable
 met_kept s (Comes message moment) k = k
@@ -158,6 +169,10 @@ met_kept s Restarts k = k
 pub events_stand : EventsStand
 events_stand config s event named heard y =
     chains_stand config _ (met_in s event) (turn_of config s event) (events_are_chains config s event named y.firm) (events_written config s event named heard y).written (met_kept s event y.firm.stands.kept)
+
+pub events_stand_for : EventsStandFor
+events_stand_for config s event named heard y =
+    (once_stands_also config (heard_in event) (IsFor (heard_in event)) (met_in s event) (turn_of config s event) (events_are_for config s event named y.firm) (events_written config s event named heard y).written (met_kept s event y.firm.stands.kept)).0
 
 pub cuts_stand : CutsStand
 cuts_stand config heard s t place d c written fit =

@@ -43,7 +43,7 @@ use Rattle.gs_master_spec.specs.declared.reply.KeptReply.{KeptReply}
 use Rattle.gs_master_laws.specs.Promises.{IsKept}
 use Rattle.gs_master_laws.proofs.AcceptedCalls.{left_false, one_visible, passes}
 use Rattle.gs_master_moves.proofs.Ended.{each_pending}
-use Rattle.gs_master_moves.proofs.Free.{first_free, free_of, none_free}
+use Rattle.gs_master_moves.proofs.Free.{first_free, found_here, free_of, none_free}
 use Rattle.gs_path.specs.Element.{is_hidden}
 use Rattle.gs_master_laws.proofs.AcceptedUpgrades.{begin_fits, first_test, not_so, unquiet_none}
 use Rattle.gs_master_laws.proofs.AcceptedViews.{filter_holds}
@@ -52,6 +52,7 @@ use Rattle.gs_master_laws.proofs.StandingTurns.{Holds, given_up}
 use Rattle.gs_master_moves.proofs.Calls.{deletes_chain, edits_chain, renames_chain, extends_turned, found_listed, found_turned, lists_chain, located_turned, most_chain, scans_turned, snapshot_if_chain, status_chain}
 use Rattle.gs_master_moves.proofs.Chains.{Chained, Turned, all_begun_chain, all_ended_chain, answered_chain, closing_chain, joined_together, refused_chain, rests, room_chain, room_turned, test_chain, test_turned, then_chain, within}
 use Rattle.gs_master_moves.specs.Epochs.{ByItself, Closes}
+use Rattle.gs_master_moves.specs.ForCalls.{IsHeardAs, IsNew}
 use Rattle.gs_master_moves.specs.Guards.{IsCalled, IsHeardCall, IsRefusable, Heard, WasReplied, hears_call}
 use Rattle.gs_master_moves.specs.Moves.{Moves, Then, BeginsRollback, CommitsRollback, Finalizes, Flags, Prepares, Says, TellsRollback}
 
@@ -106,8 +107,8 @@ module _ (config : Config) (heard : Heard) where
   unless_chain s req may t None a = room_chain config heard s req may t (a refl)
   unless_chain s req may t (Some refusal) a = refused_chain config heard s req may refusal
 
-  prepare_chain : (s : State) (req : ReqId) → IsRefusable heard s req false → Holds true s → Chained config heard s (prepare_begin s req)
-  prepare_chain s req may h =
+  prepare_chain : (s : State) (req : ReqId) → IsRefusable heard s req false → Holds true s → IsHeardAs heard req calls.PrepareBegin → Chained config heard s (prepare_begin s req)
+  prepare_chain s req may h for =
       let reqs = requests_of s.volatile.pending in
       let many = all_unquiet s in
       let ended = all_ended_by s reqs refusals.Preparing in
@@ -126,14 +127,14 @@ module _ (config : Config) (heard : Heard) where
       ∙ all_ended_same (λ d. list_all (λ c. is_listed d c || is_member s.volatile.unplaced c) many) (λ d replies. refl) reqs refusals.Preparing s ∙ known in
       then_chain config heard s (and_then ended begin) accept
       (then_chain config heard s ended begin (all_ended_chain config heard reqs refusals.Preparing s (each_pending s.volatile.pending h.stands.apart)) (all_begun_chain config heard many None ended.after still))
-      (Moves (and_then ended begin).after (Flags req true s.durable.epoch) None tt))
+      (Moves (and_then ended begin).after (Flags req true s.durable.epoch) None (tt, for)))
 
   unless_turned : (s : State) (req : ReqId) → IsRefusable heard s req false → (t : Turn) (refusal : Option Refusal) → (refusal ≡ None → Turned config heard s t) → Turned config heard s (unless refusal s req t)
   unless_turned s req may t None a = room_turned config heard s req may t (a refl)
   unless_turned s req may t (Some refusal) a = within config heard (refused_chain config heard s req may refusal)
 
-  commit_chain : (s : State) (req : ReqId) → IsRefusable heard s req false → (moment : Moment) → IsKept s.durable → Turned config heard s (prepare_commit config s req moment)
-  commit_chain s req may moment k =
+  commit_chain : (s : State) (req : ReqId) → IsRefusable heard s req false → (moment : Moment) → IsKept s.durable → IsNew heard s req calls.PrepareCommit → Turned config heard s (prepare_commit config s req moment)
+  commit_chain s req may moment k for =
       unless_turned s req may (turned s (accepted_plan s req (Prepare (s.durable.epoch + 1) moment.0 (chunk_count s) ∷ []) (changes.Prepare false ∷ []) (tell_all config (s.durable.epoch + 1) ends.Prepare) (s.durable.epoch + 1)))
       (first_of (commit_tests s.durable.phase s.volatile.is_preparing (all_unquiet s) (is_last_epoch s.durable)))
       (λ passed.
@@ -141,15 +142,15 @@ module _ (config : Config) (heard : Heard) where
       let one = first_test (not s.volatile.is_preparing && not (is_ordinary s.durable.phase)) refusals.AlreadyUpgrading ((not s.volatile.is_preparing, refusals.NotUpgrading) ∷ more) passed in
       let two = first_test (not s.volatile.is_preparing) refusals.NotUpgrading more one.1 in
       let quiet = (unquiet_none (all_unquiet s) (is_last_epoch s.durable) two.1).0 in
-      ByItself s (Prepares req moment) None (record { begun = not_so s.volatile.is_preparing two.0; quiet = quiet; ended = ends_counted s.durable k }) refl)
+      ByItself s (Prepares req moment) None (record { begun = not_so s.volatile.is_preparing two.0; quiet = quiet; ended = ends_counted s.durable k }, for) refl)
 
-  finalize_chain : (s : State) (req : ReqId) → IsRefusable heard s req false → IsKept s.durable → Turned config heard s (finalize config s req)
-  finalize_chain s req may k =
+  finalize_chain : (s : State) (req : ReqId) → IsRefusable heard s req false → IsKept s.durable → IsNew heard s req calls.Finalize → Turned config heard s (finalize config s req)
+  finalize_chain s req may k for =
       unless_turned s req may (turned s (accepted_plan s req (Finalize (s.durable.epoch + 1) ∷ []) [] (tell_all config (s.durable.epoch + 1) ends.Finalize) (s.durable.epoch + 1)))
-      (first_of (end_tests s.durable.phase (is_last_epoch s.durable))) (λ passed. ByItself s (Finalizes req) None (record { passed = passed; ended = ends_counted s.durable k }) refl)
+      (first_of (end_tests s.durable.phase (is_last_epoch s.durable))) (λ passed. ByItself s (Finalizes req) None (record { passed = passed; ended = ends_counted s.durable k }, for) refl)
 
-  rollback_chain : (s : State) (req : ReqId) → IsRefusable heard s req false → IsKept s.durable → are_apart s.volatile.pending ≡ true → Turned config heard s (rollback_begin config s req)
-  rollback_chain s req may k apart =
+  rollback_chain : (s : State) (req : ReqId) → IsRefusable heard s req false → IsKept s.durable → are_apart s.volatile.pending ≡ true → IsNew heard s req calls.RollbackBegin → Turned config heard s (rollback_begin config s req)
+  rollback_chain s req may k apart for =
       let first = turned s (record { records = RollbackBegin (s.durable.epoch + 1) ∷ []; changes = []; sent = []; said = None }) in
       let reqs = requests_of s.volatile.pending in
       let ended : State → Turn = λ next. all_ended_by next reqs refusals.RollingBack in
@@ -163,77 +164,83 @@ module _ (config : Config) (heard : Heard) where
       ∙ ap (slice_get (s.durable.ends ++ ends.Rollback ∷ [])) (sym (ends_counted s.durable k)) ∙ at_end s.durable.ends ends.Rollback in
       let behind = ended first.after in
       subst (Turned config heard s) (sym (joined_together first behind (accept behind.after)))
-      (Closes s BeginsRollback None (joined behind (accept behind.after)) (record { passed = passed; ended = ends_counted s.durable k }) refl
+      (Closes s BeginsRollback None (joined behind (accept behind.after)) (record { passed = passed; ended = ends_counted s.durable k }, (req, for)) refl
       (Then first.after behind (accept behind.after) (closing_chain config heard reqs refusals.RollingBack first.after (each_pending s.volatile.pending apart))
-      (Moves behind.after (TellsRollback req (s.durable.epoch + 1)) None (record { before = s.durable.epoch; next = refl; ended = ended_so }, refl)))))
+      (Moves behind.after (TellsRollback req (s.durable.epoch + 1)) None ((record { before = s.durable.epoch; next = refl; ended = ended_so }, for.heard_so), refl)))))
 
-  abort_chain : (s : State) (req : ReqId) → IsRefusable heard s req false → Chained config heard s (prepare_abort s req)
-  abort_chain s req may =
+  abort_chain : (s : State) (req : ReqId) → IsRefusable heard s req false → IsHeardAs heard req calls.PrepareAbort → Chained config heard s (prepare_abort s req)
+  abort_chain s req may for =
       test_chain config heard s s.volatile.is_preparing (turned s (accepted_plan s req [] (changes.Prepare false ∷ []) [] s.durable.epoch)) (refused s req refusals.NotUpgrading)
-      (λ _. Moves s (Flags req false s.durable.epoch) None tt) (λ _. refused_chain config heard s req may refusals.NotUpgrading)
+      (λ _. Moves s (Flags req false s.durable.epoch) None (tt, for)) (λ _. refused_chain config heard s req may refusals.NotUpgrading)
 
   restored_chain : (s : State) (req : ReqId) → IsRefusable heard s req false → (names : NamesView) (lacking : Option ℕ) → is_rolling s.durable.phase ≡ true → all_undone s.durable.inverses s.durable.names ≡ Some names → unrestored (prepared_view s.durable) (told_of s) (fin.entries names.refs) ≡ lacking
-      → Turned config heard s (commit_if s req names lacking)
-  restored_chain s req may names (Some chunk) rolling back is = within config heard (refused_chain config heard s req may (refusals.Unrestored chunk))
-  restored_chain s req may names None rolling back is =
+      → IsNew heard s req calls.RollbackCommit → Turned config heard s (commit_if s req names lacking)
+  restored_chain s req may names (Some chunk) rolling back is for = within config heard (refused_chain config heard s req may (refusals.Unrestored chunk))
+  restored_chain s req may names None rolling back is for =
       room_turned config heard s req may (turned s (accepted_plan s req (RollbackCommit s.durable.epoch (answers_for (prepared_view s.durable) (told_of s) (fin.entries names.refs)) ∷ []) (changes.RolledBack ∷ []) [] s.durable.epoch))
-      (ByItself s (CommitsRollback req names) None (record { rolling = rolling; back = back; restored = is }) refl)
+      (ByItself s (CommitsRollback req names) None (record { rolling = rolling; back = back; restored = is }, for) refl)
 
-  commits_chain : (s : State) (req : ReqId) → IsRefusable heard s req false → (names : Option NamesView) → is_rolling s.durable.phase ≡ true → all_undone s.durable.inverses s.durable.names ≡ names → Turned config heard s (commit_on s req names)
-  commits_chain s req may None rolling is = within config heard (refused_chain config heard s req may refusals.BadLine)
-  commits_chain s req may (Some names) rolling is = restored_chain s req may names (unrestored (prepared_view s.durable) (told_of s) (fin.entries names.refs)) rolling is refl
+  commits_chain : (s : State) (req : ReqId) → IsRefusable heard s req false → (names : Option NamesView) → is_rolling s.durable.phase ≡ true → all_undone s.durable.inverses s.durable.names ≡ names → IsNew heard s req calls.RollbackCommit → Turned config heard s (commit_on s req names)
+  commits_chain s req may None rolling is for = within config heard (refused_chain config heard s req may refusals.BadLine)
+  commits_chain s req may (Some names) rolling is for = restored_chain s req may names (unrestored (prepared_view s.durable) (told_of s) (fin.entries names.refs)) rolling is refl for
 
   -- ---- all calls
 
-  called_chain : (s : State) (req : ReqId) → IsCalled heard s req → is_pending s.volatile.pending req ≡ false → (moment : Moment) (call : Call) → Holds true s → refused_before s req call ≡ None → Turned config heard s (called config s req moment call)
-  called_chain s req come new moment (calls.Mkdirs path) h passed = within config heard (edits_chain config heard s req (Mkdirs path) answers.Nothing refl refl refl (none_free s req _ _ (free_of s req (calls.Mkdirs path) new passed)) come)
-  called_chain s req come new moment (calls.Create path) h passed = within config heard (edits_chain config heard s req (Create path) answers.Nothing refl refl refl (none_free s req _ _ (free_of s req (calls.Create path) new passed)) come)
-  called_chain s req come new moment (calls.Rename from to) h passed = within config heard (renames_chain config heard s req from to (first_free s req from _ _ (free_of s req (calls.Rename from to) new passed)) come)
-  called_chain s req come new moment (calls.Delete path recursive) h passed = within config heard (deletes_chain config heard s req path recursive moment (first_free s req path _ _ (free_of s req (calls.Delete path recursive) new passed)) come)
-  called_chain s req come new moment (calls.Undelete path) h passed = within config heard (edits_chain config heard s req (Unhide path) _ refl refl refl (first_free s req path _ _ (free_of s req (calls.Undelete path) new passed)) come)
-  called_chain s req come new moment (calls.Snapshot from to) h passed = within config heard (snapshot_if_chain config heard s req come (none_free s req _ _ (free_of s req (calls.Snapshot from to) new passed)) from to (edited (edits.Snapshot from to) (fin.entries s.durable.names.tree)) h.stands.kept)
-  called_chain s req come new moment (calls.List path) h passed = within config heard (lists_chain config heard s req (come, new) path)
-  called_chain s req come new moment (calls.Status path) h passed = within config heard (status_chain config heard s req (come, new) path)
-  called_chain s req come new moment (calls.FindForReading path index) h passed =
-      located_turned config heard s req come new (found_chunk (fin.get s.durable.names.tree path) index) (left_false (is_rolling s.durable.phase) (passes s req (calls.FindForReading path index) passed).rolling) (λ c is. found_listed config heard s path index c h.stands.kept is)
-  called_chain s req come new moment (calls.FindForWriting path index stamp) h passed =
-      found_turned config heard s req come path index stamp moment (found_chunk (fin.get s.durable.names.tree path) index) (one_visible (list_any is_hidden path) (passes s req (calls.FindForWriting path index stamp) passed).hidden) (free_of s req (calls.FindForWriting path index stamp) new passed) h.stands.kept (left_false (is_rolling s.durable.phase) (passes s req (calls.FindForWriting path index stamp) passed).rolling) refl
-  called_chain s req come new moment (calls.Extend path index) h passed =
-      extends_turned config heard s req come new path index (fin.get s.durable.names.tree path) h.stands.kept (left_false (is_rolling s.durable.phase) (passes s req (calls.Extend path index) passed).rolling) refl
-  called_chain s req come new moment calls.Scan h passed = scans_turned config heard s req (come, new) moment h.stands
-  called_chain s req come new moment calls.Replicate h passed = within config heard (most_chain config heard s req come new (most_needed_of config.replicas (needs_of s)))
-  called_chain s req come new moment calls.Query h passed = within config heard (answered_chain config heard s req (answers.Phase (told_phase s.volatile.is_preparing s.durable.phase) s.durable.epoch) refl)
-  called_chain s req come new moment calls.PrepareBegin h passed = within config heard (prepare_chain s req (come, new) h)
-  called_chain s req come new moment calls.PrepareCommit h passed = commit_chain s req (come, new) moment h.stands.kept
-  called_chain s req come new moment calls.PrepareAbort h passed = within config heard (abort_chain s req (come, new))
-  called_chain s req come new moment calls.Finalize h passed = finalize_chain s req (come, new) h.stands.kept
-  called_chain s req come new moment calls.RollbackBegin h passed = rollback_chain s req (come, new) h.stands.kept h.stands.apart
-  called_chain s req come new moment calls.RollbackCommit h passed =
+  called_chain : (s : State) (req : ReqId) → IsCalled heard s req → is_pending s.volatile.pending req ≡ false → (moment : Moment) (call : Call) → Holds true s → refused_before s req call ≡ None → IsNew heard s req call → Turned config heard s (called config s req moment call)
+  called_chain s req come new moment (calls.Mkdirs path) h passed for = within config heard (edits_chain config heard s req (Mkdirs path) answers.Nothing refl refl refl (none_free s req _ _ (free_of s req (calls.Mkdirs path) new passed)) come (calls.Mkdirs path, for, refl))
+  called_chain s req come new moment (calls.Create path) h passed for = within config heard (edits_chain config heard s req (Create path) answers.Nothing refl refl refl (none_free s req _ _ (free_of s req (calls.Create path) new passed)) come (calls.Create path, for, refl))
+  called_chain s req come new moment (calls.Rename from to) h passed for = within config heard (renames_chain config heard s req from to (first_free s req from _ _ (free_of s req (calls.Rename from to) new passed)) come for)
+  called_chain s req come new moment (calls.Delete path recursive) h passed for = within config heard (deletes_chain config heard s req path recursive moment (first_free s req path _ _ (free_of s req (calls.Delete path recursive) new passed)) come for)
+  called_chain s req come new moment (calls.Undelete path) h passed for = within config heard (edits_chain config heard s req (Unhide path) _ refl refl refl (first_free s req path _ _ (free_of s req (calls.Undelete path) new passed)) come (calls.Undelete path, for, refl))
+  called_chain s req come new moment (calls.Snapshot from to) h passed for = within config heard (snapshot_if_chain config heard s req come (none_free s req _ _ (free_of s req (calls.Snapshot from to) new passed)) from to (edited (edits.Snapshot from to) (fin.entries s.durable.names.tree)) h.stands.kept for)
+  called_chain s req come new moment (calls.List path) h passed for = within config heard (lists_chain config heard s req (come, new) path)
+  called_chain s req come new moment (calls.Status path) h passed for = within config heard (status_chain config heard s req (come, new) path)
+  called_chain s req come new moment (calls.FindForReading path index) h passed for =
+      located_turned config heard s req come new (found_chunk (fin.get s.durable.names.tree path) index) (left_false (is_rolling s.durable.phase) (passes s req (calls.FindForReading path index) passed).rolling) (λ c is. found_listed config heard s path index c h.stands.kept is) (λ c view is has. (calls.FindForReading path index, for, found_here (fin.get s.durable.names.tree path) index c is))
+  called_chain s req come new moment (calls.FindForWriting path index stamp) h passed for =
+      found_turned config heard s req come path index stamp moment (found_chunk (fin.get s.durable.names.tree path) index) (one_visible (list_any is_hidden path) (passes s req (calls.FindForWriting path index stamp) passed).hidden) (free_of s req (calls.FindForWriting path index stamp) new passed) h.stands.kept (left_false (is_rolling s.durable.phase) (passes s req (calls.FindForWriting path index stamp) passed).rolling) refl for
+  called_chain s req come new moment (calls.Extend path index) h passed for =
+      extends_turned config heard s req come new path index (fin.get s.durable.names.tree path) h.stands.kept (left_false (is_rolling s.durable.phase) (passes s req (calls.Extend path index) passed).rolling) refl for (one_visible (list_any is_hidden path) (passes s req (calls.Extend path index) passed).hidden) (free_of s req (calls.Extend path index) new passed)
+  called_chain s req come new moment calls.Scan h passed for = scans_turned config heard s req (come, new) moment h.stands for
+  called_chain s req come new moment calls.Replicate h passed for = within config heard (most_chain config heard s req come new (most_needed_of config.replicas (needs_of s)) for)
+  called_chain s req come new moment calls.Query h passed for = within config heard (answered_chain config heard s req (answers.Phase (told_phase s.volatile.is_preparing s.durable.phase) s.durable.epoch) refl)
+  called_chain s req come new moment calls.PrepareBegin h passed for = within config heard (prepare_chain s req (come, new) h for.heard_so)
+  called_chain s req come new moment calls.PrepareCommit h passed for = commit_chain s req (come, new) moment h.stands.kept for
+  called_chain s req come new moment calls.PrepareAbort h passed for = within config heard (abort_chain s req (come, new) for.heard_so)
+  called_chain s req come new moment calls.Finalize h passed for = finalize_chain s req (come, new) h.stands.kept for
+  called_chain s req come new moment calls.RollbackBegin h passed for = rollback_chain s req (come, new) h.stands.kept h.stands.apart for
+  called_chain s req come new moment calls.RollbackCommit h passed for =
       test_turned config heard s (is_rolling s.durable.phase) (commit_on s req (all_undone s.durable.inverses s.durable.names)) (refused s req refusals.NotUpgrading)
-      (λ rolling. commits_chain s req (come, new) (all_undone s.durable.inverses s.durable.names) rolling refl) (λ _. within config heard (refused_chain config heard s req (come, new) refusals.NotUpgrading))
+      (λ rolling. commits_chain s req (come, new) (all_undone s.durable.inverses s.durable.names) rolling refl for) (λ _. within config heard (refused_chain config heard s req (come, new) refusals.NotUpgrading))
 
-  called_unless_chain : (s : State) (req : ReqId) → IsCalled heard s req → is_pending s.volatile.pending req ≡ false → (moment : Moment) (call : Call) (refusal : Option Refusal) → Holds true s → refused_before s req call ≡ refusal → Turned config heard s (called_unless config s req moment call refusal)
-  called_unless_chain s req come new moment call None h passed = called_chain s req come new moment call h passed
-  called_unless_chain s req come new moment call (Some refusal) h passed = within config heard (refused_chain config heard s req (come, new) refusal)
+  called_unless_chain : (s : State) (req : ReqId) → IsCalled heard s req → is_pending s.volatile.pending req ≡ false → (moment : Moment) (call : Call) (refusal : Option Refusal) → Holds true s → refused_before s req call ≡ refusal → IsNew heard s req call → Turned config heard s (called_unless config s req moment call refusal)
+  called_unless_chain s req come new moment call None h passed for = called_chain s req come new moment call h passed for
+  called_unless_chain s req come new moment call (Some refusal) h passed for = within config heard (refused_chain config heard s req (come, new) refusal)
 
   -- ---- a reply again
 
   refused_again : (s : State) (req : ReqId) (refusal : Refusal) → is_kept refusal ≡ false → Chained config heard s (replied_again s req (Err refusal))
-  refused_again s req refusal unkept = Moves s (Says _) (Some refusal) ((inl tt, tt), refl, (inl unkept, tt))
+  refused_again s req refusal unkept = Moves s (Says _) (Some refusal) (((inl tt, tt), refl, (inl unkept, tt)), tt)
 
   again_chain : (s : State) (req : ReqId) → IsHeardCall heard req → is_pending s.volatile.pending req ≡ false → (result : Result Answer Refusal) → WasReplied s req result → Chained config heard s (replied_again s req result)
-  again_chain s req come new (Ok answer) was = Moves s (Says _) (refusal_in (Ok answer)) ((inr was, tt), refl, (was, tt))
-  again_chain s req come new (Err refusal) was = Moves s (Says _) (refusal_in (Err refusal)) ((inr was, tt), refl, (inr (was, new, ap hears_call come.2), tt))
+  again_chain s req come new (Ok answer) was = Moves s (Says _) (refusal_in (Ok answer)) (((inr was, tt), refl, (was, tt)), tt)
+  again_chain s req come new (Err refusal) was = Moves s (Says _) (refusal_in (Err refusal)) (((inr was, tt), refl, (inr (was, new, ap hears_call come.2), tt)), tt)
 
-  taken_chain : (s : State) (req : ReqId) → IsHeardCall heard req → is_pending s.volatile.pending req ≡ false → (moment : Moment) (call : Call) → Holds true s → Turned config heard s (taken_as config s req moment call (numbered (last_reply s req.client) req.number))
-  taken_chain s req come new moment call h = by_reply (last_reply s req.client) refl
+  taken_chain : (s : State) (req : ReqId) → is_pending s.volatile.pending req ≡ false → (moment : Moment) (call : Call) → IsHeardAs heard req call → Holds true s → Turned config heard s (taken_as config s req moment call (numbered (last_reply s req.client) req.number))
+  taken_chain s req new moment call told h = by_reply (last_reply s req.client) refl
     where
+      come : IsHeardCall heard req
+      come = (told.0, call, told.1)
+
+      for : (o : Option KeptReply) → last_reply s req.client ≡ o → is_later o req.number ≡ true → IsNew heard s req call
+      for o has later = record { heard_so = told; later = ap (λ o. is_later o req.number) has ∙ later; rests = new }
+
       called : (o : Option KeptReply) → last_reply s req.client ≡ o → is_later o req.number ≡ true → IsCalled heard s req
       called o has later = inl (come, ap (λ o. is_later o req.number) has ∙ later)
 
       by_order : (reply : KeptReply) (b : Bool) → (reply.number == req.number) ≡ false → nat_lt req.number reply.number ≡ b → last_reply s req.client ≡ Some reply → Turned config heard s (taken_as config s req moment call (if b then Older else New))
       by_order reply true other older has = within config heard (refused_again s req refusals.Old refl)
-      by_order reply false other older has = called_unless_chain s req (called (Some reply) has (behind reply.number req.number other older)) new moment call (refused_before s req call) h refl
+      by_order reply false other older has = called_unless_chain s req (called (Some reply) has (behind reply.number req.number other older)) new moment call (refused_before s req call) h refl (for (Some reply) has (behind reply.number req.number other older))
         where
           behind : (a b : ℕ) → (a == b) ≡ false → nat_lt b a ≡ false → nat_lt a b ≡ true
           behind a b other older = grind (arith, nat_tests)
@@ -244,12 +251,12 @@ module _ (config : Config) (heard : Heard) where
       by_number reply false same has = by_order reply (nat_lt req.number reply.number) same refl has
 
       by_reply : (o : Option KeptReply) → last_reply s req.client ≡ o → Turned config heard s (taken_as config s req moment call (numbered o req.number))
-      by_reply None has = called_unless_chain s req (called None has refl) new moment call (refused_before s req call) h refl
+      by_reply None has = called_unless_chain s req (called None has refl) new moment call (refused_before s req call) h refl (for None has refl)
       by_reply (Some reply) has = by_number reply (reply.number == req.number) refl has
 
-  pub call_chain : (s : State) (req : ReqId) → IsHeardCall heard req → (moment : Moment) (call : Call) → Holds true s → Turned config heard s (call_turn config s req moment call)
-  call_chain s req come moment call h =
+  pub call_chain : (s : State) (req : ReqId) (moment : Moment) (call : Call) → IsHeardAs heard req call → Holds true s → Turned config heard s (call_turn config s req moment call)
+  call_chain s req moment call told h =
       let taken = taken_as config s req moment call (numbered (last_reply s req.client) req.number) in
       test_turned config heard s (is_unopened s.fault) (replied_again s req (Err refusals.Device)) (if is_pending s.volatile.pending req then waits_still s req else taken) (λ _. within config heard (refused_again s req refusals.Device refl))
       (λ _. test_turned config heard s (is_pending s.volatile.pending req) (waits_still s req) taken
-      (λ _. test_turned config heard s (is_failed s.fault) (replied_again s req (Err refusals.Device)) (unmoved s) (λ _. within config heard (refused_again s req refusals.Device refl)) (λ _. within config heard (rests config heard s))) (λ new. taken_chain s req come new moment call h))
+      (λ _. test_turned config heard s (is_failed s.fault) (replied_again s req (Err refusals.Device)) (unmoved s) (λ _. within config heard (refused_again s req refusals.Device refl)) (λ _. within config heard (rests config heard s))) (λ new. taken_chain s req new moment call told h))

@@ -1,5 +1,5 @@
 -- Where clients were told that a chunk is.
-use Rattle.std.specs.Prelude.{◌≡◌, ◌⊎◌, ℕ, false, Some, Ok, refl}
+use Rattle.std.specs.Prelude.{◌++◌, ◌≡◌, ◌⊎◌, ℕ, false, Some, Ok, refl}
 use Rattle.std.specs.FinMap as fin
 use Rattle.std.specs.List.{AllByRecursion}
 use Rattle.gs_base.specs.declared.config.Config.{Config}
@@ -37,7 +37,7 @@ pub record IsToldIn (replies : fin.FinMap client_cmp KeptReply) (caller : ReqId)
 abbrev pub KeepsLocation : State → (caller : ReqId) (chunk : ℕ) → View → (epoch : ℕ) → Type 0
 KeepsLocation s caller chunk view epoch = IsToldIn s.durable.replies caller chunk view epoch ⊎ IsToldIn s.volatile.replies caller chunk view epoch
 
--- A move of the turn tells so. Some moves were made before it, and the others behind it.
+-- A move of the turn tells so. Some moves were made before it, and the others after it. The records of the turn are those of these moves.
 pub record IsLocatedWithin (config : Config) (Holds : State → Move → Type 0) (s : State) (t : Turn) (caller : ReqId) (chunk : ℕ) (view : View) (epoch : ℕ) : Type 0 where
   pub before : Turn
   pub first : Chain config Holds s before
@@ -47,6 +47,7 @@ pub record IsLocatedWithin (config : Config) (Holds : State → Move → Type 0)
   pub next : Turn
   pub rest : Chain config Holds (move_turn config before.after move).after next
   pub last : t.after ≡ next.after
+  pub records : t.records ≡ before.records ++ ((move_turn config before.after move).records ++ next.records)
 
 -- it was told before, or a move of the turn tells so
 abbrev pub WasLocated : Config → (State → Move → Type 0) → State → Turn → (caller : ReqId) (chunk : ℕ) → View → (epoch : ℕ) → Type 0

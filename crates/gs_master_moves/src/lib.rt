@@ -5,6 +5,7 @@ ghost use Rattle.gs_base.specs.declared.config.Config.{Config};
 ghost use Rattle.gs_master_moves.specs.Asked.{EachMoveAsksSo, SettlesByAnswers, StartsAskedSo, StaysAskedSo};
 ghost use Rattle.gs_master_moves.specs.Called.{LocatedWereCalled, WaitingWereHeard};
 ghost use Rattle.gs_master_moves.specs.Epochs.{EpochsGo, EventsEndOnce, OnceStands, TicksEndOnce, WithinStays};
+ghost use Rattle.gs_master_moves.specs.ForCalls.{EventsAreFor, EventsStandFor, TicksAreFor};
 ghost use Rattle.gs_master_moves.specs.Guards.{Heard, IsMade};
 ghost use Rattle.gs_master_moves.specs.Laws.{ChainsStand, CutsAreBeginnings, CutsStand, EventsAreChains, EventsStand, TicksAreChains};
 ghost use Rattle.gs_master_moves.specs.Locations.{KeptWereLocated, LocatedAreRight, SentWereLocated};
@@ -31,6 +32,15 @@ pub fn an_event_ends_one_epoch_at_most()
     ensures within { WithinStays }
     ensures ticks { TicksEndOnce }
     ensures epochs { EpochsGo }
+{}
+
+/// Each move of an event of a firm master is made for a call: for the one that is heard in the event and is new, or for one that has waited for just this.
+/// A move that ends an epoch, scans, or begins or gives up a prepare is made for that very call.
+/// Views that are proposed for no call, reports and ticks are not said to have one.
+pub fn each_move_is_made_for_a_call()
+    ensures events { EventsAreFor }
+    ensures ticks { TicksAreFor }
+    ensures stand { EventsStandFor }
 {}
 
 /// So is what a tick does before it writes a checkpoint that is due: where memory is wanting for that one, the tick is done without it.

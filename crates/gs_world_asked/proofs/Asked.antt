@@ -321,7 +321,7 @@ module _ {D : Type 0} (seen : D → List ℕ) (failures : D → ℕ) (P : ReqId 
   opens_said config pair (Ok turn) new (after, is, opening, said) = subst (AllSaid P) (sym opening.sends) (recovered_said config (standing (seen pair.0) (seen pair.1)).0 opening.entries opening.log opening.turn opening.recovers)
   opens_said config pair (Err refusal) new why = tt
 
-  reopens_said : (config : Config) (old : MasterPlace D) (turn : Result Told_turn Refusal) (new : MasterPlace D) → Reopens seen failures config old turn new → AllSaid P (sent_by (told turn))
+  pub reopens_said : (config : Config) (old : MasterPlace D) (turn : Result Told_turn Refusal) (new : MasterPlace D) → Reopens seen failures config old turn new → AllSaid P (sent_by (told turn))
   reopens_said config (Standing m) turn new opens = opens_said config (m.journal.first, m.journal.second) turn new opens
   reopens_said config (Closed first second) turn new opens = opens_said config (first, second) turn new opens
   reopens_said config Away turn new (same, refused) = subst (λ (r : Result Told_turn Refusal). AllSaid P (sent_by (told r))) (sym refused) tt

@@ -31,7 +31,7 @@ use Rattle.gs_world_chunks.specs.Back.{MasterKeeps, GivesBytesBack, GoesBack, Is
 
 module _ {D : Type 0} (x : Setup D) where
   -- what is left has is told
-  has_told : (place : MasterPlace D) (d : Durable) → HasDurable x.seen (as_left place) d → IsToldAt x.seen place d
+  pub has_told : (place : MasterPlace D) (d : Durable) → HasDurable x.seen (as_left place) d → IsToldAt x.seen place d
   has_told (Standing m) d has = by_fault (is_failed m.state.fault) has
     where
       by_fault : (failed : Bool) → HasDurable x.seen (left_of failed m) d → MatchBool failed (IsToldIn (text_seen x.seen m.journal) d) (d ≡ m.state.durable)
@@ -50,11 +50,11 @@ module _ {D : Type 0} (x : Setup D) where
   within_then (step ∷ steps) more old mid new (next, one, going, on) rest = (next, one, going, within_then steps more next mid new on rest)
 
   -- what is told is what is kept
-  told_kept : (h : History D) (d e : Durable) → IsWell x h → IsToldAt x.seen h.nodes.master d → MasterKeeps h.nodes.master e → e ≡ d
+  pub told_kept : (h : History D) (d e : Durable) → IsWell x h → IsToldAt x.seen h.nodes.master d → MasterKeeps h.nodes.master e → e ≡ d
   told_kept h d e well told keeps = told_is_had x.seen (as_left h.nodes.master) d e (well_lasts x h well) (told_left x.seen h.nodes.master d told) (keeps_has x h.nodes.master e keeps)
 
   module _ (given : IsGiven x) where
-    moves_on : (step : Step) (old new : History D) (a : Account) (d : Durable) → StepsWithin x step old new → HasDurable x.seen (as_left new.nodes.master) d → Moves x step old a new (account_behind step old a new d)
+    pub moves_on : (step : Step) (old new : History D) (a : Account) (d : Durable) → StepsWithin x step old new → HasDurable x.seen (as_left new.nodes.master) d → Moves x step old a new (account_behind step old a new d)
     moves_on step old new a d one has = record { steps = one; told = has_told new.nodes.master d has; account = refl }
 
     -- steps behind none of which a master stands that keeps no upgrade, up to one that stands, with their accounts

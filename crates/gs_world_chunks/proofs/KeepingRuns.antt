@@ -41,7 +41,7 @@ use Rattle.gs_world_chunks.proofs.Holding.{reach_more}
 use Rattle.gs_world_chunks.proofs.Runs.{seen_next}
 use Rattle.gs_world_chunks.proofs.SeeingThrough.{reached_well, sees_run_through}
 use Rattle.gs_world_chunks.proofs.Spared.{StillLive}
-use Rattle.gs_world_chunks.proofs.Staying.{IsStaying, staying_on}
+use Rattle.gs_world_chunks.proofs.Staying.{IsStaying, spared_whole, staying_on}
 use Rattle.gs_world_chunks.specs.Joined.{IsSeen}
 use Rattle.gs_world_chunks.specs.Seeing.{Sees}
 use Rattle.gs_world_chunks.specs.Upgrading.{DropsNone, Spare}
@@ -65,7 +65,7 @@ undamaged_there s are =
     by_none None is = refl
     by_none (Some n) is = absurd (false≢true is)
 
-sound_there : (o : Option Live) → is_sound o ≡ true → (is_some o ≡ true) × LiveUndamaged o
+pub sound_there : (o : Option Live) → is_sound o ≡ true → (is_some o ≡ true) × LiveUndamaged o
 sound_there None is = absurd (false≢true is)
 sound_there (Some l) is = (refl, undamaged_there l.replica.held.chunk is)
 
@@ -189,7 +189,7 @@ module _ (law : AreNumbered) {D : Type 0} (x : Setup D) (asked : ℕ → Asked) 
     pub still_live : Spare chunk id steps → (t : Server) × (slice_get new.nodes.servers id ≡ Some t) × StillLive (slot_in chunk t) × ((slot_in chunk t).promise ≡ start_of (e + 1))
     still_live spared =
         let drops = drops_none steps old a first r runs seen is (let here = epoch_is in omega arith) in
-        let ends = staying_on law x asked given chunk id e apart steps old new a b first (reached_well x old a r) runs right one seen.alive is s stays_first spared drops in (
+        let ends = staying_on law x asked given chunk id e apart steps old new a b first (reached_well x old a r) runs right one seen.alive is s stays_first (spared_whole law x asked given chunk id e steps old a new b runs spared drops) in (
           ends.0,
           ends.1,
           elim ends.2 [

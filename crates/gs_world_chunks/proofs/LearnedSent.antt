@@ -14,6 +14,7 @@ use Rattle.gs_msg.specs.declared.body.Body.{Body}
 use Rattle.gs_msg.specs.declared.body.Body.TheVariants as bodies
 use Rattle.gs_msg.specs.declared.chunk.Chunk.{Chunk}
 use Rattle.gs_msg.specs.declared.message.Message.{Message}
+use Rattle.gs_msg.specs.declared.message.MsgId.{MsgId}
 use Rattle.gs_msg.specs.declared.node.NodeId.{NodeId}
 use Rattle.gs_msg.specs.declared.node.NodeId.TheVariants as nodes
 use Rattle.gs_nodes.specs.Nodes.{Nodes}
@@ -32,7 +33,8 @@ use Rattle.gs_store.specs.Stores.{Store, set_slot}
 use Rattle.gs_store.specs.Stores as stores
 use Rattle.gs_world.specs.Histories.{Begins, History}
 use Rattle.gs_world.specs.Runs.{Step}
-use Rattle.gs_world.specs.Sent.{IsSent, Sent, none_sent}
+use Rattle.gs_world.specs.Sent.{IsSent, Sent, message_of, none_sent}
+use Rattle.gs_world_chunks.proofs.PostedAt.{posted_at}
 use Rattle.gs_world_chunks.proofs.Told.{named}
 use Rattle.gs_world_chunks.specs.Accounts.{Account}
 use Rattle.gs_world_chunks.specs.Running.{IsGiven, IsReached, Runs, Setup, StepsWithin}
@@ -247,6 +249,39 @@ module _ {D : Type 0} (x : Setup D) (step : Step) (old new : History D) (well : 
       posted_all IsSaid moment nodes.Master messages old.sent new.sent posted were_said (none_said messages
       (of_master_quiet messages (master_says x old new place messages well still master goes)))
   all_said (Elsewhere by messages moment are servers master posted) = posted_all IsSaid moment by messages old.sent new.sent posted were_said (none_said messages (of_client_quiet messages are))
+
+-- What stands newly at a place was said at this step.
+module _ {D : Type 0} (x : Setup D) (step : Step) (old new : History D) (well : IsWell x old) (still : IsWell x new) (own : AreOwn old) (one : StepsWithin x step old new) where
+  abbrev IsNewly : Message → Type 0
+  IsNewly message = (id epoch : ℕ) (handles : List ℕ) → SaysLearned message id epoch handles → HasLearned old new id epoch handles
+
+  none_newly : (messages : List Message) → AreQuiet messages → AllByRecursion IsNewly messages
+  none_newly [] quiet = tt
+  none_newly (m ∷ messages) quiet = ((λ id epoch handles said. absurd (never_quiet m.body epoch handles said.says quiet.0)), none_newly messages quiet.1)
+
+  each_newly : (id : ℕ) (s after : Server) (messages : List Message) → slice_get old.nodes.servers id ≡ Some s → new.nodes.servers ≡ slice_set old.nodes.servers id after → AllSay old.sent id s after messages → AllByRecursion IsNewly messages
+  each_newly id s after [] found servers say = tt
+  each_newly id s after (m ∷ messages) found servers say =
+      ((λ who epoch handles said. has_learned x step old new well still own one id s after who epoch handles found servers (say.0 who epoch handles said)), each_newly id s after messages found servers say.1)
+
+  nothing : (place : MsgId) (message : Message) → message_of old.sent place ≡ None → message_of old.sent place ≡ Some message → IsNewly message
+  nothing place message none there = absurd (no_message (message_of old.sent place) message none there)
+    where
+      no_message : (o : Option Message) (m : Message) → o ≡ None → o ≡ Some m → ⊥
+      no_message o m none some = absurd (cc)
+
+  newly_by : (place : MsgId) (message : Message) → message_of old.sent place ≡ None → message_of new.sent place ≡ Some message → Kind x.seen x.failures x.armed step old new → IsNewly message
+  newly_by place message none sent (OfServer id s after messages moment found goes met servers master posted) =
+      posted_at IsNewly moment (nodes.Server id) messages old.sent new.sent posted place message (nothing place message none) (each_newly id s after messages found servers (goes_say old.sent id s after messages goes)) sent
+  newly_by place message none sent (OfMaster where_it_is messages moment goes servers master posted) =
+      posted_at IsNewly moment nodes.Master messages old.sent new.sent posted place message (nothing place message none) (none_newly messages (of_master_quiet messages (master_says x old new where_it_is messages well still master goes))) sent
+  newly_by place message none sent (Elsewhere by messages moment are servers master posted) =
+      posted_at IsNewly moment by messages old.sent new.sent posted place message (nothing place message none) (none_newly messages (of_client_quiet messages are)) sent
+
+pub newly_learned : {D : Type 0} (x : Setup D) (step : Step) (old new : History D) → IsWell x old → IsWell x new → AreOwn old → StepsWithin x step old new → (place : MsgId) (message : Message) → message_of old.sent place ≡ None → message_of new.sent place ≡ Some message →
+    (id epoch : ℕ) (handles : List ℕ) → SaysLearned message id epoch handles → HasLearned old new id epoch handles
+newly_learned x step old new well still own one place message none sent id epoch handles said =
+    newly_by x step old new well still own one place message none sent (kind_of x.seen x.failures x.armed step old new one.goes (named x step old one.within well.types)) id epoch handles said
 
 pub learned_at : {D : Type 0} (x : Setup D) (step : Step) (old new : History D) → IsWell x old → IsWell x new → AreOwn old → StepsWithin x step old new → (message : Message) (id epoch : ℕ) (handles : List ℕ) → IsSent message new.sent → SaysLearned message id epoch handles → IsSent message old.sent ⊎ HasLearned old new id epoch handles
 learned_at x step old new well still own one message id epoch handles sent said = all_said x step old new well still own one (kind_of x.seen x.failures x.armed step old new one.goes (named x step old one.within well.types)) sent.0 message sent.1 id epoch handles said

@@ -42,24 +42,25 @@ pub mod Locating
 pub mod LocatingCut
 pub mod Returning
 pub mod Well
+pub mod PostedAt
 mod Became
-mod Leading
-mod Going
-mod Telling
-mod LearnedSent
-mod Counted
+pub mod Leading
+pub mod Going
+pub mod Telling
+pub mod LearnedSent
+pub mod Counted
 mod Deciding
-mod Bytes
+pub mod Bytes
 mod BytesRuns
-mod Settled
+pub mod Settled
 mod Begun
 pub mod Accounted
-mod Keeping
-mod KeepingRuns
+pub mod Keeping
+pub mod KeepingRuns
 mod KeepingBack
 mod KeepingTexts
 mod KeepingReplicas
-mod SurvivedOn
+pub mod SurvivedOn
 mod Answering
 mod Accepted
 pub mod Through

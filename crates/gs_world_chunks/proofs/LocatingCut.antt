@@ -5,7 +5,7 @@ use Rattle.std.specs.List.{AllByRecursion}
 use Rattle.std.proofs.Math.Seq.{take-append-add}
 use Rattle.std.proofs.lemmas.Bool.{false≢true, true≢false}
 use Rattle.std.proofs.lemmas.Bool.Decides.{nat_tests}
-use Rattle.std.proofs.lemmas.List.{length-append, take-append-le, take_all}
+use Rattle.std.proofs.lemmas.List.{append_assoc, length-append, take-append-le, take_all}
 use Rattle.gs_base.specs.declared.config.Config.{Config}
 use Rattle.gs_base.specs.declared.numbers.ReqId.{ReqId}
 use Rattle.gs_base.specs.declared.refusal.Refusal.{Refusal}
@@ -312,6 +312,7 @@ module _ (config : Config) (heard : Heard) where
     next = w.next;
     rest = mapped config Calm (IsMade config heard) calm_made (move_turn config w.before.after w.move).after w.next w.rest;
     last = w.last;
+    records = w.records;
   }
 
   module _ (whole : ℕ → ℕ → Bool) where
@@ -451,7 +452,7 @@ module _ (config : Config) (heard : Heard) where
           from_there : behind.durable.replies ≡ s.durable.replies → IsToldAtCut config heard behind d caller chunk view epoch → IsToldAtCut config heard s d caller chunk view epoch
           from_there same (inl k) = inl (kept_before same k)
           from_there same (inr (v, w, looked)) =
-              inr (joined (record one { said = said }) v, record { before = joined (record one { said = said }) w.before; first = Then s (record one { said = said }) w.before made w.first; move = w.move; holds = w.holds; locates = w.locates; next = w.next; rest = w.rest; last = w.last }, looked)
+              inr (joined (record one { said = said }) v, record { before = joined (record one { said = said }) w.before; first = Then s (record one { said = said }) w.before made w.first; move = w.move; holds = w.holds; locates = w.locates; next = w.next; rest = w.rest; last = w.last; records = ap (λ rs. one.records ++ rs) w.records ∙ sym (append_assoc one.records w.before.records ((move_turn config w.before.after w.move).records ++ w.next.records)) }, looked)
 
           by_part : (place < length one.records) ⊎ ((k : ℕ) × (place ≡ length one.records + k)) → IsToldAtCut config heard s d caller chunk view epoch
           by_part (inl less) =

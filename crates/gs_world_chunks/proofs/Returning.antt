@@ -38,7 +38,7 @@ use Rattle.gs_world_chunks.proofs.Reached.{run_stays}
 use Rattle.gs_world_chunks.proofs.Runs.{keeps_told, seen_next}
 use Rattle.gs_world_chunks.proofs.SeeingThrough.{reached_well, each_sees_on_through, sees_run_through}
 use Rattle.gs_world_chunks.proofs.Spared.{StillLive}
-use Rattle.gs_world_chunks.proofs.Staying.{IsStaying, staying_on}
+use Rattle.gs_world_chunks.proofs.Staying.{IsStaying, spared_whole, staying_on}
 use Rattle.gs_world_chunks.proofs.Surviving.{epoch_there, sealed_there, seen_survivors_keep, still}
 use Rattle.gs_world_chunks.specs.Joined.{SeenSince}
 use Rattle.gs_world_chunks.specs.Sealing.{IsLiveWith, RolledBackStay}
@@ -147,7 +147,7 @@ rolled_back_stay sizes law x prepared now later before_account after b chunk id 
     let next = seen_next x asked (left_in now) (left_in later) after b here.last last.last up.reached.apart chunk (last.on chunk) since.since.last since.lives in
     let view = view_there (fin.get before_account.durable.chunks chunk) ((keeps_told x asked (left_in prepared) before_account sees.first).settled chunk listed) in
     let first = stays_first x (bytes_in asked) chunk (left_in prepared) before_account (left_in now) after since.since id s view.0 survives view.1 at rolled in
-    let ends = staying_on law x asked given chunk id before_account.durable.epoch up.reached.apart steps now later after b here.last well_now runs right one since.since.last.alive since.lives s first spare drops in
+    let ends = staying_on law x asked given chunk id before_account.durable.epoch up.reached.apart steps now later after b here.last well_now runs right one since.since.last.alive since.lives s first (spared_whole law x asked given chunk id before_account.durable.epoch steps now after later b runs spare drops) in
     let same : ends.0 ≡ r = (let one = ends.1 in cc) in
     let still = stays_at chunk (start_of (before_account.durable.epoch + 1)) ends.0 r same ends.2 below in
     seen_rolled_back_stay x (bytes_in asked) (left_in prepared) (left_in now) (left_in later) before_account after b chunk id view.0 s r since.since next.last next.on survives view.1 at rolled there below still.live still.whole

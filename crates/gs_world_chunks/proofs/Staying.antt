@@ -1,7 +1,7 @@
 -- A replica that is live behind a rollback stays so, where nothing of it is lost, damaged or dropped, until its server makes a greater promise.
 use Rattle.gs_world_lift.specs.Left.{left_in}
 use Rattle.std.proofs.Common.{◌≡◌, ◌≢◌, ◌∙◌, ◌+◌, ◌<◌, ◌≤◌, ◌⊎◌, ◌&&◌, ◌==◌, inl, inr, ℕ, List, [], ◌∷◌, Bool, true, false, cond, None, Option, Some, Result, Ok, Err, refl, sym, ap, subst, slice_get, arith}
-use Rattle.std.specs.Prelude.{is_some}
+use Rattle.std.specs.Prelude.{if◌then◌else◌, is_some}
 use Rattle.std.proofs.lemmas.Bool.{cases_eq, cases_lt, false≢true}
 use Rattle.std.proofs.lemmas.Bool.Decides.{nat_tests}
 use Rattle.gs_base.specs.Stamps.{is_before}
@@ -76,7 +76,7 @@ use Rattle.gs_world_chunks.proofs.Sealed.{alternates, sealed_there}
 use Rattle.gs_world_chunks.proofs.SeeingThrough.{SeesNextThrough, sees_step_through}
 use Rattle.gs_world_chunks.proofs.Spared.{AllowsIn, StillLive, stays_by}
 use Rattle.gs_world_chunks.specs.Seeing.{Sees}
-use Rattle.gs_world_chunks.specs.Upgrading.{DropsNone, Spare, is_drop, is_harm}
+use Rattle.gs_world_chunks.specs.Upgrading.{DropsNone, Spare, HarmsOrDropsNone, is_drop, is_harm, is_harm_or_drop}
 
 -- ---- small facts
 
@@ -96,6 +96,40 @@ less_before a b less = by_case (is_before (stamp_at a) (stamp_at b)) refl
 image_there : (block size : ℕ) (o : Option Sealed) (xs : List Edit) → StoodFor block size o xs → is_some o ≡ true
 image_there block size None xs stood = absurd stood
 image_there block size (Some t) xs stood = refl
+
+-- ---- what a step spares
+
+-- a step is no loss, damage or drop of what the server has of the chunk, or is one that the server refuses
+abbrev pub SparedBy : ℕ → ℕ → Step → Option Call → Type 0
+SparedBy chunk id step call = ((is_harm chunk id step ≡ false) × (is_drop call ≡ false)) ⊎ (is_harm_or_drop call ≡ false)
+
+no_drop : (o : Option Call) → is_harm_or_drop o ≡ false → is_drop o ≡ false
+no_drop (Some (calls.Drops promise)) is = absurd (false≢true (sym is))
+no_drop (Some (calls.Creates stamp)) is = refl
+no_drop (Some (calls.Advances stamp)) is = refl
+no_drop (Some (calls.CopiesIn stamp image sealed)) is = refl
+no_drop (Some (calls.TakesCopy h)) is = refl
+no_drop (Some (calls.TakesLease stamp)) is = refl
+no_drop (Some calls.Loses) is = refl
+no_drop (Some (calls.Damages block)) is = refl
+no_drop (Some (calls.MarksBad block)) is = refl
+no_drop (Some (calls.Applies stamp number req op bytes)) is = refl
+no_drop (Some calls.Seals) is = refl
+no_drop (Some calls.Unseals) is = refl
+no_drop (Some (calls.RollsBack epoch)) is = refl
+no_drop None is = refl
+
+none_dropped : (chunk id : ℕ) (step : Step) (call : Option Call) → SparedBy chunk id step call → is_drop call ≡ false
+none_dropped chunk id step call (inl both) = both.1
+none_dropped chunk id step call (inr kept) = no_drop call kept
+
+lost_done : (r : Result Slot Refusal) (slot : Slot) → is_harm_or_drop (if_done calls.Loses r) ≡ false → AllowsIn slot (if_done calls.Loses r)
+lost_done (Ok t) slot is = absurd (false≢true (sym is))
+lost_done (Err refusal) slot is = tt
+
+damaged_done : (block : ℕ) (r : Result Slot Refusal) (slot : Slot) → is_harm_or_drop (if_done (calls.Damages block) r) ≡ false → AllowsIn slot (if_done (calls.Damages block) r)
+damaged_done block (Ok t) slot is = absurd (false≢true (sym is))
+damaged_done block (Err refusal) slot is = tt
 
 -- ---- what is heard
 
@@ -251,39 +285,57 @@ module _ {D : Type 0} (x : Setup D) (bytes : ReqId → List ℕ) (chunk id e : �
     behind_event : (event : at_server.Event) (after : Server) → after ≡ at_server.behind event s → AllowsIn (slot_in chunk s) (call_by chunk event s) → Stays (slot_in chunk after)
     behind_event event after is allowed = subst (λ (t : Server). Stays (slot_in chunk t)) (sym is) (stays_then (call_by chunk event s) (slot_in chunk (at_server.behind event s)) allowed (event_calls chunk event s))
 
-    own_stays : (after : Server) (messages : List Message) (goes : ServerGoes old.sent id s after messages) → IsMet step goes → is_harm chunk id step ≡ false → is_drop (call_in chunk (event_at step old.sent id) (slice_get old.nodes.servers id)) ≡ false → Stays (slot_in chunk after)
-    own_stays after messages (Hears message moment was to is sends) (msg, there, comes) spared kept =
-        behind_event (at_server.Hears message moment) after is (heard_allowed chunk s message.from message.to moment message.body (subst (λ (o : Option Server). is_drop (call_in chunk (Some (at_server.Hears message moment)) o) ≡ false) at (subst (λ (o : Option at_server.Event). is_drop (call_in chunk o (slice_get old.nodes.servers id)) ≡ false) (heard_event step old.sent id msg message moment there to comes) kept)) rolls)
+    own_stays : (after : Server) (messages : List Message) (goes : ServerGoes old.sent id s after messages) → IsMet step goes → SparedBy chunk id step (call_in chunk (event_at step old.sent id) (slice_get old.nodes.servers id)) → Stays (slot_in chunk after)
+    own_stays after messages (Hears message moment was to is sends) (msg, there, comes) spared =
+        behind_event (at_server.Hears message moment) after is (heard_allowed chunk s message.from message.to moment message.body (subst (λ (o : Option Server). is_drop (call_in chunk (Some (at_server.Hears message moment)) o) ≡ false) at (subst (λ (o : Option at_server.Event). is_drop (call_in chunk o (slice_get old.nodes.servers id)) ≡ false) (heard_event step old.sent id msg message moment there to comes) (none_dropped chunk id step _ spared))) rolls)
       where
         rolls : (epoch : ℕ) → message.body ≡ bodies.Epoch epoch Rollback → epoch ≡ s.kept.epoch + 1 → is_some (sealed_of (slot_in chunk s)) ≡ true
         rolls epoch body next =
             let tells : TellsBody (setting x.config bytes reached.0.epoch) chunk w message.from (nodes.Server id) (bodies.Epoch epoch Rollback) =
             subst (TellsBody (setting x.config bytes reached.0.epoch) chunk w message.from (nodes.Server id)) body (subst (λ n. TellsBody (setting x.config bytes reached.0.epoch) chunk w message.from n message.body) to (nodes_shown.sent was.0 message was.1)) in
             sealed_then epoch (subst (λ i. WasTold w i (machine.Epoch epoch Rollback)) (sym me) (tells (let low = late in omega arith))) next
-    own_stays after messages (Ticks moment is sends) met spared kept = behind_event (at_server.Ticks moment) after is tt
-    own_stays after messages (Beats is sends) met spared kept = inr (subst (λ (t : Server). StillLive (slot_in chunk t)) (sym is) k)
-    own_stays after messages (Restarts is sends) met spared kept = behind_event at_server.Restarts after is tt
-    own_stays after messages (Loses handle is sends) (moment, comes) spared kept = behind_event (at_server.Loses handle) after is (by_other (chunk == handle) refl)
+    own_stays after messages (Ticks moment is sends) met spared = behind_event (at_server.Ticks moment) after is tt
+    own_stays after messages (Beats is sends) met spared = inr (subst (λ (t : Server). StillLive (slot_in chunk t)) (sym is) k)
+    own_stays after messages (Restarts is sends) met spared = behind_event at_server.Restarts after is tt
+    own_stays after messages (Loses handle is sends) (moment, comes) spared = behind_event (at_server.Loses handle) after is (elim spared [
+      | inl no_harm ↦ by_other (chunk == handle) refl no_harm.0
+      | inr kept ↦ where_done (chunk == handle) (subst (λ (o : Option Server). is_harm_or_drop (call_in chunk (Some (at_server.Loses handle)) o) ≡ false) at (subst (λ (o : Option at_server.Event). is_harm_or_drop (call_in chunk o (slice_get old.nodes.servers id)) ≡ false) (event_is) kept))
+    ])
       where
-        other : (handle == chunk) ≡ false
-        other = sym (ap (λ b. b && (handle == chunk)) (same_number id)) ∙ sym (ap (is_harm chunk id) comes) ∙ spared
+        event_is : event_at step old.sent id ≡ Some (at_server.Loses handle)
+        event_is = ap (λ (y : Step). event_at y old.sent id) comes ∙ ap (λ b. if b then Some (at_server.Loses handle) else None) (same_number id)
 
-        by_other : (t : Bool) → (chunk == handle) ≡ t → AllowsIn (slot_in chunk s) (cond t (if_done calls.Loses (slots.lose (slot_in handle s))) None)
-        by_other false is = tt
-        by_other true is = absurd (false≢true (sym other ∙ turned chunk handle is))
-    own_stays after messages (Damages handle block is sends) (moment, comes) spared kept = behind_event (at_server.Damages handle block) after is (by_other (chunk == handle) refl)
+        by_other : (t : Bool) → (chunk == handle) ≡ t → is_harm chunk id step ≡ false → AllowsIn (slot_in chunk s) (cond t (if_done calls.Loses (slots.lose (slot_in handle s))) None)
+        by_other false is harmless = tt
+        by_other true is harmless =
+            let other : (handle == chunk) ≡ false = sym (ap (λ b. b && (handle == chunk)) (same_number id)) ∙ sym (ap (is_harm chunk id) comes) ∙ harmless in
+            absurd (false≢true (sym other ∙ turned chunk handle is))
+
+        where_done : (t : Bool) → is_harm_or_drop (cond t (if_done calls.Loses (slots.lose (slot_in handle s))) None) ≡ false → AllowsIn (slot_in chunk s) (cond t (if_done calls.Loses (slots.lose (slot_in handle s))) None)
+        where_done false kept = tt
+        where_done true kept = lost_done (slots.lose (slot_in handle s)) (slot_in chunk s) kept
+    own_stays after messages (Damages handle block is sends) (moment, comes) spared = behind_event (at_server.Damages handle block) after is (elim spared [
+      | inl no_harm ↦ by_other (chunk == handle) refl no_harm.0
+      | inr kept ↦ where_done (chunk == handle) (subst (λ (o : Option Server). is_harm_or_drop (call_in chunk (Some (at_server.Damages handle block)) o) ≡ false) at (subst (λ (o : Option at_server.Event). is_harm_or_drop (call_in chunk o (slice_get old.nodes.servers id)) ≡ false) (event_is) kept))
+    ])
       where
-        other : (handle == chunk) ≡ false
-        other = sym (ap (λ b. b && (handle == chunk)) (same_number id)) ∙ sym (ap (is_harm chunk id) comes) ∙ spared
+        event_is : event_at step old.sent id ≡ Some (at_server.Damages handle block)
+        event_is = ap (λ (y : Step). event_at y old.sent id) comes ∙ ap (λ b. if b then Some (at_server.Damages handle block) else None) (same_number id)
 
-        by_other : (t : Bool) → (chunk == handle) ≡ t → AllowsIn (slot_in chunk s) (cond t (if_done (calls.Damages block) (slots.damage block (slot_in handle s))) None)
-        by_other false is = tt
-        by_other true is = absurd (false≢true (sym other ∙ turned chunk handle is))
+        by_other : (t : Bool) → (chunk == handle) ≡ t → is_harm chunk id step ≡ false → AllowsIn (slot_in chunk s) (cond t (if_done (calls.Damages block) (slots.damage block (slot_in handle s))) None)
+        by_other false is harmless = tt
+        by_other true is harmless =
+            let other : (handle == chunk) ≡ false = sym (ap (λ b. b && (handle == chunk)) (same_number id)) ∙ sym (ap (is_harm chunk id) comes) ∙ harmless in
+            absurd (false≢true (sym other ∙ turned chunk handle is))
+
+        where_done : (t : Bool) → is_harm_or_drop (cond t (if_done (calls.Damages block) (slots.damage block (slot_in handle s))) None) ≡ false → AllowsIn (slot_in chunk s) (cond t (if_done (calls.Damages block) (slots.damage block (slot_in handle s))) None)
+        where_done false kept = tt
+        where_done true kept = damaged_done block (slots.damage block (slot_in handle s)) (slot_in chunk s) kept
 
   -- ---- a step
 
   module _ (step : Step) (old new : History D) (l : IsAlive x.seen x.config bytes chunk old) (n : IsAlive x.seen x.config bytes chunk new) (same : n.reached.0 ≡ l.reached.0) (leads : Leads l.world n.world) (keeps : Keeps x.config bytes old) (apart : AreToldApart chunk old l.world) (s : Server) (was : IsStaying old l.world s)
-      (spared : is_harm chunk id step ≡ false) (kept : is_drop (call_in chunk (event_at step old.sent id) (slice_get old.nodes.servers id)) ≡ false) where
+      (spared : SparedBy chunk id step (call_in chunk (event_at step old.sent id) (slice_get old.nodes.servers id))) where
     onward : Later l.world.known n.world.known
     onward = leads_later l.world n.world leads (reached_world l.world l.reached)
 
@@ -316,7 +368,7 @@ module _ {D : Type 0} (x : Setup D) (bytes : ReqId → List ℕ) (chunk id e : �
         | inl up ↦ inl (let more = rises in omega arith)
         | inr k ↦ elim (cases_lt (stamps.start_of (e + 1)) (l.world.members id).promise) [
           | inl up ↦ inl (let more = rises in omega arith)
-          | inr most ↦ elim (own_stays step old l.world l.reached keeps (record { members = l.shows.members; sent = l.shows.sent }) apart s was.at (let low = was.least in omega arith) was.within was.how k after messages goes met spared kept) [
+          | inr most ↦ elim (own_stays step old l.world l.reached keeps (record { members = l.shows.members; sent = l.shows.sent }) apart s was.at (let low = was.least in omega arith) was.within was.how k after messages goes met spared) [
             | inl above ↦ inl (before_less (stamps.start_of (e + 1)) (n.world.members id).promise
                 (ap (λ p. is_before p (stamp_at (n.world.members id).promise)) (start_stamp (e + 1)) ∙ ap (is_before bound) (sym (n.shows.members id after at).promise) ∙ above))
             | inr k ↦ inr k
@@ -345,6 +397,19 @@ module _ {D : Type 0} (x : Setup D) (bytes : ReqId → List ℕ) (chunk id e : �
 -- ---- many steps
 
 module _ (law : AreNumbered) {D : Type 0} (x : Setup D) (asked : ℕ → Asked) (given : IsGiven x) (chunk id e : ℕ) where
+  -- each of some steps spares it
+  abbrev pub AreSpared : (steps : List Step) (old : History D) (a : Account) (new : History D) (b : Account) → Runs x steps old a new b → Type 0
+  AreSpared [] old a new b runs = Unit {0}
+  AreSpared (step ∷ steps) old a new b (mid, c, moves, rest) = SparedBy chunk id step (call_in chunk (event_at step old.sent id) (slice_get old.nodes.servers id)) × AreSpared steps mid c new b rest
+
+  pub spared_whole : (steps : List Step) (old : History D) (a : Account) (new : History D) (b : Account) (runs : Runs x steps old a new b) → Spare chunk id steps → DropsNone x chunk id steps old a new b runs → AreSpared steps old a new b runs
+  spared_whole [] old a new b runs spare drops = tt
+  spared_whole (step ∷ steps) old a new b (mid, c, moves, rest) spare drops = (inl (spare.0, drops.0), spared_whole steps mid c new b rest spare.1 drops.1)
+
+  pub spared_unharmed : (steps : List Step) (old : History D) (a : Account) (new : History D) (b : Account) (runs : Runs x steps old a new b) → HarmsOrDropsNone x chunk id steps old a new b runs → AreSpared steps old a new b runs
+  spared_unharmed [] old a new b runs kept = tt
+  spared_unharmed (step ∷ steps) old a new b (mid, c, moves, rest) kept = (inr kept.0, spared_unharmed steps mid c new b rest kept.1)
+
   abbrev Ends : History D → Type 0
   Ends new = (r : Server) × (slice_get new.nodes.servers id ≡ Some r) × ((is_before (start_of (e + 1)) (slot_in chunk r).promise ≡ true) ⊎ StillLive (slot_in chunk r))
 
@@ -360,9 +425,9 @@ module _ (law : AreNumbered) {D : Type 0} (x : Setup D) (asked : ℕ → Asked) 
 
   -- a chunk lives on over a step, and the replica stays
   step_on : TellsApart x.among → (step : Step) (old mid : History D) (a c : Account) (first : Sees x asked (left_in old) a) (next : SeesNextThrough x asked given law step old mid a c first) (l : IsAlive x.seen x.config (bytes_in asked) chunk (left_in old)) → first.lives.life chunk ≡ inr l
-      → (s : Server) → IsStaying x (bytes_in asked) chunk id e (left_in old) l.world s → is_harm chunk id step ≡ false → is_drop (call_in chunk (event_at step old.sent id) (slice_get old.nodes.servers id)) ≡ false
+      → (s : Server) → IsStaying x (bytes_in asked) chunk id e (left_in old) l.world s → SparedBy chunk id step (call_in chunk (event_at step old.sent id) (slice_get old.nodes.servers id))
       → (m : IsAlive x.seen x.config (bytes_in asked) chunk (left_in mid)) × (next.goes.last.life chunk ≡ inr m) × (t : Server) × IsStaying x (bytes_in asked) chunk id e (left_in mid) m.world t
-  step_on apart step old mid a c first next l is s staying spared kept =
+  step_on apart step old mid a c first next l is s staying spared =
       by_life (next.goes.last.life chunk) refl (subst (λ life. GoesOn x.seen x.config (bytes_in asked) chunk step (heard_in x.seen x.failures x.armed next.goes.kind) (left_in old) (left_in mid) life (next.goes.last.life chunk)) is (next.goes.goes chunk))
     where
       by_life : (life : Life x.seen x.config (bytes_in asked) chunk (left_in mid)) → next.goes.last.life chunk ≡ life → GoesOn x.seen x.config (bytes_in asked) chunk step (heard_in x.seen x.failures x.armed next.goes.kind) (left_in old) (left_in mid) (inr l) (next.goes.last.life chunk)
@@ -371,15 +436,15 @@ module _ (law : AreNumbered) {D : Type 0} (x : Setup D) (asked : ℕ → Asked) 
       by_life (inr alive) at goes =
           let on : LivesOn x.seen x.config (bytes_in asked) chunk step (heard_in x.seen x.failures x.armed next.goes.kind) (left_in old) (left_in mid) l alive = subst (GoesOn x.seen x.config (bytes_in asked) chunk step (heard_in x.seen x.failures x.armed next.goes.kind) (left_in old) (left_in mid) (inr l)) at goes in
           let told = told_there x.config (bytes_in asked) x.among chunk (left_in old) l.world l.reached first.lives.keeps apart (subst (TextsOf x.seen x.config (bytes_in asked) x.among chunk (left_in old)) is (first.lives.texts chunk)) (first.lives.held chunk) in
-          let stayed = stays_on x (bytes_in asked) chunk id e step (left_in old) (left_in mid) l alive on.same on.leads first.lives.keeps told s staying spared kept on.by in
+          let stayed = stays_on x (bytes_in asked) chunk id e step (left_in old) (left_in mid) l alive on.same on.leads first.lives.keeps told s staying spared on.by in
           (alive, at, stayed.0, stayed.1)
 
   pub staying_on : TellsApart x.among → (steps : List Step) (old new : History D) (a b : Account) (first : Sees x asked (left_in old) a) → IsWell x old → (runs : Runs x steps old a new b) → AllSent (PushRight (bytes_in asked)) new.sent → AllSent (IsOfOneEdit asked) new.sent
-      → (l : IsAlive x.seen x.config (bytes_in asked) chunk (left_in old)) → first.lives.life chunk ≡ inr l → (s : Server) → IsStaying x (bytes_in asked) chunk id e (left_in old) l.world s → Spare chunk id steps → DropsNone x chunk id steps old a new b runs → Ends new
-  staying_on apart [] old new a b first well runs right one l is s staying spare drops = subst Ends (sym runs.0) (ends_there (left_in old) l s staying)
-  staying_on apart (step ∷ steps) old new a b first well (mid, c, moves, rest) right one l is s staying spare drops =
+      → (l : IsAlive x.seen x.config (bytes_in asked) chunk (left_in old)) → first.lives.life chunk ≡ inr l → (s : Server) → IsStaying x (bytes_in asked) chunk id e (left_in old) l.world s → AreSpared steps old a new b runs → Ends new
+  staying_on apart [] old new a b first well runs right one l is s staying spared = subst Ends (sym runs.0) (ends_there (left_in old) l s staying)
+  staying_on apart (step ∷ steps) old new a b first well (mid, c, moves, rest) right one l is s staying spared =
       let stays = run_stays x asked given steps mid new c b rest in
       let next = sees_step_through x asked given law apart step old mid a c first well moves (before x.seen x.failures x.armed (PushRight (bytes_in asked)) mid.sent new.sent stays right) (before x.seen x.failures x.armed (IsOfOneEdit asked) mid.sent new.sent stays one) in
       let behind : Sees x asked (left_in mid) c = record { lives = next.goes.last; tells = next.tells; agrees = next.agrees; intact = next.intact } in
-      let on = step_on apart step old mid a c first next l is s staying spare.0 drops.0 in
-      staying_on apart steps mid new c b behind next.well rest right one on.0 on.1 on.2 on.3 spare.1 drops.1
+      let on = step_on apart step old mid a c first next l is s staying spared.0 in
+      staying_on apart steps mid new c b behind next.well rest right one on.0 on.1 on.2 on.3 spared.1

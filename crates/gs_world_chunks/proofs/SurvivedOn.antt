@@ -104,7 +104,7 @@ module _ (w last : ChunkWorld) (reached : IsReached w) (leads : Leads w last) (s
   prepared_last : IsPrepared last.known was.e
   prepared_last = ((let n = low in let same = at in omega arith), later.how was.e low ∙ was.was, later.kept was.e low ∙ prepared_was.2)
 
-  fit_was : (j : ℕ) → IsFit last.entry j → IsFit w.entry j
+  pub fit_was : (j : ℕ) → IsFit last.entry j → IsFit w.entry j
   fit_was j fit = elim fit [
     | inl member ↦ inl (
         sym (((ok.entry).prepared was.e c prepared_was).members j)

@@ -195,7 +195,7 @@ module _ {D : Type 0} (x : Setup D) (bytes : ReqId → List ℕ) (chunk : ℕ) (
         ∙ sym list_then
 
     -- who was current by the records can give the chunk back
-    fits : (id : ℕ) → (is_member (members_in (view_at before chunk)) id || is_holder id (prepared_view after.durable chunk)) ≡ true → IsFit w.entry id
+    pub fits : (id : ℕ) → (is_member (members_in (view_at before chunk)) id || is_holder id (prepared_view after.durable chunk)) ≡ true → IsFit w.entry id
     fits id current = elim (or_cases (is_member (members_in (view_at before chunk)) id) (is_holder id (prepared_view after.durable chunk)) current) [
       | inl member ↦ inl (sym (prepared_last.members id) ∙ ap (λ t. w.known.members t id) same_view ∙ stays.members p.entry.view.stamp id (omega arith) ∙ (agrees p pok).members id ∙ by_view (view_at before chunk) refl member)
       | inr holder ↦ inr (by_holder (prepared_view after.durable chunk) refl holder)

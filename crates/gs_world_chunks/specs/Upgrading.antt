@@ -51,7 +51,20 @@ abbrev pub is_drop : Option Call → Bool
 is_drop (Some (calls.Drops promise)) = true
 is_drop call = false
 
+-- a call by which a server loses, damages or drops what it has of a chunk
+abbrev pub is_harm_or_drop : Option Call → Bool
+is_harm_or_drop (Some calls.Loses) = true
+is_harm_or_drop (Some (calls.Damages block)) = true
+is_harm_or_drop (Some (calls.Drops promise)) = true
+is_harm_or_drop call = false
+
 module _ {D : Type 0} (x : Setup D) where
+  -- in no step of a run the server loses, damages or drops what it has of the chunk: a loss, a damage or a drop that it refuses is none
+  abbrev pub HarmsOrDropsNone : (chunk server : ℕ) (steps : List Step) (old : History D) (a : Account) (new : History D) (b : Account) → Runs x steps old a new b → Type 0
+  HarmsOrDropsNone chunk server [] old a new b runs = Unit {0}
+  HarmsOrDropsNone chunk server (step ∷ steps) old a new b (mid, c, moves, rest) =
+      (is_harm_or_drop (call_in chunk (event_at step old.sent server) (slice_get old.nodes.servers server)) ≡ false) × HarmsOrDropsNone chunk server steps mid c new b rest
+
   -- in no step of a run does it do so: a drop that it refuses is none
   abbrev pub DropsNone : (chunk server : ℕ) (steps : List Step) (old : History D) (a : Account) (new : History D) (b : Account) → Runs x steps old a new b → Type 0
   DropsNone chunk server [] old a new b runs = Unit {0}

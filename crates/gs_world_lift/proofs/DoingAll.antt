@@ -213,7 +213,7 @@ module _ (config : Config) (s : State) (moment : Moment) (failed : is_failed s.f
   from said (ids.Server server) = subst (λ b. StaysSo (caller_of said) (if b then met_by s refusals.Device else server_turn s server moment said)) (sym failed) (nobody (caller_of said) refusals.Device)
   from said (ids.Client client) = of_client said
 
-failed_answers : (config : Config) (s : State) (message : Message) (moment : Moment) → is_failed s.fault ≡ true → ((handle config s message moment).after ≡ s) × AreAnswers s (caller_of message.body) (handle config s message moment).sent
+pub failed_answers : (config : Config) (s : State) (message : Message) (moment : Moment) → is_failed s.fault ≡ true → ((handle config s message moment).after ≡ s) × AreAnswers s (caller_of message.body) (handle config s message moment).sent
 unfolding handle
 failed_answers config s message moment failed = from config s moment failed message.body message.from
 

@@ -1,0 +1,4 @@
+mod Named
+mod Texts
+mod Left
+mod Bytes

@@ -1,0 +1,3 @@
+mod Addressed
+mod Refused
+mod Told
