@@ -186,7 +186,7 @@ impl<D: Disk> Master<D> {
     /// each lease was revoked before. Refused 12 while rolling back, 14 while an upgrade stands, 13 where none is begun, 15 with the lowest chunk for
     /// which something is asked still, 31 where no epoch is left, 30 where the journal has no room. The answer is the new epoch.
     /// A rollback leads back to what stands here: over each run of a whole store that is `a_rollback_gives_back_names_and_bytes` of
-    /// `gs_world_chunks`.
+    /// `gs_laws_chunks`.
     pub fn prepare_commit(
         &mut self,
         quiet: AllQuiet,
@@ -229,7 +229,7 @@ impl<D: Disk> Master<D> {
     /// Takes the upgrade back for a client's request, at this moment, in seconds, as `query` answers one, once the servers have told what they have as it
     /// was sealed. Refused 13 where no rollback is begun, 34 where its edits can't be taken back, 16 with the lowest chunk
     /// that had a reference at prepare and of which nobody has told, 30 where the journal has no room. The answer is the epoch that stands.
-    /// Over each run of a whole store, what it gives back is `a_rollback_gives_back_names_and_bytes` of `gs_world_chunks`, and when it is
+    /// Over each run of a whole store, what it gives back is `a_rollback_gives_back_names_and_bytes` of `gs_laws_chunks`, and when it is
     /// accepted `a_commit_is_decided_by_what_was_named` and `one_survivor_is_enough`.
     pub fn rollback_commit(&mut self, req: ReqId, moment: Moment) -> Result<Turn, Refusal>
         ensures { MasterAnswers D.seen D.failures (Some req) (call_turn self.old.config self.old.state req moment calls.RollbackCommit) self.old result self.new }

@@ -13,7 +13,7 @@ use gs_store::CopyImages;
 impl Server {
     /// What is done about a message. Want of memory leaves the server as it was, and nothing is sent. A drop, a renewal and what
     /// isn't for a server are answered whatever memory there is. Over each run of a whole store, what servers have of an upgrade that is
-    /// taken back, and what they tell of it, is `survivors_keep_what_stood_at_the_prepare` and `one_survivor_is_enough` of `gs_world_chunks`;
+    /// taken back, and what they tell of it, is `survivors_keep_what_stood_at_the_prepare` and `one_survivor_is_enough` of `gs_laws_chunks`;
     /// what they have of edits and reads is `done_edits_stay` and `reads_are_legal`.
     pub fn handle(&mut self, message: Message, moment: Moment) -> Result<Turn, Refusal>
         ensures step { ServerSteps (handle self.old message moment) result self.old self.new }

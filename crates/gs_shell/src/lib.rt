@@ -43,12 +43,12 @@ pub fn run_over<D: Disk + Drop, R: BufRead, W: Write>(
 }
 
 /// Begins a new store, the disks of whose master's journal are in memory, and answers the lines of the reader, as [`run_over`] does.
-/// What it writes is a function of what it reads (`a_script_answers_its_input` of `gs_world_laws`), and what it leaves is a store behind a
-/// run (`each_script_is_reached` of `gs_world_chunks`), so what holds over every run holds of it. Lines of the tree and of upgrades are
-/// answered as by the plain machine (`scripts_are_answered_as_by_the_plain_machine` of `gs_shell_plain`). What `ls`, `read` and `digest` are
+/// What it writes is a function of what it reads (`a_script_answers_its_input` of `gs_laws_scripts`), and what it leaves is a store behind a
+/// run (`each_script_is_reached` of `gs_laws_scripts`), so what holds over every run holds of it. Lines of the tree and of upgrades are
+/// answered as by the plain machine (`scripts_are_answered_as_by_the_plain_machine` of `gs_laws_scripts`). What `ls`, `read` and `digest` are
 /// answered right behind an accepted rollback is what they were answered right behind its prepare, wherever both answer
-/// (`what_a_script_lists_behind_a_rollback_is_what_it_listed_behind_its_prepare` of `gs_shell_listed`,
-/// `what_a_script_reads_behind_a_rollback_is_what_it_read_behind_its_prepare` of `gs_shell_read`).
+/// (`what_a_script_lists_behind_a_rollback_is_what_it_listed_behind_its_prepare` of `gs_laws_scripts`,
+/// `what_a_script_reads_behind_a_rollback_is_what_it_read_behind_its_prepare` of `gs_laws_scripts`).
 pub fn run<R: BufRead, W: Write>(
     alloc: Global,
     config: Config,

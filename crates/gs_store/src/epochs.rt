@@ -64,7 +64,7 @@ impl Store {
     /// Goes on to the next epoch, as the one before it ended. What is told of the epoch that stands changes nothing; of any
     /// other than the next it is `Epoch` with the one that stands. At a prepare each live replica is sealed, and memory may
     /// be wanted; at a finalize what was sealed goes; at a rollback it is live again. The last two take no memory. Over each run of a
-    /// whole store, what a server keeps so is `survivors_keep_what_stood_at_the_prepare` of `gs_world_chunks`.
+    /// whole store, what a server keeps so is `survivors_keep_what_stood_at_the_prepare` of `gs_laws_chunks`.
     pub fn learn(&mut self, epoch: u64, end: EpochEnd) -> Result<(), Refusal>
         ensures edit { Performs (learn epoch end self.old) result self.old self.new }
         ensures lacking { IfErr result (λ e. e ≡ Memory → (end ≡ Prepare) × (epoch ≡ self.old.epoch + 1)) }

@@ -1,4 +1,3 @@
-pub mod Lasting
 pub mod Losing
 pub mod Ongoing
 pub mod Opening

@@ -1,7 +1,6 @@
 pub mod Beginning
 pub mod Crashing
 pub mod Histories
-pub mod Lasting
 pub mod Outcomes
 pub mod Runs
 pub mod Sent

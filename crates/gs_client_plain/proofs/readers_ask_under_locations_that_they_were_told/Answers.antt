@@ -1,8 +1,0 @@
-use Rattle.gs_client_plain.proofs.Located.{digesters_ask_so, readers_ask_so}
-use Rattle.gs_client_plain.proofs.readers_ask_under_locations_that_they_were_told.Goals as goal
-
-pub returns-clause-read : goal.returns-clause-read
-returns-clause-read g = readers_ask_so
-
-pub returns-clause-digest : goal.returns-clause-digest
-returns-clause-digest g = digesters_ask_so

@@ -1,8 +1,0 @@
-use Rattle.gs_client_plain.proofs.Following.{digests_what_stands, reads_what_stands}
-use Rattle.gs_client_plain.proofs.reads_give_what_stands.Goals as goal
-
-pub returns-clause-bytes : goal.returns-clause-bytes
-returns-clause-bytes g = reads_what_stands
-
-pub returns-clause-digests : goal.returns-clause-digests
-returns-clause-digests g = digests_what_stands

@@ -1,0 +1,9 @@
+pub mod Asking
+pub mod Ending
+pub mod Failing
+pub mod Lines
+pub mod Sending
+pub mod Ways
+pub mod When
+pub mod Words
+pub mod Desks

@@ -1,0 +1,4 @@
+pub mod Named
+pub mod Texts
+pub mod Left
+pub mod Bytes

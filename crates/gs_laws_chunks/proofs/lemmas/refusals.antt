@@ -1,0 +1,3 @@
+pub mod Addressed
+pub mod Refused
+pub mod Told

@@ -1,0 +1,4 @@
+pub mod Stepping
+pub mod Halting
+pub mod Reading
+pub mod Twice

@@ -1,0 +1,13 @@
+pub mod copies
+pub mod fitting
+pub mod keeping
+pub mod names
+pub mod refusals
+pub mod restarts
+pub mod rooms
+pub mod spelling
+pub mod standing
+pub mod telling
+pub mod upgrades
+pub mod versions
+pub mod views

@@ -1,0 +1,2 @@
+pub mod CopyingCalls
+pub mod CopyingTurns

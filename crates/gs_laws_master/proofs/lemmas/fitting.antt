@@ -1,0 +1,11 @@
+pub mod Accepted
+pub mod AcceptedCalls
+pub mod AcceptedForgets
+pub mod AcceptedMessages
+pub mod AcceptedScans
+pub mod AcceptedUpgrades
+pub mod AcceptedViews
+pub mod AcceptedWork
+pub mod Answering
+pub mod GoingOn
+pub mod SettlingFits

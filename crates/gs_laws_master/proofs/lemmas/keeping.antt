@@ -1,0 +1,12 @@
+pub mod Counters
+pub mod Kept
+pub mod KeptAll
+pub mod KeptEdits
+pub mod KeptEnds
+pub mod KeptEpochs
+pub mod KeptNames
+pub mod KeptRecords
+pub mod KeptReplies
+pub mod KeptViews
+pub mod Sized
+pub mod Membered

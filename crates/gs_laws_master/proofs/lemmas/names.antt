@@ -1,0 +1,10 @@
+pub mod Commanded
+pub mod EditsBack
+pub mod Grown
+pub mod Numbered
+pub mod Parents
+pub mod Planted
+pub mod Resolved
+pub mod StillNamed
+pub mod Undone
+pub mod EachNamed

@@ -1,0 +1,3 @@
+pub mod Locking
+pub mod Refusing
+pub mod Wanting

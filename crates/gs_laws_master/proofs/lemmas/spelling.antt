@@ -1,0 +1,5 @@
+pub mod Retold
+pub mod Spelled
+pub mod Texted
+pub mod Spelling
+pub mod SpelledNames

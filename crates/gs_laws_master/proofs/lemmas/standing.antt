@@ -1,0 +1,10 @@
+pub mod Standing
+pub mod StandingAnswers
+pub mod StandingCalls
+pub mod StandingCheckpoints
+pub mod StandingGoing
+pub mod StandingRecords
+pub mod StandingRuns
+pub mod StandingTurns
+pub mod StandingUpgrades
+pub mod StandingViews

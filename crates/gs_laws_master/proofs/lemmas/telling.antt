@@ -1,0 +1,11 @@
+pub mod ToldAgain
+pub mod Tellable
+pub mod Telling
+pub mod Fair
+pub mod TellingCalls
+pub mod TellingTurns
+pub mod Writing
+pub mod WritingCheckpoints
+pub mod WritingPlaces
+pub mod ToldReplies
+pub mod ToldInverses

@@ -1,0 +1,4 @@
+pub mod answers
+pub mod looks
+pub mod moves
+pub mod upgrades

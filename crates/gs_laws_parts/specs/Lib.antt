@@ -1,0 +1,2 @@
+pub mod master
+pub mod server

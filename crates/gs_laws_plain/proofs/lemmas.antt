@@ -1,0 +1,3 @@
+pub mod calm
+pub mod commands
+pub mod replies

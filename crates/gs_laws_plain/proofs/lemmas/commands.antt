@@ -1,0 +1,11 @@
+pub mod Rows
+pub mod Leading
+pub mod Edits
+pub mod Records
+pub mod OnePlace
+pub mod Places
+pub mod Placed
+pub mod Steps
+pub mod Raised
+pub mod Answering
+pub mod Doing

@@ -1,0 +1,9 @@
+pub mod Raised
+pub mod Plainly
+pub mod Waiting
+pub mod Going
+pub mod Events
+pub mod Owning
+pub mod Coming
+pub mod Replying
+pub mod Steady

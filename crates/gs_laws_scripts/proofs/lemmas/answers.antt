@@ -1,0 +1,13 @@
+pub mod PlainAnswers
+pub mod PlainEnduring
+pub mod PlainEvents
+pub mod PlainLines
+pub mod PlainMeeting
+pub mod PlainReopens
+pub mod PlainRuns
+pub mod PlainScripts
+pub mod PlainSends
+pub mod PlainStarts
+pub mod PlainSteady
+pub mod PlainWays
+pub mod PlainWritten

@@ -1,0 +1,10 @@
+pub mod Settled
+pub mod Delivering
+pub mod Telling
+pub mod Serving
+pub mod Asking
+pub mod Lines
+pub mod Upgrades
+pub mod Beginning
+pub mod Answering
+pub mod Stopping

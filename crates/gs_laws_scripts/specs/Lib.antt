@@ -1,0 +1,6 @@
+pub mod answers
+pub mod lists
+pub mod plain
+pub mod reads
+pub mod runs
+pub mod stops

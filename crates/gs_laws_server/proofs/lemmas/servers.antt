@@ -1,0 +1,16 @@
+pub mod Tests
+pub mod Editing
+pub mod Calling
+pub mod Following
+pub mod Telling
+pub mod Refusing
+pub mod Counting
+pub mod Waiting
+pub mod Sealing
+pub mod Repeating
+pub mod Making
+pub mod Accepting
+pub mod CountedSlots
+pub mod CountedParts
+pub mod CountedServers
+pub mod BlockByBlock

@@ -1,0 +1,2 @@
+pub mod lasting
+pub mod steady

@@ -1,0 +1,10 @@
+pub mod Apart
+pub mod Enduring
+pub mod Keeping
+pub mod MasterSays
+pub mod Parts
+pub mod Refusing
+pub mod ServersSay
+pub mod Steady
+pub mod Through
+pub mod Entries

@@ -1,5 +1,0 @@
-use Rattle.gs_master_laws.proofs.Resting.{prepares_exactly, takes_prepares}
-use Rattle.gs_master_laws.proofs.a_prepare_is_accepted_exactly_where_all_is_quiet.Goals as goal
-
-pub returns : goal.returns
-returns c = record { order = prepares_exactly; taken = takes_prepares }

@@ -1,5 +1,0 @@
-use Rattle.gs_master_laws.proofs.FreshTurns.{proposes_fresh, proposes_fresh_at_ticks}
-use Rattle.gs_master_laws.proofs.a_proposed_version_is_above_all_before_it.Goals as goal
-
-pub returns : goal.returns
-returns c = record { messages = proposes_fresh; ticks = proposes_fresh_at_ticks }

@@ -1,5 +1,0 @@
-use Rattle.gs_master_laws.proofs.RolledBack.{rolls_back_through}
-use Rattle.gs_master_laws.proofs.a_rollback_leads_back_through_checkpoints.Goals as goal
-
-pub returns : goal.returns
-returns c = rolls_back_through

@@ -1,5 +1,0 @@
-use Rattle.gs_master_laws.proofs.Reached.{opens_so, recovers_firm}
-use Rattle.gs_master_laws.proofs.an_opened_master_is_firm.Goals as goal
-
-pub returns : goal.returns
-returns c = record { opened = opens_so; recovered = recovers_firm }

@@ -1,5 +1,0 @@
-use Rattle.gs_master_laws.proofs.Answering.{all_messages_fit, steps_at_ticks_fit}
-use Rattle.gs_master_laws.proofs.each_message_fits.Goals as goal
-
-pub returns : goal.returns
-returns c = record { messages = all_messages_fit; ticks = steps_at_ticks_fit }

@@ -1,6 +1,0 @@
-use Rattle.gs_master_laws.proofs.Numbered.{leads_to_numbers, records_keep_numbers, tells_numbers}
-use Rattle.gs_master_laws.proofs.StandingRuns.{events_keep_numbers, runs_keep_numbers}
-use Rattle.gs_master_laws.proofs.hidden_names_tell_numbers_that_were_given.Goals as goal
-
-pub returns : goal.returns
-returns c = record { records = records_keep_numbers; checkpoints = tells_numbers; all = leads_to_numbers; events = events_keep_numbers; runs = runs_keep_numbers }

@@ -1,5 +1,0 @@
-use Rattle.gs_master_laws.proofs.Rolling.{nothing_while_rolling, nothing_at_ticks}
-use Rattle.gs_master_laws.proofs.nothing_is_begun_or_dropped_while_rolling_back.Goals as goal
-
-pub returns : goal.returns
-returns c = record { messages = nothing_while_rolling; ticks = nothing_at_ticks }

@@ -1,5 +1,0 @@
-use Rattle.gs_master_laws.proofs.RoomsOfTurns.{messages_copy_still, ticks_copy_still}
-use Rattle.gs_master_laws.proofs.snapshots_copy_what_is_still.Goals as goal
-
-pub returns : goal.returns
-returns c = record { messages = messages_copy_still; ticks = ticks_copy_still }

@@ -1,5 +1,0 @@
-use Rattle.gs_master_laws.proofs.Choosing.{made_of_the_most}
-use Rattle.gs_master_laws.proofs.views_are_of_those_with_the_most_edits.Goals as goal
-
-pub returns : goal.returns
-returns c = made_of_the_most

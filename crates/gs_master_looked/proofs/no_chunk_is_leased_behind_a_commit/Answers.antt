@@ -1,8 +1,0 @@
-use Rattle.gs_master_looked.proofs.Commits.{prepares_leave, rollbacks_leave}
-use Rattle.gs_master_looked.proofs.no_chunk_is_leased_behind_a_commit.Goals as goal
-
-pub returns-clause-prepares : goal.returns-clause-prepares
-returns-clause-prepares c = prepares_leave
-
-pub returns-clause-rollbacks : goal.returns-clause-rollbacks
-returns-clause-rollbacks c = rollbacks_leave

@@ -1,6 +1,0 @@
-use Rattle.gs_master_moves.proofs.Fitting.{cuts_are_beginnings}
-use Rattle.gs_master_moves.proofs.a_chain_that_is_cut_is_a_beginning_of_one.Goals as goal
-use Rattle.gs_master_moves.specs.Guards.{IsMade}
-
-pub returns : goal.returns
-returns c = λ config heard. cuts_are_beginnings (IsMade config heard)

@@ -1,5 +1,0 @@
-use Rattle.gs_master_moves.proofs.Called.{located_were_called, waiting_were_heard}
-use Rattle.gs_master_moves.proofs.a_location_answers_a_call.Goals as goal
-
-pub returns : goal.returns
-returns c = record { waiting = waiting_were_heard; located = located_were_called }

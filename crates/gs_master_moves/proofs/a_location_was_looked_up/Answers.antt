@@ -1,5 +1,0 @@
-use Rattle.gs_master_moves.proofs.Locations.{kept_were_located, located_are_right, sent_were_located}
-use Rattle.gs_master_moves.proofs.a_location_was_looked_up.Goals as goal
-
-pub returns : goal.returns
-returns c = record { kept = kept_were_located; sent = sent_were_located; right = located_are_right }

@@ -1,5 +1,0 @@
-use Rattle.gs_master_moves.proofs.Sharing.{each_move_shares, starts_shared, stays_shared}
-use Rattle.gs_master_moves.proofs.a_shared_chunk_is_not_leased.Goals as goal
-
-pub returns : goal.returns
-returns c = record { moves = each_move_shares; stays = stays_shared; starts = starts_shared }

@@ -1,6 +1,0 @@
-use Rattle.gs_master_moves.proofs.Made.{events_are_for, ticks_are_for}
-use Rattle.gs_master_moves.proofs.Stands.{events_stand_for}
-use Rattle.gs_master_moves.proofs.each_move_is_made_for_a_call.Goals as goal
-
-pub returns : goal.returns
-returns c = record { events = events_are_for; ticks = ticks_are_for; stand = events_stand_for }

@@ -1,5 +1,0 @@
-use Rattle.gs_master_moves.proofs.Stands.{chains_stand, cuts_stand, events_stand}
-use Rattle.gs_master_moves.proofs.what_is_durable_stands_before_and_behind_each_move.Goals as goal
-
-pub returns : goal.returns
-returns c = record { chains = chains_stand; events = events_stand; cuts = cuts_stand }

@@ -1,5 +1,0 @@
-use Rattle.gs_shell_listed.proofs.Lines.{list_the_same}
-use Rattle.gs_shell_listed.proofs.what_is_listed_twice_by_lines_is_the_same.Goals as goal
-
-pub returns : goal.returns
-returns g c = list_the_same c.epochs_that_are_answered_are_numbers.ensures c.what_is_listed_behind_a_rollback_is_what_was_listed_behind_its_prepare.ensures

@@ -1,8 +1,0 @@
-use Rattle.gs_world_asked_for.proofs.Arming.{arms_alone, unarmed_alone}
-use Rattle.gs_world_asked_for.proofs.failures_that_are_arranged_change_nothing.Goals as goal
-
-pub returns-clause-arms : goal.returns-clause-arms
-returns-clause-arms g c = arms_alone
-
-pub returns-clause-unarmed : goal.returns-clause-unarmed
-returns-clause-unarmed g c = unarmed_alone

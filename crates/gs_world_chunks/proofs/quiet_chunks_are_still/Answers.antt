@@ -1,5 +1,0 @@
-use Rattle.gs_world_chunks.proofs.Holding.{quiet_stays_still}
-use Rattle.gs_world_chunks.proofs.quiet_chunks_are_still.Goals as goal
-
-pub returns : goal.returns
-returns g c x = quiet_stays_still c.configurations_have_sizes.ensures c.a_message_edits_a_replica_by_what_it_says.ensures.edit x c.an_event_calls_what_it_says.ensures

@@ -1,5 +1,0 @@
-use Rattle.gs_world_fetched.proofs.Fetched.{parts_are_given}
-use Rattle.gs_world_fetched.proofs.a_part_is_given_for_its_request.Goals as goal
-
-pub returns : goal.returns
-returns g c = λ x. parts_are_given c.configurations_have_sizes.ensures x (c.reads_are_legal.ensures.fetched x)

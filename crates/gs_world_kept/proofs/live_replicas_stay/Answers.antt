@@ -1,5 +1,0 @@
-use Rattle.gs_world_kept.proofs.Kept.{replicas_stay}
-use Rattle.gs_world_kept.proofs.live_replicas_stay.Goals as goal
-
-pub returns : goal.returns
-returns g c x = replicas_stay c.an_event_calls_what_it_says.ensures x

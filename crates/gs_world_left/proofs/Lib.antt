@@ -1,4 +1,0 @@
-mod Named
-mod Texts
-mod Left
-mod Bytes

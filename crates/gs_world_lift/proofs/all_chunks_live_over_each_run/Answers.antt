@@ -1,8 +1,0 @@
-use Rattle.gs_world_lift.proofs.Running.{each_lives, stores_run}
-use Rattle.gs_world_lift.proofs.all_chunks_live_over_each_run.Goals as goal
-
-pub returns-clause-reached : goal.returns-clause-reached
-returns-clause-reached g c seen failures armed config bytes among = each_lives seen failures armed config bytes among c.configurations_have_sizes.ensures
-
-pub returns-clause-onward : goal.returns-clause-onward
-returns-clause-onward g c seen failures armed config bytes among = stores_run seen failures armed config bytes among

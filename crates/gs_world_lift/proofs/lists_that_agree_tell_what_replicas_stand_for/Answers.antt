@@ -1,8 +1,0 @@
-use Rattle.gs_world_lift.proofs.Accounts.{replica_begins, settled_same}
-use Rattle.gs_world_lift.proofs.lists_that_agree_tell_what_replicas_stand_for.Goals as goal
-
-pub returns-clause-stands : goal.returns-clause-stands
-returns-clause-stands c = replica_begins
-
-pub returns-clause-settled : goal.returns-clause-settled
-returns-clause-settled c = settled_same

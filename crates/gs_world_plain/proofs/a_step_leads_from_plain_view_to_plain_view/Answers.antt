@@ -1,5 +1,0 @@
-use Rattle.gs_world_plain.proofs.Stepping.{steps_of_accounts}
-use Rattle.gs_world_plain.proofs.a_step_leads_from_plain_view_to_plain_view.Goals as goal
-
-pub returns : goal.returns
-returns c = steps_of_accounts

@@ -1,4 +1,0 @@
-mod Stepping
-mod Halting
-mod Reading
-mod Twice

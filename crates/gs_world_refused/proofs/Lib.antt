@@ -1,3 +1,0 @@
-mod Addressed
-mod Refused
-mod Told
