@@ -22,7 +22,7 @@ import tempfile
 ROOT = os.path.dirname(os.path.dirname(os.path.abspath(__file__)))
 EDITS = os.path.join(ROOT, "bench", "wrong-definitions")
 # Rows that compute, which would refuse an edit before a law does.
-WORKED = {"gs_chunk": ["Worked", "Carried"]}
+WORKED = {"gs_laws_chunk": ["Worked", "Carried"]}
 # What rt must-fail says: "rt: must-fail CRATE/NAME.edit: refused, .."
 JUDGED = re.compile(r"rt: must-fail (\w+)/(\S+)\.edit: (.*)")
 
@@ -30,21 +30,28 @@ JUDGED = re.compile(r"rt: must-fail (\w+)/(\S+)\.edit: (.*)")
 def without_worked_runs(folder, crate):
     """Takes the worked runs out of a copy of a crate, and the function whose contract names them."""
     for name in WORKED.get(crate, []):
-        for part in ("specs", "proofs"):
+        for part in ("specs/machine", "proofs/lemmas/machine"):
             path = os.path.join(folder, part, f"{name}.antt")
             if os.path.exists(path):
                 os.remove(path)
-                library = os.path.join(folder, part, "Lib.antt")
+                library = os.path.join(folder, f"{part}.antt")
                 with open(library, encoding="utf-8") as file:
                     kept = [line for line in file if not re.fullmatch(rf"(pub )?mod {name}\n", line)]
                 with open(library, "w", encoding="utf-8") as file:
                     file.writelines(kept)
-    shutil.rmtree(os.path.join(folder, "proofs", "worked_runs_are_runs_of_the_machine"), ignore_errors=True)
-    root = os.path.join(folder, "src", "lib.rt")
+    if crate not in WORKED:
+        return
+    shutil.rmtree(os.path.join(folder, "proofs", "machine", "worked_runs_are_runs_of_the_machine"), ignore_errors=True)
+    library = os.path.join(folder, "src", "lib.rt")
+    with open(library, encoding="utf-8") as file:
+        text = file.read()
+    with open(library, "w", encoding="utf-8") as file:
+        file.write(re.sub(r"\bworked_runs_are_runs_of_the_machine,?\s*", "", text))
+    root = os.path.join(folder, "src", "machine.rt")
     with open(root, encoding="utf-8") as file:
         text = file.read()
-    text = re.sub(r"(///[^\n]*\n)+pub fn worked_runs_are_runs_of_the_machine\(\)\n(    [^\n]*\n)*\{\}\n", "", text)
-    text = re.sub(r"ghost use Rattle\.\w+\.specs\.(Worked|Carried) as \w+;\n", "", text)
+    text = re.sub(r"(///[^\n]*\n)+(pub )?fn worked_runs_are_runs_of_the_machine\(\)\n(    [^\n]*\n)*\{\}\n", "", text)
+    text = re.sub(r"ghost use Rattle\.\w+\.specs\.machine\.(Worked|Carried) as \w+;\n", "", text)
     with open(root, "w", encoding="utf-8") as file:
         file.write(text)
 

@@ -1,4 +1,5 @@
-//! The program: the shell of a store over standard input and standard output, which is kept in a file.
+//! The program whose store is kept in a file, as the log of its lines. It answers as `chunkstore` does, on one thread, and each line of
+//! the grammar is on the disk before it is answered.
 #![tactic(auto)]
 
 ghost use Rattle.std.specs.Prelude.{◌≡◌, false, is_some};

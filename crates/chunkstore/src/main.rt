@@ -1,4 +1,6 @@
-//! The program: the shell of a store, over standard input and standard output.
+//! The program: a store's shell over standard input and standard output. It reads the command line, then runs `gs_shell::run`, or with
+//! `--threads` `run_threads` of `gs_shell_threads`. The status is 0 at the end of the input, 2 if the words are refused, and 1 if the
+//! run can't begin, doesn't end well, or a read or a write fails.
 #![tactic(auto)]
 
 use gs_base::{Config, Refusal};

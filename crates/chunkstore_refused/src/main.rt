@@ -1,5 +1,5 @@
-//! What the programs do with words that are refused, by the same call: the stored run has such, its status is 2, and it writes nothing on
-//! standard output.
+//! What the programs do with words that are refused, by the same call. The stored run of the gate has such words: the status is 2, and
+//! nothing comes on standard output.
 #![tactic(auto)]
 
 use gs_shell_command::configured;

@@ -1,5 +1,5 @@
-//! The store's shell with files, which tells what its nodes say to one another: after each line's answer every message that was sent
-//! since the one before, and at the end what stands on the disks of the master's journal.
+//! The store's shell, which also tells what its nodes say to one another. After the answer to each line it tells every message that was
+//! sent since the line before, and at the end what stands on the disks of the master's journal.
 #![tactic(auto)]
 
 mod disks;

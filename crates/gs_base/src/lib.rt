@@ -1,4 +1,6 @@
-//! The numbers that every node speaks of, the configuration of a store, and why a call is refused.
+//! What every node speaks of: numbers and counters, requests and stamps, sets of servers, the sizes of a store, and why a call is
+//! refused. Each of the 38 refusals has its number, its name and its line, and is found again by number and detail. Counters end at the
+//! greatest `u64` and then answer `Exhausted`.
 #![tactic(auto)]
 
 mod config;

@@ -1,4 +1,5 @@
-//! The bytes of a chunk in blocks, each with its digest, which is compared with the bytes before any use of them.
+//! The bytes of a chunk in blocks, each with its digest. A stored block is compared with its digest before any use of it. First images
+//! of blocks take a chunk back to where it was sealed.
 #![tactic(auto)]
 
 mod blocks;

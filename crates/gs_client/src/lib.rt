@@ -1,4 +1,5 @@
-//! A client of the store: its calls, and the files that it opens.
+//! A client of the store: its calls over any link, and the files that it opens. Each call follows its dialogue. A file that is open for
+//! writing has to be closed. `ClientNode` is a client among nodes, whose messages somebody else delivers.
 #![tactic(auto)]
 
 mod client;

@@ -1,4 +1,5 @@
-//! A store whose nodes run at once: the master and each chunkserver on two threads of their own, and clients at their callers.
+//! A store whose nodes run at once: the master and each chunkserver on two threads of their own, and clients at their callers. `finish`
+//! gives the nodes to which one run of a store that has begun new leads.
 #![tactic(auto)]
 
 mod caller;

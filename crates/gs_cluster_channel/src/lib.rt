@@ -1,5 +1,5 @@
-//! The channels between nodes that run at once, under a rule: whatever is in a channel, or was taken out of it, stands in what was
-//! put into it.
+//! The channels between nodes that run at once, under a rule: whatever is in a channel, or was taken out of it, stands in what was put
+//! into it.
 #![tactic(auto)]
 
 mod ear;

@@ -1,4 +1,5 @@
-//! What the nodes of a store are in a cluster: the master, a server or a client, and what each does with what it takes, which is what such a node does in a store.
+//! What the nodes of a store are in a cluster: the master, a server or a client. What each does with what it takes is an event of a
+//! store.
 #![tactic(auto)]
 
 pub mod promises;

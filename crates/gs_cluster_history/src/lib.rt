@@ -1,4 +1,5 @@
-//! Histories of nodes that run at once: what each took and did, by its clock, and how histories that match are merged into one run.
+//! Histories of nodes that run at once: what each took and did, by its clock, and how histories that match are merged into one run. At
+//! run time a history is nothing.
 #![tactic(auto)]
 
 mod acts;

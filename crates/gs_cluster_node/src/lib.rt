@@ -1,4 +1,5 @@
-//! A node as it is kept under its lock: what it is, with a history that leads there, its ear, and its ways to the others.
+//! A node as it is kept under its lock: what it is, the history that leads there, its ear, and its ways to the others. It serves any
+//! kind of node.
 #![tactic(auto)]
 
 mod acting;

@@ -1,4 +1,5 @@
-//! What is noted of the histories of nodes that run at once, where that is wanted: each node's events by its clock, and all that it has sent.
+//! What is noted of the histories of nodes that run at once, if that is wanted: each node's events by its clock, and all that it has
+//! sent.
 #![tactic(auto)]
 
 mod merging;

@@ -1,4 +1,4 @@
-//! What a node of a store is may go into another thread: a master with all that it keeps, a server or a client.
+//! Shows that each node of a store may go into another thread, under a lock: a master with all that it keeps, a server or a client.
 #![tactic(auto)]
 
 use gs_cluster_core::Role;

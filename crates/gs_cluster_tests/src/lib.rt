@@ -1,4 +1,4 @@
-//! Tests of a store whose nodes run in threads. They stand here since a crate with tests is proved twice, and wait, each, for no more than
+//! Tests of a store whose nodes run in threads. They stand here since a crate with tests is proved twice. Each waits for no more than
 //! its threads.
 #![tactic(auto)]
 

@@ -1,4 +1,4 @@
-//! Nodes on threads: each stands behind a lock that two threads share, the nodes of clients are their callers' own, and messages go
+//! Nodes on threads: each stands under a lock that two threads share, the nodes of clients are their callers' own, and messages go
 //! through channels under a rule. When the threads have ended, the histories that were kept match.
 #![tactic(auto)]
 

@@ -1,4 +1,5 @@
-//! The names of a store: its tree and the references of its chunks, edited together.
+//! The names of a store: its tree and the references of its chunks, edited together. There are ten edits; each gives an inverse, which
+//! is also told as a list. A refused edit changes nothing, and `scan` finds what is over.
 #![tactic(auto)]
 
 mod edit;

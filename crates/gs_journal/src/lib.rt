@@ -1,4 +1,5 @@
-//! A journal on two disks that may fail, and that a crash may tear.
+//! A journal on two disks that may fail, and that a crash may tear. An append and a checkpoint are whole or absent at any moment of a
+//! crash. After a disk's failure the journal is closed until it is opened again.
 #![tactic(auto)]
 
 mod draft;

@@ -1,5 +1,5 @@
-//! A store that outlives its process: each line is logged before it is answered, and a log's lines are run again at the start.
-//! Whatever it is that answers, and whatever the log is kept in.
+//! A store that outlives its process: each line is logged before it is answered, and a log's lines are run again at the start. It does
+//! so whatever answers the lines, and whatever the log is kept in.
 #![tactic(auto)]
 
 mod again;

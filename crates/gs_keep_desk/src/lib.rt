@@ -1,4 +1,4 @@
-//! A client's desk, as a run over a log keeps it.
+//! A client's desk, as a run over a log keeps it: lines of the grammar alone change anything.
 #![tactic(auto)]
 
 ghost use Rattle.std.specs.Prelude.{◌≡◌, IfOk};

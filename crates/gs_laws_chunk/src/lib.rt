@@ -1,5 +1,5 @@
-//! What holds of one chunk, whatever happens to it, over every run of its machine.
-//! The worlds of that machine are the replicas of its servers, as lists of edits, the part of the master, and all that was ever said of it.
+//! The machine of one chunk, and what holds over every run of it. Its worlds are its servers' replicas as lists of edits, the master's
+//! part, and all that was ever said of the chunk. Nobody has to believe it: the nodes of a store are led into it.
 #![tactic(auto)]
 
 mod machine;

@@ -1,5 +1,6 @@
-//! What holds of the chunks of a store over every run. An account goes along with a run beside its nodes: it has the edits of each view, which of them are settled, and what of a prepare stands unharmed.
-//! From that: which edits stay, what reads give, and what a rollback gives back. What the lines of a script make of a store is such a run.
+//! What holds of the chunks of a store over every run, in the words of an account (ghost history that no code keeps): what replicas
+//! stand for, which edits stay, what reads give, and what an upgrade promises. With it stands which calls clients have answers to,
+//! and that what the lines of a script make of a store is such a run.
 #![tactic(auto)]
 
 mod accounts;

@@ -1,4 +1,5 @@
-//! The chunks of a store: what happens to the store is, for each chunk, a run of the machine of that chunk.
+//! The chunks of a store: whatever step a store makes, each chunk goes on with its machine. With it stands which chunks that calls wait
+//! for are copies, and of what; and that what the master does is for the call that asked.
 #![tactic(auto)]
 
 mod calls;

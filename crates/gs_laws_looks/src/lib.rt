@@ -1,4 +1,5 @@
-//! What a client that only looks is told right after a rollback: the names, and the bytes of files, that stood right after the prepare.
+//! What clients look up, list and read right after an accepted rollback is what it was right after its prepare. It is said of what
+//! nodes answer, of a client at a store, and of what a desk carries for one.
 #![tactic(auto)]
 
 mod carrying;

@@ -1,4 +1,5 @@
-//! What holds of every master: laws of what it keeps, over all records and all calls.
+//! What holds of every master: laws of what it keeps, over all records and all calls, and over every run of events from a new store.
+//! Records fit what they meet and keep what stands, a restart opens what was durable, and a rollback leads back to the prepare.
 #![tactic(auto)]
 
 ghost use Rattle.std.specs.Prelude.{◌≡◌, List, None, Some, false};

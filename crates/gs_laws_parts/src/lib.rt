@@ -1,4 +1,4 @@
-//! A chunkserver and the master, each seen by one chunk: what happens there is events of the machine of that chunk.
+//! A chunkserver and the master, each seen by one chunk: whatever happens at either is some events of the machine of that chunk.
 #![tactic(auto)]
 
 mod master;

@@ -1,5 +1,5 @@
-//! The plain machine at the master: a tree whose files are lists of texts, which copies the whole of it at a prepare.
-//! What the records of a master say is commands of it, and what the master answers to calls of the tree is what the plain tree answers.
+//! The plain machine: a tree whose files are lists of texts, which copies the whole tree at a prepare. What the master's records say is
+//! commands of it. What the master answers to calls of the tree, to those that have waited too, is what the plain tree answers.
 #![tactic(auto)]
 
 mod calm;

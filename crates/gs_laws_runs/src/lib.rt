@@ -1,4 +1,5 @@
-//! A run of a store is a run of the plain machine, and what the master replies is what that machine answers.
+//! A run of a store is a run of the plain machine, whatever disks of its master fail, and a rollback leads back to what was shown at
+//! its prepare. What the master answers to calls of the tree is what that machine answers.
 #![tactic(auto)]
 
 mod plain;

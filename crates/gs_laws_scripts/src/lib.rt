@@ -1,4 +1,5 @@
-//! What a script answers, and what it leaves.
+//! The theorems about scripts. What a script answers is a function of its input; scripts of the tree and of upgrades are answered as by
+//! the plain machine; and `ls`, `read` and `digest` answer right after a rollback what they answered right after its prepare.
 #![tactic(auto)]
 
 mod answers;

@@ -1,4 +1,5 @@
-//! What holds of a chunkserver over every list of messages.
+//! The laws of a chunkserver over all messages: which call of a chunk's slot each event makes, what a replica stands for after it, when
+//! edits are done, and what a refusal leaves.
 #![tactic(auto)]
 
 mod refusals;

@@ -1,5 +1,4 @@
-//! What a refusal of a cluster's caller is from, where it tells little by itself: that no replica was reached (28), or that it isn't sure whether a change
-//! stands (29).
+//! Why a caller of a store in threads is answered 28 or 29: what its history took in that very call has a cause.
 #![tactic(auto)]
 
 pub mod promises;

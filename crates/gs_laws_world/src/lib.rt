@@ -1,4 +1,5 @@
-//! What holds of the nodes of a store in every run: what a restart opens, what is refused, and that all that is said stays within its types.
+//! What holds of the nodes of a store over every run: the master stands firm while no disk of it fails, lasts through failures, and a
+//! restart opens what stood. A store that is asked within its types keeps them.
 #![tactic(auto)]
 
 mod lasting;

@@ -1,4 +1,5 @@
-//! Leases as types: what a chunk's state at the master allows, and what a primary holds.
+//! Leases as types: what a chunk's state at the master allows, and what a primary holds. Each state is a value that its next step uses
+//! up. `AllQuiet` says of a table that every chunk of it is quiet.
 #![tactic(auto)]
 
 mod held;

@@ -1,4 +1,5 @@
-//! The leases of a master's chunks, with how many settled views each server is a member of, and how many have a primary.
+//! The leases of a master's chunks, with counts: of how many settled views each server is a member, and whether any has a primary.
+//! Neither is told by looking at the leases.
 #![tactic(auto)]
 
 mod table;

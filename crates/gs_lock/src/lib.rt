@@ -1,4 +1,5 @@
-//! Locks on paths that operations read and write, after the GFS paper's locks on the namespace.
+//! Locks on paths that calls which wait read and write. A take is refused exactly at a conflict, and what it would refuse can be asked
+//! beforehand, without memory.
 #![tactic(auto)]
 
 mod index;

@@ -1,5 +1,5 @@
-//! The master: the names of the store, where each chunk is, and what it sends to clients and servers.
-//! It stands on `gs_master_state` and `gs_master_plan`, which are crates of their own for the checker's time alone.
+//! The master: the names of the store, where each chunk is, and what it sends to clients and servers. An event is a list of steps on
+//! its state. At its end its records are written, or it is taken back: whole, or from the record on at which a disk fails.
 #![tactic(auto)]
 
 mod call;

@@ -1,5 +1,5 @@
-//! Entries of a tree in the order of the bytes of their paths' texts, as a checkpoint and the list of a removal tell them. It is a crate
-//! of its own for the checker's time alone: so its wrong body is tried in seconds.
+//! Entries of a tree in the order of the bytes of their paths' texts, each text once, as a checkpoint and the list of a removal tell
+//! them. It is a crate of its own for the checker's time alone: its wrong body is tried sooner in a small crate.
 #![tactic(auto)]
 
 ghost use Rattle.std.specs.Prelude.{◌≡◌, IfOk, OnOk, map, refl};

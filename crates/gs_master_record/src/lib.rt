@@ -1,4 +1,5 @@
-//! Records of the master's journal as values: what is written of each, and what bytes say.
+//! Records of the master's journal as values, of ten kinds: what is written of each, and what bytes say. What is decoded of an entry's
+//! record is that entry.
 #![tactic(auto)]
 
 mod checkpoint;

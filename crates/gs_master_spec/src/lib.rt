@@ -1,6 +1,6 @@
-//! What a master keeps and does, as definitions, with the plain types that these name: what has to be believed of a master stands
-//! here. What is durable and what isn't, what a record makes of it, calls, what is heard, ticks, checkpoints and restarts, and what
-//! may come of an event where a disk fails.
+//! What a master keeps and does, as definitions, with the plain types that these name: what has to be believed of a master stands here.
+//! They say what a record makes of what it keeps, what each message, tick, checkpoint and restart comes to, and what a disk that fails
+//! may leave.
 #![tactic(auto)]
 
 pub mod asking;

@@ -1,5 +1,5 @@
-//! What the master keeps, on record and in memory.
-//! It, `gs_master_plan` and `gs_master` are crates of their own for the checker's time alone.
+//! What the master keeps, on record and in memory. Each record and each change is entered as defined, and taken back exactly and
+//! without memory. It, `gs_master_plan` and `gs_master` are crates of their own for the checker's time alone.
 #![tactic(auto)]
 
 mod answer;

@@ -1,4 +1,5 @@
-//! What nodes say to one another: messages, the events of a store, and the list of what a node has sent.
+//! What nodes say to one another, as plain data: messages of 26 kinds, calls of the master and answers, the events of a store, and the
+//! list of what a node has sent. Each can be copied and compared exactly, and is printed as its line.
 #![tactic(auto)]
 
 mod answer;

@@ -1,4 +1,5 @@
-//! The nodes of a store together: a master with the disks of its journal, chunkservers and clients, and what happens to them.
+//! The nodes of a store together: a master with the disks of its journal, chunkservers and clients, and what happens to them. Each call
+//! is one event: one node does what its contract says, and the others stay.
 #![tactic(auto)]
 
 mod arming;

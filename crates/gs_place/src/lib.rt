@@ -1,4 +1,4 @@
-//! On which servers replicas are put, and which chunk needs one most.
+//! On which servers replicas are put, and which chunk needs one most: what comes first in the order of the rules.
 #![tactic(auto)]
 
 mod need;

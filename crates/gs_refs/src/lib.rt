@@ -1,4 +1,5 @@
-//! How many entries of a tree refer to each chunk.
+//! How often each chunk is referenced by entries of a tree, as a finite map. Lists of chunks are raised, lowered, taken out and listed
+//! again as one step.
 #![tactic(auto)]
 
 mod refs;

@@ -1,4 +1,6 @@
-//! A replica of a chunk: its blocks, how many edits it has applied, and what each client's last one answered.
+//! A replica of a chunk: its blocks, how many edits it has applied, and what the last request of each client was answered. An edit is
+//! taken under the promised stamp alone, as the next number, and taken back whole. A seal keeps what stood, at the cost of what is
+//! edited later, and `roll_back` gives it back.
 #![tactic(auto)]
 
 mod done;

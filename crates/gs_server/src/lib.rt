@@ -1,4 +1,5 @@
-//! A chunkserver: what it keeps of its chunks, and what it answers to each message.
+//! A chunkserver: what it keeps of its chunks, and what it answers to each message. If there is no memory for a message, nothing has
+//! changed and nothing is sent.
 #![tactic(auto)]
 
 mod applying;

@@ -1,5 +1,5 @@
-//! The lease at its primary, with the edits that wait for its members, and the rules of an edit's number. Each stands below a server.
-//! It is a crate of its own for the checker's time alone: so its wrong bodies are tried in seconds.
+//! The lease at its primary, with the edits that wait for its members, and the rules of an edit's number, each a function by itself. It
+//! is a crate of its own for the checker's time alone: wrong bodies are tried sooner in a small crate.
 #![tactic(auto)]
 
 mod forwarding;

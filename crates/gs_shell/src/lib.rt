@@ -1,4 +1,4 @@
-//! The shell of a store: a script's lines in, their answers out.
+//! The shell of a store on one thread: a script's lines in, their answers out.
 #![tactic(auto)]
 
 ghost use Rattle.std.specs.Prelude.{OnOk, IfErr, IfSome};

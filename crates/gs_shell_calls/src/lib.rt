@@ -1,4 +1,4 @@
-//! What a line asks of a store, over any link, and the texts of the answers.
+//! What a line asks of a store, over any link, as a dialogue, and the texts of the answers.
 #![tactic(auto)]
 
 mod answer;

@@ -1,4 +1,4 @@
-//! What the command line of a program asks for.
+//! What the command line of a program asks for; or standard error says why not, and the status is 2.
 #![tactic(auto)]
 
 ghost use Rattle.std.specs.Prelude.{◌≡◌, ℕ, IfErr, IfOk, List, Some, map, string_bytes};

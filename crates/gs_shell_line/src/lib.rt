@@ -1,4 +1,4 @@
-//! The lines of a reader, each held in bounded memory.
+//! The lines of a reader, each held in bounded memory. A line is at most 1 MiB long.
 #![tactic(auto)]
 
 ghost use Rattle.std.specs.Prelude.{◌≡◌, ◌≢◌, ◌-◌, ◌<◌, ◌≤◌, ◌++◌, ◌==◌, ℕ, List, true, All, IfOk, IfErr, OnOk, OnErr, IfSome, OnSome, take, length};

@@ -1,4 +1,5 @@
-//! The options of the program.
+//! The words of the command line: the sizes of the store, and whether its nodes run in threads. It is a crate of its own so that the
+//! kit's reader of options stays out of the shell.
 #![tactic(auto)]
 
 ghost use Rattle.std.specs.Prelude.{◌≡◌, [], map, false, MatchResult, IfOk, string_bytes};

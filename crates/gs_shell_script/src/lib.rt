@@ -1,4 +1,4 @@
-//! Answers a script line by line, whatever it is that answers.
+//! Answers a script line by line, whatever it is that answers a line.
 #![tactic(auto)]
 
 ghost use Rattle.std.specs.Prelude.{◌≡◌, ◌≢◌, ◌≤◌, ◌++◌, ◌∷◌, List, ℕ, [], length, take, IfOk, OnOk, IfErr, OnErr, IfSome, string_bytes};

@@ -1,4 +1,5 @@
-//! The shell of a store whose nodes run in threads: a script's lines in, their answers out.
+//! The shell of a store whose nodes run in threads: a script's lines in, their answers out. Its desk asks over a caller, and asks again
+//! for a commit that can't be yet.
 #![tactic(auto)]
 
 ghost use Rattle.std.specs.Prelude.{◌≡◌, [], IfErr, IfSome, OnOk};

@@ -1,4 +1,5 @@
-//! What a server keeps of its chunks: replicas, promises, and what was sealed.
+//! What a server keeps of its chunks: a slot for each handle, the epoch, and the bytes that clients have pushed. What can be refused
+//! without memory is refused first. A prepare is taken by all replicas or by none.
 #![tactic(auto)]
 
 mod buffer;

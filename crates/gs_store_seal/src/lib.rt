@@ -1,5 +1,5 @@
-//! What becomes of a replica that was sealed: what a handle keeps of it in its trash, and what a rollback makes of it.
-//! It is a crate of its own for the checker's time alone: so its wrong bodies are tried in seconds.
+//! What becomes of a replica that was sealed: what a handle keeps of it in its trash, what a rollback makes live of it, and whether it
+//! is named then. It is a crate of its own for the checker's time alone: wrong bodies are tried sooner in a small crate.
 #![tactic(auto)]
 
 mod rollback;

@@ -1,5 +1,6 @@
-//! Tests that try more than one contract says: outside examples of digests, a journal's bytes, and what whole scripts are answered. They
-//! speak to public calls alone, and stand here since a crate with tests is proved twice. The tests of each part stand beside the gate.
+//! Tests that try more than one contract says: outside examples of digests, a journal's bytes, what whole scripts are answered, and an
+//! example of the store as a library. They speak to public calls alone. They stand here since a crate with tests is proved twice; the
+//! tests of each part stand beside the gate.
 #![tactic(auto)]
 
 #[cfg(test)]

@@ -1,4 +1,6 @@
-//! A tree of directories and files, each edit with what takes it back.
+//! A tree of directories and files, in which each edit gives what takes it back. Its commands are those of a plain tree, seen as a
+//! function of paths, with the same refusals in the same order. A move can keep its source's place, so that it is taken back without
+//! memory.
 #![tactic(auto)]
 
 mod building;

@@ -1,4 +1,5 @@
-//! The choice of a view's members from what servers answered to a proposal.
+//! The choice of a view's members among the servers that answered a proposal: those with the greatest count. A poll keeps who said yes
+//! and no, and whether all have spoken.
 #![tactic(auto)]
 
 mod poll;

@@ -1,4 +1,5 @@
-//! A store with all that its nodes have ever sent, event by event.
+//! A store with all that its nodes have ever sent, event by event. Any message of these may come at a step, in any order, once more or
+//! never.
 #![tactic(auto)]
 
 mod happening;
