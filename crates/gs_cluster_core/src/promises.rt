@@ -23,8 +23,9 @@ pub fn what_a_node_does_is_an_event_of_the_store<D>()
 {}
 
 /// The entries of histories that match, taken by (clock, node), are a run of a store that has begun new, over disks that say what the
-/// setting says. It leads to the store that the nodes are in the end, and no message is lost in it. So all laws of runs hold of what a
-/// cluster has done. One of the nodes is the master, and no number stands twice.
+/// setting says. It leads to the store that the nodes are in the end, and no message is lost in it. So the laws of runs hold of what a
+/// cluster has done, if what is asked in it is within its types, which most of them need. One of the nodes is the master, and no number
+/// stands twice.
 pub fn matching_histories_are_a_run_of_the_store<D: Disk + Drop>()
     ensures { (armed : DiskId → ℕ → MasterPlace D → MasterPlace D) (setting : Setting) (ks : List (Kept (Role D))) → AllKept (DoesAs D.seen D.failures) (StartsAs D.seen D.failures setting) ks → Matches ks → Differ (map (λ (k : Kept (Role D)). k.me) ks) → (i : ℕ) (k : Kept (Role D)) → slice_get ks i ≡ Some k → k.me ≡ ids.Master → IsStoreRun D.seen D.failures armed setting ks (places_of ks) }
 {

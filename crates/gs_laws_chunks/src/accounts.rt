@@ -187,8 +187,8 @@ pub fn survivors_keep_what_stood_at_the_prepare<D>()
     a_message_edits_a_replica_by_what_it_says();
 }
 
-/// Each view of a chunk that a client was ever told was looked up in some world of the run in which the call that is answered had been sent: the records told then that a file has the chunk, or had it, that this is its
-/// settled view, and that this is the epoch; and nothing was rolled back. It needn't be where the client was first told: an answer that is kept may be sent later, when another view has been settled, and by a master of which
+/// Each view of a chunk that a client was ever told was looked up: to the same store leads a run that passes a world in which the call that is answered had been sent. The records told there that a file has the chunk, or
+/// had it, that this is its settled view, and that this is the epoch; and nothing was rolled back. It needn't be where the client was first told: an answer that is kept may be sent later, when another view has been settled, and by a master of which
 /// a disk has failed. Where one fails at the turn of a look-up, the caller is told that it is unsure, and of no chunk.
 pub fn locations_were_looked_up<D>()
     ensures { (x : Setup D) → LocationsWereLookedUp x }
