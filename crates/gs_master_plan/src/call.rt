@@ -5,7 +5,7 @@ ghost use Rattle.gs_lock.specs.Locks.{stands_in_the_way};
 ghost use Rattle.gs_master_plan.specs.inner.Planning.{numbered_of, state_of};
 ghost use Rattle.gs_master_record.specs.Plain as entries;
 ghost use Rattle.gs_master_record.specs.Plain.{plain, plain_edit};
-ghost use Rattle.gs_master_spec.specs.Calls.{accept_plan, is_always_taken, is_any_hidden, is_locked, is_work, ordered, reads_of_call, refused_before};
+ghost use Rattle.gs_master_spec.specs.Calls.{accept_plan, is_always_taken, is_any_deep, is_any_hidden, is_locked, is_work, ordered, reads_of_call, refused_before};
 ghost use Rattle.gs_master_spec.specs.Durable.{is_rolling};
 ghost use Rattle.gs_master_spec.specs.Handling.{numbered};
 ghost use Rattle.gs_master_state.specs.inner.Plans.{log_of, plan_of};
@@ -33,6 +33,27 @@ pub enum Numbered<'a> {
     /// It was answered so.
     Again(&'a Result<Answer, Refusal>),
     Older,
+}
+
+/// Whether a path of a call has more elements than one that is read may have.
+fn is_any_deep(call: &Call) -> bool
+    ensures { result ≡ is_any_deep call.now }
+{
+    match call {
+        Call::Mkdirs(path)
+        | Call::Create(path)
+        | Call::Delete { path, .. }
+        | Call::Undelete(path)
+        | Call::List(path)
+        | Call::Status(path)
+        | Call::FindForReading { path, .. }
+        | Call::FindForWriting { path, .. }
+        | Call::Extend { path, .. } => !path.is_within_depth(),
+        Call::Rename { from, to } | Call::Snapshot { from, to } => {
+            !from.is_within_depth() || !to.is_within_depth()
+        }
+        _ => false,
+    }
 }
 
 /// Whether a path of a call that mustn't be hidden is.
@@ -162,6 +183,9 @@ impl<'a> Standing<'a> {
         }
         if is_locked {
             return Some(Refusal::Locked);
+        }
+        if is_any_deep(call) {
+            return Some(Refusal::BadPath);
         }
         if is_any_hidden(call) {
             return Some(Refusal::HiddenName);

@@ -1,5 +1,5 @@
 -- The calls of clients: in which order they are refused, which paths they lock, and the calls of the tree.
-use Rattle.std.specs.Prelude.{◌≡◌, ◌&&◌, ◌==◌, ◌++◌, ℕ, Bool, true, false, not, nat_lt, List, [], ◌∷◌, map, filter, length, slice_get, codes, Option, Some, None, is_none, Result, Ok, Err, if◌then◌else◌, refl}
+use Rattle.std.specs.Prelude.{◌≡◌, ◌&&◌, ◌==◌, ◌++◌, ℕ, Bool, true, false, not, nat_lt, List, [], ◌∷◌, map, filter, length, replicate, slice_get, codes, Option, Some, None, is_none, Result, Ok, Err, if◌then◌else◌, refl}
 use Rattle.std.specs.List.{list_any}
 use Rattle.std.specs.FinMap as fin
 use Rattle.gs_base.specs.declared.numbers.Moment.{Moment}
@@ -8,6 +8,7 @@ use Rattle.gs_base.specs.declared.refusal.Refusal.{Refusal}
 use Rattle.gs_base.specs.declared.refusal.Refusal.TheVariants as refusals
 use Rattle.gs_path.specs.Element.{is_hidden}
 use Rattle.gs_path.specs.Path.{Path}
+use Rattle.gs_path.specs.Rules.{is_within_depth}
 use Rattle.gs_refs.specs.Counts.{count_or_zero}
 use Rattle.gs_tree.specs.Entry.{Entry, Dir, File}
 use Rattle.gs_tree.specs.Find.{Rows, at}
@@ -34,6 +35,25 @@ use Rattle.gs_master_spec.specs.Durable.{Durable, is_rolling}
 use Rattle.gs_master_spec.specs.State.{State, Plan, Turn, turned, if_room, reply_to, refused, answered, first_of, is_failed}
 use Rattle.gs_master_spec.specs.Applied.{view_in}
 use Rattle.gs_master_spec.specs.Undoing.{edited_names}
+
+-- ---- the paths of a call, none of which may have more elements than one that is read
+
+abbrev pub paths_of_call : Call → List Path
+paths_of_call (calls.Mkdirs path) = path ∷ []
+paths_of_call (calls.Create path) = path ∷ []
+paths_of_call (calls.Rename from to) = from ∷ to ∷ []
+paths_of_call (calls.Delete path recursive) = path ∷ []
+paths_of_call (calls.Undelete path) = path ∷ []
+paths_of_call (calls.Snapshot from to) = from ∷ to ∷ []
+paths_of_call (calls.List path) = path ∷ []
+paths_of_call (calls.Status path) = path ∷ []
+paths_of_call (calls.FindForReading path index) = path ∷ []
+paths_of_call (calls.FindForWriting path index stamp) = path ∷ []
+paths_of_call (calls.Extend path index) = path ∷ []
+paths_of_call call = []
+
+abbrev pub is_any_deep : Call → Bool
+is_any_deep call = list_any (λ path. not (is_within_depth path)) (paths_of_call call)
 
 -- ---- the paths of a call that mustn't be hidden; look-ups for reading and undelete take hidden ones
 
@@ -129,7 +149,7 @@ is_work call = false
 
 abbrev pub ordered : Bool → Bool → Bool → Bool → Call → List (Bool × Refusal)
 ordered failed rolling preparing locked call =
-    (failed, refusals.Device) ∷ (rolling && not (is_always_taken call), refusals.RollingBack) ∷ (preparing && is_work call, refusals.Preparing) ∷ (locked, refusals.Locked) ∷ (is_any_hidden call, refusals.HiddenName) ∷ []
+    (failed, refusals.Device) ∷ (rolling && not (is_always_taken call), refusals.RollingBack) ∷ (preparing && is_work call, refusals.Preparing) ∷ (locked, refusals.Locked) ∷ (is_any_deep call, refusals.BadPath) ∷ (is_any_hidden call, refusals.HiddenName) ∷ []
 
 abbrev pub refused_before : State → ReqId → Call → Option Refusal
 refused_before s req call = first_of (ordered (is_failed s.fault) (is_rolling s.durable.phase) s.volatile.is_preparing (is_locked s req call) call)
@@ -247,6 +267,34 @@ then_preparing = refl
 
 then_locked : first_of (ordered false false false true (calls.Create f)) ≡ Some refusals.Locked
 then_locked = refl
+
+-- of so many elements
+abbrev deep : ℕ → Path
+deep count = replicate count (codes "f")
+
+then_deep : first_of (ordered false false false false (calls.Create (codes ".deleted.x" ∷ deep 64))) ≡ Some refusals.BadPath
+then_deep = refl
+
+a_lock_before_a_deep_path : first_of (ordered false false false true (calls.Create (deep 65))) ≡ Some refusals.Locked
+a_lock_before_a_deep_path = refl
+
+of_64_it_is_taken : first_of (ordered false false false false (calls.Create (deep 64))) ≡ None
+of_64_it_is_taken = refl
+
+a_deep_source : first_of (ordered false false false false (calls.Rename (deep 65) f)) ≡ Some refusals.BadPath
+a_deep_source = refl
+
+a_deep_target : first_of (ordered false false false false (calls.Snapshot f (deep 65))) ≡ Some refusals.BadPath
+a_deep_target = refl
+
+a_deep_path_is_not_undeleted : first_of (ordered false false false false (calls.Undelete (deep 65))) ≡ Some refusals.BadPath
+a_deep_path_is_not_undeleted = refl
+
+nor_looked_up : first_of (ordered false false false false (calls.Status (deep 65))) ≡ Some refusals.BadPath
+nor_looked_up = refl
+
+nor_read : first_of (ordered false false false false (calls.FindForReading (deep 65) 0)) ≡ Some refusals.BadPath
+nor_read = refl
 
 then_hidden : first_of (ordered false false false false (calls.Create (codes ".deleted.x" ∷ []))) ≡ Some refusals.HiddenName
 then_hidden = refl

@@ -17,7 +17,7 @@ fn empty_disk(alloc: Global) -> MemoryDisk {
 
 /// A new store of three servers in one rack, with each chunk on all three, in blocks of 4 KiB and chunks of 1 MiB. The two disks
 /// are those of its master's journal.
-fn new_store(alloc: Global) -> Result<Desk<MemoryDisk>, Refusal> {
+pub fn new_store(alloc: Global) -> Result<Desk<MemoryDisk>, Refusal> {
     let config = Config::new(3, 1, 3, 4096, 1_048_576)?;
     let disks = (empty_disk(alloc), empty_disk(alloc));
     Desk::new(alloc, config, disks).map_err(|unopened| unopened.refusal)

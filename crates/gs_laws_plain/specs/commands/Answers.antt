@@ -1,5 +1,5 @@
 -- What the plain tree answers to a call.
-use Rattle.std.specs.Prelude.{[], ◌&&◌, ◌==◌, ◌||◌, ◌∷◌, ◌≡◌, Bool, Err, List, None, Ok, Option, Result, Some, codes, false, filter, flat_map, if◌then◌else◌, is_none, map, nat_le, not, option_map, refl, true, ℕ}
+use Rattle.std.specs.Prelude.{[], ◌&&◌, ◌==◌, ◌||◌, ◌∷◌, ◌≡◌, Bool, Err, List, None, Ok, Option, Result, Some, codes, false, filter, flat_map, if◌then◌else◌, is_none, map, nat_le, not, option_map, refl, replicate, true, ℕ}
 use Rattle.std.specs.List.{list_any}
 use Rattle.gs_base.specs.declared.refusal.Refusal.{Refusal}
 use Rattle.gs_edit.specs.Plain.{create_rows, hide_rows, mkdirs_rows, rename_rows, snapshot_rows, unhide_rows, unhide_target}
@@ -15,7 +15,7 @@ use Rattle.gs_msg.specs.declared.call.Call.{Call}
 use Rattle.gs_msg.specs.declared.call.Call.TheVariants as calls
 use Rattle.gs_msg.specs.declared.lists.ListedName.{ListedName}
 use Rattle.gs_tree.specs.Edits.{last, is_dir, same_path, hidden_path, old_name}
-use Rattle.gs_master_spec.specs.Calls.{is_any_hidden, is_hidden_at}
+use Rattle.gs_master_spec.specs.Calls.{is_any_deep, is_any_hidden, is_hidden_at}
 
 -- ---- look-ups
 
@@ -60,9 +60,12 @@ tree_answer rows moment number (calls.Snapshot from to) = Some (answered answers
 tree_answer rows moment number (calls.List p) = Some (listed rows p (at rows p))
 tree_answer rows moment number call = None
 
--- a hidden name that a call may not have is refused before all else
+-- a path of more than 64 elements is refused before all else, and then a hidden name that a call may not have
+abbrev pub by_paths : Call → Result Answer Refusal → Result Answer Refusal
+by_paths call result = if is_any_deep call then Err refusals.BadPath else if is_any_hidden call then Err refusals.HiddenName else result
+
 abbrev pub plain_answer : Rows (List ℕ) → ℕ → ℕ → Call → Option (Result Answer Refusal)
-plain_answer rows moment number call = option_map (λ result. if is_any_hidden call then Err refusals.HiddenName else result) (tree_answer rows moment number call)
+plain_answer rows moment number call = option_map (by_paths call) (tree_answer rows moment number call)
 
 -- locks, a prepare, a rollback, an old number, replicas, doubt, room, counters, disks and memory: of these the plain tree knows nothing
 abbrev pub is_of_store : ℕ → Bool
@@ -91,6 +94,12 @@ it_stands = refl
 
 nothing_to_delete : plain_answer rows 0 1 (calls.Delete (codes "x" ∷ []) true) ≡ Some (Ok answers.Absent)
 nothing_to_delete = refl
+
+too_deep : plain_answer rows 0 1 (calls.Create (replicate 65 (codes "a"))) ≡ Some (Err refusals.BadPath)
+too_deep = refl
+
+not_too_deep : plain_answer rows 0 1 (calls.List (replicate 64 (codes "a"))) ≡ Some (Err refusals.NotFound)
+not_too_deep = refl
 
 an_upgrade_is_no_call_of_the_tree : plain_answer rows 0 1 calls.PrepareBegin ≡ None
 an_upgrade_is_no_call_of_the_tree = refl

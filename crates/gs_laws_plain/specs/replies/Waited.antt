@@ -26,7 +26,7 @@ use Rattle.gs_laws_plain.specs.commands.Commands as commands
 use Rattle.gs_laws_plain.specs.commands.Commands.{command_of}
 use Rattle.gs_master_record.specs.Plain.{Cow, Edited, Finalize, PlainEntry, Said, Snapshot}
 use Rattle.gs_master_spec.specs.Applied.{applied}
-use Rattle.gs_master_spec.specs.Calls.{is_any_hidden}
+use Rattle.gs_master_spec.specs.Calls.{is_any_deep, is_any_hidden}
 use Rattle.gs_master_spec.specs.Durable.{Durable, start}
 use Rattle.gs_master_spec.specs.Handling.{handle, tick}
 use Rattle.gs_master_spec.specs.Settling.{edit_plan, edit_turn, own_request}
@@ -73,7 +73,7 @@ IsAmong p (q ∷ pending) = (q ≡ p) ⊎ IsAmong p pending
 abbrev pub WaitsSo : State → ReqId → Waiting → Type 0
 WaitsSo s req waiting = IsAmong (record { req = req; waits = waiting }) s.volatile.pending
 
--- Behind the first records of a turn it is answered: as by the names that stand there, where it names nothing hidden. Behind these stands what it records: the command that it is, where it is made, and else its refusal, if that is recorded; where it isn't, they are those up to some place. No other record of the turn is for it.
+-- Behind the first records of a turn it is answered: as by the names that stand there, where it names nothing deep and nothing hidden. Behind these stands what it records: the command that it is, where it is made, and else its refusal, if that is recorded; where it isn't, they are those up to some place. No other record of the turn is for it.
 pub record GoesOnPlainly (s : State) (t : Turn) (req : ReqId) (from to : Path) (result : Result Answer Refusal) : Type 0 where
   pub before : List PlainEntry
   pub behind : List PlainEntry
@@ -82,7 +82,7 @@ pub record GoesOnPlainly (s : State) (t : Turn) (req : ReqId) (from to : Path) (
   pub parts : t.records ≡ before ++ (made ++ behind)
   pub none_before : TellsNone req before
   pub none_behind : TellsNone req behind
-  pub plainly : is_any_hidden (calls.Snapshot from to) ≡ false → (moment number : ℕ) → IsPlainBy (led s.durable before).names moment number (calls.Snapshot from to) result
+  pub plainly : is_any_deep (calls.Snapshot from to) ≡ false → is_any_hidden (calls.Snapshot from to) ≡ false → (moment number : ℕ) → IsPlainBy (led s.durable before).names moment number (calls.Snapshot from to) result
 
 -- a message that is a reply is such
 abbrev pub RepliesSo : (ReqId → Result Answer Refusal → Type 0) → Body → Type 0

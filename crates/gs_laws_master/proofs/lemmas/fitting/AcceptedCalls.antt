@@ -19,7 +19,7 @@ use Rattle.gs_msg.specs.declared.answer.Answer.TheVariants as answers
 use Rattle.gs_msg.specs.declared.call.Call.{Call}
 use Rattle.gs_msg.specs.declared.call.Call.TheVariants as calls
 use Rattle.gs_master_record.specs.Plain.{Mkdirs, Create, Rename, Unhide}
-use Rattle.gs_master_spec.specs.Calls.{found_chunk, is_always_taken, is_any_hidden, is_locked, is_work, listing, location, refused_before, status, told_phase, edit_if, renames}
+use Rattle.gs_master_spec.specs.Calls.{found_chunk, is_always_taken, is_any_deep, is_any_hidden, is_locked, is_work, listing, location, refused_before, status, told_phase, edit_if, renames}
 use Rattle.gs_master_spec.specs.Durable.{is_rolling}
 use Rattle.gs_place.specs.Needs.{most_needed_of}
 use Rattle.gs_master_state.specs.Sane.{IsSane}
@@ -50,14 +50,16 @@ pub record Passes (s : State) (call : Call) : Type 0 where
 pub passes : (s : State) (req : ReqId) (call : Call) → refused_before s req call ≡ None → Passes s call
 passes s req call e =
     let hidden = (is_any_hidden call, refusals.HiddenName) ∷ [] in
-    let locked = (is_locked s req call, refusals.Locked) ∷ hidden in
+    let deep = (is_any_deep call, refusals.BadPath) ∷ hidden in
+    let locked = (is_locked s req call, refusals.Locked) ∷ deep in
     let preparing = (s.volatile.is_preparing && is_work call, refusals.Preparing) ∷ locked in
     let rolling = (is_rolling s.durable.phase && not (is_always_taken call), refusals.RollingBack) ∷ preparing in
     let one = first_test (is_failed s.fault) refusals.Device rolling e in
     let two = first_test (is_rolling s.durable.phase && not (is_always_taken call)) refusals.RollingBack preparing one.1 in
     let three = first_test (s.volatile.is_preparing && is_work call) refusals.Preparing locked two.1 in
-    let four = first_test (is_locked s req call) refusals.Locked hidden three.1 in
-    record { rolling = two.0; preparing = three.0; hidden = (first_test (is_any_hidden call) refusals.HiddenName [] four.1).0 }
+    let four = first_test (is_locked s req call) refusals.Locked deep three.1 in
+    let five = first_test (is_any_deep call) refusals.BadPath hidden four.1 in
+    record { rolling = two.0; preparing = three.0; hidden = (first_test (is_any_hidden call) refusals.HiddenName [] five.1).0 }
 
 pub left_false : (b : Bool) → (b && true) ≡ false → b ≡ false
 left_false true h = h

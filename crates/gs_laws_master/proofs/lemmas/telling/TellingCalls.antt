@@ -478,7 +478,7 @@ module _ (s : State) (req : ReqId) (heard : IsRequest req) (can : CanTell s) whe
   called_tells config moment calls.RollbackCommit hidden named met low = rolled_tells
 
   before_fair : (call : Call) → IsFairly (refused_before s req call)
-  before_fair call = first_fair (ordered (is_failed s.fault) (is_rolling s.durable.phase) s.volatile.is_preparing (is_locked s req call) call) ((tt, bare), ((tt, bare), ((tt, bare), ((tt, bare), ((tt, bare), tt)))))
+  before_fair call = first_fair (ordered (is_failed s.fault) (is_rolling s.durable.phase) s.volatile.is_preparing (is_locked s req call) call) ((tt, bare), ((tt, bare), ((tt, bare), ((tt, bare), ((tt, bare), ((tt, bare), tt))))))
 
   unless_called : (config : Config) (moment : Moment) (call : Call) (refusal : Option Refusal) → refused_before s req call ≡ refusal → IsFairly refusal → IsNamedCall call → IsMet s.durable.names call → IsNumber moment.0 → TellsTurn s (called_unless config s req moment call refusal)
   unless_called config moment call None is fair named met low = called_tells config moment call (passes s req call is).hidden named met low

@@ -19,7 +19,7 @@ use Rattle.gs_laws_plain.specs.commands.Commands.{Texts}
 use Rattle.gs_laws_plain.specs.commands.Records.{kept_in}
 use Rattle.gs_master_record.specs.declared.checkpoint.Phase.{Phase}
 use Rattle.gs_master_record.specs.declared.checkpoint.Phase.TheVariants.{Ordinary, Upgrade, Rolling}
-use Rattle.gs_master_spec.specs.Calls.{is_always_taken, is_any_hidden, is_work, told_phase}
+use Rattle.gs_master_spec.specs.Calls.{is_always_taken, is_any_deep, is_any_hidden, is_work, told_phase}
 use Rattle.gs_master_spec.specs.Chunks.{has_entry}
 use Rattle.gs_master_spec.specs.Durable.{Settled, is_rolling}
 use Rattle.gs_master_spec.specs.Handling.{call_turn, called, called_unless}
@@ -51,16 +51,17 @@ all_quiet s still =
 -- ---- a call comes to its own tests
 
 module _ (preparing rolling : Bool) (config : Config) (s : State) (req : ReqId) (moment : Moment) (m : Plain (List ℕ)) (now next : ℕ) (asked : Asked preparing rolling s req m now next) where
-  pub comes_to_tests : (call : Call) → (rolling && not (is_always_taken call)) ≡ false → (preparing && is_work call) ≡ false → is_any_hidden call ≡ false → call_turn config s req moment call ≡ called config s req moment call
-  comes_to_tests call unrolled unprepared seen =
+  pub comes_to_tests : (call : Call) → (rolling && not (is_always_taken call)) ≡ false → (preparing && is_work call) ≡ false → is_any_deep call ≡ false → is_any_hidden call ≡ false → call_turn config s req moment call ≡ called config s req moment call
+  comes_to_tests call unrolled unprepared shallow seen =
       is_new_call config s req moment call asked.still (is_new s req.client asked.last req.number asked.answered asked.above)
       ∙ ap (λ (o : Option Refusal). called_unless config s req moment call o)
       (refused_so s req call asked.still
-      ∙ ap (λ (b : Bool). tests_left (b && not (is_always_taken call)) (s.volatile.is_preparing && is_work call) (is_any_hidden call)) asked.rolled
-      ∙ ap (λ (b : Bool). tests_left b (s.volatile.is_preparing && is_work call) (is_any_hidden call)) unrolled
-      ∙ ap (λ (b : Bool). tests_left false (b && is_work call) (is_any_hidden call)) asked.begun
-      ∙ ap (λ (b : Bool). tests_left false b (is_any_hidden call)) unprepared
-      ∙ ap (λ (b : Bool). tests_left false false b) seen)
+      ∙ ap (λ (b : Bool). tests_left (b && not (is_always_taken call)) (s.volatile.is_preparing && is_work call) (is_any_deep call) (is_any_hidden call)) asked.rolled
+      ∙ ap (λ (b : Bool). tests_left b (s.volatile.is_preparing && is_work call) (is_any_deep call) (is_any_hidden call)) unrolled
+      ∙ ap (λ (b : Bool). tests_left false (b && is_work call) (is_any_deep call) (is_any_hidden call)) asked.begun
+      ∙ ap (λ (b : Bool). tests_left false b (is_any_deep call) (is_any_hidden call)) unprepared
+      ∙ ap (λ (b : Bool). tests_left false false b (is_any_hidden call)) shallow
+      ∙ ap (λ (b : Bool). tests_left false false false b) seen)
 
   pub fits_so : (call : Call) → IsNamedCall call → IsNumber moment.0 → call_turn config s req moment call ≡ called config s req moment call → FitsAndStands s (called config s req moment call)
   fits_so call named number is = subst (FitsAndStands s) is (call_fits config s req moment call asked.still named number)
@@ -102,7 +103,7 @@ module _ (preparing rolling : Bool) (config : Config) (s : State) (req : ReqId) 
 
 pub queries_go : QueriesGo
 queries_go config s req moment m now next asked number =
-    let is = comes_to_tests false false config s req moment m now next asked calls.Query refl refl refl in
+    let is = comes_to_tests false false config s req moment m now next asked calls.Query refl refl refl refl in
     let so = fits_so false false config s req moment m now next asked calls.Query tt number is in
     let told = told_so false false config s req moment m now next asked refl in
     subst (λ (t : Turn). WentTo false false req t [] (Ok (answers.Phase (phase_of m.kept) now)) m now next) (sym is)

@@ -103,7 +103,7 @@ module _ (s : State) (req : ReqId) (m : Plain (List ℕ)) (now next : ℕ) (aske
 
 pub prepares_begin : PreparesBegin
 prepares_begin config s req moment m now next asked number =
-    let is = comes_to_tests false false config s req moment m now next asked calls.PrepareBegin refl refl refl in
+    let is = comes_to_tests false false config s req moment m now next asked calls.PrepareBegin refl refl refl refl in
     let so = fits_so false false config s req moment m now next asked calls.PrepareBegin tt number is in
     let whole = is ∙ begins_so s req false asked.still asked.begun in
     let fit = subst (FitsAndStands s) (begins_so s req false asked.still asked.begun) so in (
@@ -227,7 +227,7 @@ module _ (config : Config) (s : State) (req : ReqId) (moment : Moment) (m : Plai
 
 pub prepares_commit : PreparesCommit
 prepares_commit config s req moment m now next asked number =
-    let is = comes_to_tests true false config s req moment m now next asked calls.PrepareCommit refl refl refl in
+    let is = comes_to_tests true false config s req moment m now next asked calls.PrepareCommit refl refl refl refl in
     let so = fits_so true false config s req moment m now next asked calls.PrepareCommit tt number is in
     let same = commits_so config s req moment m now next asked in
     subst (λ (t : Turn). WasShort req t ⊎ WentTo false false req t (tell_all config (now + 1) ends.Prepare) (Ok (answers.Epoch (now + 1))) (prepared m) (now + 1) next) (sym (is ∙ same))
@@ -272,7 +272,7 @@ module _ (config : Config) (s : State) (req : ReqId) (m : Plain (List ℕ)) (now
 
 pub finalizes_go : FinalizesGo
 finalizes_go config s req moment m now next asked number =
-    let is = comes_to_tests false false config s req moment m now next asked calls.Finalize refl refl refl in
+    let is = comes_to_tests false false config s req moment m now next asked calls.Finalize refl refl refl refl in
     let so = fits_so false false config s req moment m now next asked calls.Finalize tt number is in (
       λ none. subst (λ (t : Turn). WentTo false false req t [] (Err refusals.NotUpgrading) m now next) (sym is)
           (nothing_to_end config s req m now next asked s.durable.phase (is_ordinary_where_none false false config s req moment m now next asked refl none) so),

@@ -93,7 +93,7 @@ module _ (config : Config) (s : State) (req : ReqId) (m : Plain (List ℕ)) (now
 
 pub rollbacks_begin : RollbacksBegin
 rollbacks_begin config s req moment m now next asked number =
-    let is = comes_to_tests false false config s req moment m now next asked calls.RollbackBegin refl refl refl in
+    let is = comes_to_tests false false config s req moment m now next asked calls.RollbackBegin refl refl refl refl in
     let so = fits_so false false config s req moment m now next asked calls.RollbackBegin tt number is in
     let same : rollback_begin config s req ≡ going_back config s req m now next asked s.durable.phase [] = ap (λ (p : List Pending). going_back config s req m now next asked s.durable.phase p) asked.still.pending in
     let fit = subst (FitsAndStands s) same so in (
@@ -240,7 +240,7 @@ module _ (config : Config) (s : State) (req : ReqId) (moment : Moment) (m : Plai
 
 pub rollbacks_commit : RollbacksCommit
 rollbacks_commit config s req moment m now next kept asked number some =
-    let is = comes_to_tests false true config s req moment m now next asked calls.RollbackCommit refl refl refl in
+    let is = comes_to_tests false true config s req moment m now next asked calls.RollbackCommit refl refl refl refl in
     let so = fits_so false true config s req moment m now next asked calls.RollbackCommit tt number is in
     let same = commits_so config s req moment m now next kept asked in
     subst (λ (t : Turn). WasShort req t ⊎ WentTo false false req t [] (Ok (answers.Epoch now)) (restored m kept) now next) (sym (is ∙ same))

@@ -39,7 +39,7 @@ use Rattle.gs_laws_master.specs.Standing.{Comes, FitsAndStands, IsNamedCall}
 use Rattle.gs_laws_plain.proofs.lemmas.commands.Answering.{none_mapped, same_names, same_visible}
 use Rattle.gs_laws_plain.proofs.lemmas.commands.Edits.{edits_lead}
 use Rattle.gs_laws_plain.proofs.lemmas.commands.Rows.{at_mapped}
-use Rattle.gs_laws_plain.specs.commands.Answers.{answered, deletes, has_visible, listed, plain_answer, tree_answer}
+use Rattle.gs_laws_plain.specs.commands.Answers.{answered, by_paths, deletes, has_visible, listed, plain_answer, tree_answer}
 use Rattle.gs_laws_plain.specs.commands.Commands.{Command, Texts, all_commanded, command_of_edit, commanded}
 use Rattle.gs_laws_plain.specs.commands.Commands as commands
 use Rattle.gs_laws_plain.specs.commands.Edits.{KeepsText, shown}
@@ -48,7 +48,7 @@ use Rattle.gs_laws_plain.specs.commands.Records.{kept_in, machine_of}
 use Rattle.gs_master_record.specs.Plain.{PlainEdit, Create, Hide, Mkdirs, Rename, Snapshot, Unhide}
 use Rattle.gs_master_spec.specs.Applied.{after_if, forgotten_by, number_of_edit}
 use Rattle.gs_master_spec.specs.Calls as store
-use Rattle.gs_master_spec.specs.Calls.{accept_plan, answered_with, deleted, edit_if, edited_by, has_visible_child, is_always_taken, is_any_hidden, is_locked, is_work, looked_up, refused_before, renames}
+use Rattle.gs_master_spec.specs.Calls.{accept_plan, answered_with, deleted, edit_if, edited_by, has_visible_child, is_always_taken, is_any_deep, is_any_hidden, is_locked, is_work, looked_up, refused_before, renames}
 use Rattle.gs_master_spec.specs.Durable.{after_number, is_rolling}
 use Rattle.gs_master_spec.specs.Handling.{Numbered, New, call_turn, called, called_unless, handle, new_call, numbered, taken_as}
 use Rattle.gs_master_spec.specs.State.{Fault, Sound, State, Turn, first_of, fits, is_failed, is_unopened, last_reply, refused, turned}
@@ -81,14 +81,14 @@ as_new config s req moment call fault pending how sound alone new =
 pub is_new_call : (config : Config) (s : State) (req : ReqId) (moment : Moment) (call : Call) → IsStill s → numbered (last_reply s req.client) req.number ≡ New → call_turn config s req moment call ≡ new_call config s req moment call
 is_new_call config s req moment call still new = as_new config s req moment call s.fault s.volatile.pending (numbered (last_reply s req.client) req.number) still.sound still.pending new
 
--- of these tests a hidden name, a rollback and a prepare are left
-abbrev pub tests_left : Bool → Bool → Bool → Option Refusal
-tests_left rolling preparing hidden = first_of ((rolling, refusals.RollingBack) ∷ (preparing, refusals.Preparing) ∷ (hidden, refusals.HiddenName) ∷ [])
+-- of these tests a rollback, a prepare, a deep path and a hidden name are left
+abbrev pub tests_left : Bool → Bool → Bool → Bool → Option Refusal
+tests_left rolling preparing deep hidden = first_of ((rolling, refusals.RollingBack) ∷ (preparing, refusals.Preparing) ∷ (deep, refusals.BadPath) ∷ (hidden, refusals.HiddenName) ∷ [])
 
-pub refused_so : (s : State) (req : ReqId) (call : Call) → IsStill s → refused_before s req call ≡ tests_left (is_rolling s.durable.phase && not (is_always_taken call)) (s.volatile.is_preparing && is_work call) (is_any_hidden call)
+pub refused_so : (s : State) (req : ReqId) (call : Call) → IsStill s → refused_before s req call ≡ tests_left (is_rolling s.durable.phase && not (is_always_taken call)) (s.volatile.is_preparing && is_work call) (is_any_deep call) (is_any_hidden call)
 refused_so s req call still =
-    ap (λ (f : Fault). first_of ((is_failed f, refusals.Device) ∷ (rolling, refusals.RollingBack) ∷ (preparing, refusals.Preparing) ∷ (is_locked s req call, refusals.Locked) ∷ (is_any_hidden call, refusals.HiddenName) ∷ [])) still.sound
-    ∙ ap (λ (b : Bool). first_of ((rolling, refusals.RollingBack) ∷ (preparing, refusals.Preparing) ∷ (b, refusals.Locked) ∷ (is_any_hidden call, refusals.HiddenName) ∷ [])) unlocked
+    ap (λ (f : Fault). first_of ((is_failed f, refusals.Device) ∷ (rolling, refusals.RollingBack) ∷ (preparing, refusals.Preparing) ∷ (is_locked s req call, refusals.Locked) ∷ (is_any_deep call, refusals.BadPath) ∷ (is_any_hidden call, refusals.HiddenName) ∷ [])) still.sound
+    ∙ ap (λ (b : Bool). first_of ((rolling, refusals.RollingBack) ∷ (preparing, refusals.Preparing) ∷ (b, refusals.Locked) ∷ (is_any_deep call, refusals.BadPath) ∷ (is_any_hidden call, refusals.HiddenName) ∷ [])) unlocked
   where
     rolling : Bool
     rolling = is_rolling s.durable.phase && not (is_always_taken call)
@@ -285,27 +285,28 @@ module _ (s : State) (req : ReqId) (moment : Moment) (now next : ℕ) (met : Ask
   called_goes config calls.RollbackBegin result is so = absurd (cc)
   called_goes config calls.RollbackCommit result is so = absurd (cc)
 
-  -- a hidden name is refused before
-  hidden_or : (config : Config) (call : Call) (result plain : Result Answer Refusal) (hidden : Bool) → tree_answer (mapped_rows bare.now (fin.entries s.durable.names.tree)) moment.0 next call ≡ Some result → (if hidden then Err refusals.HiddenName else result) ≡ plain
-      → FitsAndStands s (called_unless config s req moment call (tests_left false false hidden)) → Goes call (called_unless config s req moment call (tests_left false false hidden)) plain
-  hidden_or config call result plain true tree is so = subst (Goes call (refused s req refusals.HiddenName)) is (refuses call refusals.HiddenName so)
-  hidden_or config call result plain false tree is so = subst (Goes call (called config s req moment call)) is (called_goes config call result tree so)
+  -- a deep path and a hidden name are refused before
+  by_paths_or : (config : Config) (call : Call) (result plain : Result Answer Refusal) (deep hidden : Bool) → tree_answer (mapped_rows bare.now (fin.entries s.durable.names.tree)) moment.0 next call ≡ Some result → (if deep then Err refusals.BadPath else if hidden then Err refusals.HiddenName else result) ≡ plain
+      → FitsAndStands s (called_unless config s req moment call (tests_left false false deep hidden)) → Goes call (called_unless config s req moment call (tests_left false false deep hidden)) plain
+  by_paths_or config call result plain true hidden tree is so = subst (Goes call (refused s req refusals.BadPath)) is (refuses call refusals.BadPath so)
+  by_paths_or config call result plain false true tree is so = subst (Goes call (refused s req refusals.HiddenName)) is (refuses call refusals.HiddenName so)
+  by_paths_or config call result plain false false tree is so = subst (Goes call (called config s req moment call)) is (called_goes config call result tree so)
 
   pub new_goes : (config : Config) (call : Call) (plain : Result Answer Refusal) → plain_answer (mapped_rows bare.now (fin.entries s.durable.names.tree)) moment.0 next call ≡ Some plain → FitsAndStands s (new_call config s req moment call) → Goes call (new_call config s req moment call) plain
   new_goes config call plain is so = each (tree_answer (mapped_rows bare.now (fin.entries s.durable.names.tree)) moment.0 next call) refl is
     where
-      tests : refused_before s req call ≡ tests_left false false (is_any_hidden call)
+      tests : refused_before s req call ≡ tests_left false false (is_any_deep call) (is_any_hidden call)
       tests =
           refused_so s req call met.still
-          ∙ ap (λ (b : Bool). tests_left (b && not (is_always_taken call)) (s.volatile.is_preparing && is_work call) (is_any_hidden call)) met.rolled
-          ∙ ap (λ (b : Bool). tests_left false (b && is_work call) (is_any_hidden call)) met.begun
+          ∙ ap (λ (b : Bool). tests_left (b && not (is_always_taken call)) (s.volatile.is_preparing && is_work call) (is_any_deep call) (is_any_hidden call)) met.rolled
+          ∙ ap (λ (b : Bool). tests_left false (b && is_work call) (is_any_deep call) (is_any_hidden call)) met.begun
 
-      each : (o : Option (Result Answer Refusal)) → tree_answer (mapped_rows bare.now (fin.entries s.durable.names.tree)) moment.0 next call ≡ o → option_map (λ (result : Result Answer Refusal). if is_any_hidden call then Err refusals.HiddenName else result) o ≡ Some plain
+      each : (o : Option (Result Answer Refusal)) → tree_answer (mapped_rows bare.now (fin.entries s.durable.names.tree)) moment.0 next call ≡ o → option_map (by_paths call) o ≡ Some plain
           → Goes call (new_call config s req moment call) plain
       each None tree h = absurd (cc)
       each (Some result) tree h =
           subst (λ (o : Option Refusal). Goes call (called_unless config s req moment call o) plain) (sym tests)
-          (hidden_or config call result plain (is_any_hidden call) tree (same_result h) (subst (λ (o : Option Refusal). FitsAndStands s (called_unless config s req moment call o)) tests so))
+          (by_paths_or config call result plain (is_any_deep call) (is_any_hidden call) tree (same_result h) (subst (λ (o : Option Refusal). FitsAndStands s (called_unless config s req moment call o)) tests so))
 
 pub tree_calls_go : TreeCallsGo
 tree_calls_go config s req moment call m now next plain asked named number is =

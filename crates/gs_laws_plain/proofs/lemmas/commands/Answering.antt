@@ -21,7 +21,7 @@ use Rattle.gs_msg.specs.declared.answer.Answer.TheVariants as answers
 use Rattle.gs_msg.specs.declared.call.Call.{Call}
 use Rattle.gs_msg.specs.declared.call.Call.TheVariants as calls
 use Rattle.gs_path.specs.Path.{Path}
-use Rattle.gs_laws_plain.specs.commands.Answers.{answered, deletes, has_visible, is_of_store, is_refused_by_store, listed, named, plain_answer, tree_answer}
+use Rattle.gs_laws_plain.specs.commands.Answers.{answered, by_paths, deletes, has_visible, is_of_store, is_refused_by_store, listed, named, plain_answer, tree_answer}
 use Rattle.gs_laws_plain.specs.commands.Answers as plain
 use Rattle.gs_laws_plain.specs.commands.Commands.{Texts}
 use Rattle.gs_laws_plain.proofs.lemmas.commands.Raised.{source_refused}
@@ -30,7 +30,7 @@ use Rattle.gs_laws_plain.specs.commands.Answering.{IsAtOnce, NewCallsAnswerPlain
 use Rattle.gs_master_record.specs.Plain.{PlainEdit, Create, Hide, Mkdirs, Rename, Snapshot, Unhide}
 use Rattle.gs_refs.specs.Counts.{Counts}
 use Rattle.gs_master_spec.specs.Calls as store
-use Rattle.gs_master_spec.specs.Calls.{accept_plan, answered_with, deleted, edit_if, edited_by, has_visible_child, is_always_taken, is_any_hidden, is_hidden_at, is_locked, is_work, name_of_row, listing, looked_up, names_of_rows, refused_before, renames}
+use Rattle.gs_master_spec.specs.Calls.{accept_plan, answered_with, deleted, edit_if, edited_by, has_visible_child, is_always_taken, is_any_deep, is_any_hidden, is_hidden_at, is_locked, is_work, name_of_row, listing, looked_up, names_of_rows, refused_before, renames}
 use Rattle.gs_master_spec.specs.Durable.{is_rolling}
 use Rattle.gs_master_spec.specs.Handling.{called, called_unless, new_call}
 use Rattle.gs_master_spec.specs.State.{State, first_of, fits, is_failed, refused, turned}
@@ -51,15 +51,16 @@ as_plain : (s : State) (req : ReqId) (e : Refusal) → RepliesPlainly req (refus
 as_plain s req e = record { result = Err e; sent = refl; plainly = inr refl }
 
 -- the tests that come before a call's own
-tested : (config : Config) (s : State) (req : ReqId) (moment : Moment) (call : Call) (result : Result Answer Refusal) (failed rolling preparing locked hidden : Bool) → RepliesPlainly req (called config s req moment call) result →
-    RepliesPlainly req (called_unless config s req moment call (first_of ((failed, refusals.Device) ∷ (rolling, refusals.RollingBack) ∷ (preparing, refusals.Preparing) ∷ (locked, refusals.Locked) ∷ (hidden, refusals.HiddenName) ∷ [])))
-    (if hidden then Err refusals.HiddenName else result)
-tested config s req moment call result true rolling preparing locked hidden own = of_store s req refusals.Device _ refl
-tested config s req moment call result false true preparing locked hidden own = of_store s req refusals.RollingBack _ refl
-tested config s req moment call result false false true locked hidden own = of_store s req refusals.Preparing _ refl
-tested config s req moment call result false false false true hidden own = of_store s req refusals.Locked _ refl
-tested config s req moment call result false false false false true own = as_plain s req refusals.HiddenName
-tested config s req moment call result false false false false false own = own
+tested : (config : Config) (s : State) (req : ReqId) (moment : Moment) (call : Call) (result : Result Answer Refusal) (failed rolling preparing locked deep hidden : Bool) → RepliesPlainly req (called config s req moment call) result →
+    RepliesPlainly req (called_unless config s req moment call (first_of ((failed, refusals.Device) ∷ (rolling, refusals.RollingBack) ∷ (preparing, refusals.Preparing) ∷ (locked, refusals.Locked) ∷ (deep, refusals.BadPath) ∷ (hidden, refusals.HiddenName) ∷ [])))
+    (if deep then Err refusals.BadPath else if hidden then Err refusals.HiddenName else result)
+tested config s req moment call result true rolling preparing locked deep hidden own = of_store s req refusals.Device _ refl
+tested config s req moment call result false true preparing locked deep hidden own = of_store s req refusals.RollingBack _ refl
+tested config s req moment call result false false true locked deep hidden own = of_store s req refusals.Preparing _ refl
+tested config s req moment call result false false false true deep hidden own = of_store s req refusals.Locked _ refl
+tested config s req moment call result false false false false true hidden own = as_plain s req refusals.BadPath
+tested config s req moment call result false false false false false true own = as_plain s req refusals.HiddenName
+tested config s req moment call result false false false false false false own = own
 
 -- ---- edits
 
@@ -221,9 +222,9 @@ pub calls_answer : NewCallsAnswerPlainly
 calls_answer config s req moment call text plain has once is = each (tree_answer (mapped_rows text (fin.entries s.durable.names.tree)) moment.0 s.durable.next_hidden call) refl is
   where
     each : (o : Option (Result Answer Refusal)) → tree_answer (mapped_rows text (fin.entries s.durable.names.tree)) moment.0 s.durable.next_hidden call ≡ o →
-        option_map (λ (result : Result Answer Refusal). if is_any_hidden call then Err refusals.HiddenName else result) o ≡ Some plain → RepliesPlainly req (new_call config s req moment call) plain
+        option_map (by_paths call) o ≡ Some plain → RepliesPlainly req (new_call config s req moment call) plain
     each None tree h = absurd (cc)
     each (Some result) tree h =
         subst (RepliesPlainly req (new_call config s req moment call)) (same_result h)
-        (tested config s req moment call result (is_failed s.fault) (is_rolling s.durable.phase && not (is_always_taken call)) (s.volatile.is_preparing && is_work call) (is_locked s req call) (is_any_hidden call)
+        (tested config s req moment call result (is_failed s.fault) (is_rolling s.durable.phase && not (is_always_taken call)) (s.volatile.is_preparing && is_work call) (is_locked s req call) (is_any_deep call) (is_any_hidden call)
         (tree_replies config s req moment call text result has once tree))

@@ -17,7 +17,7 @@ use Rattle.gs_laws_plain.specs.commands.Commands as commands
 use Rattle.gs_laws_plain.specs.commands.Commands.{Command, command_of, command_of_edit}
 use Rattle.gs_laws_plain.specs.commands.Doing.{DoesAsAnswered, NewCallsDoAsAnswered, done_by, done_if, hides, is_of_tree}
 use Rattle.gs_master_record.specs.Plain.{Edited, PlainEdit, PlainEntry, Create, Hide, Mkdirs, Rename, Said, Snapshot, Unhide}
-use Rattle.gs_master_spec.specs.Calls.{accept_plan, answered_with, deleted, edit_if, edited_by, has_visible_child, is_always_taken, is_any_hidden, is_locked, is_work, listing, looked_up, renames}
+use Rattle.gs_master_spec.specs.Calls.{accept_plan, answered_with, deleted, edit_if, edited_by, has_visible_child, is_always_taken, is_any_deep, is_any_hidden, is_locked, is_work, listing, looked_up, renames}
 use Rattle.gs_master_spec.specs.Durable.{is_rolling}
 use Rattle.gs_master_spec.specs.Handling.{called, called_unless, new_call}
 use Rattle.gs_master_spec.specs.State.{State, Turn, first_of, fits, is_failed, keeps_refusal, refused, turned}
@@ -97,16 +97,17 @@ called_does config s req moment call tree once = absurd (false≢true tree)
 -- behind the tests that come before its own
 pub calls_do : NewCallsDoAsAnswered
 calls_do config s req moment call tree once =
-    each (is_failed s.fault) (is_rolling s.durable.phase && not (is_always_taken call)) (s.volatile.is_preparing && is_work call) (is_locked s req call) (is_any_hidden call)
+    each (is_failed s.fault) (is_rolling s.durable.phase && not (is_always_taken call)) (s.volatile.is_preparing && is_work call) (is_locked s req call) (is_any_deep call) (is_any_hidden call)
   where
     done : Answer → List Command
     done = done_by s moment call
 
-    each : (failed rolling preparing locked hidden : Bool) → DoesAsAnswered req (done_by s moment call)
-        (called_unless config s req moment call (first_of ((failed, refusals.Device) ∷ (rolling, refusals.RollingBack) ∷ (preparing, refusals.Preparing) ∷ (locked, refusals.Locked) ∷ (hidden, refusals.HiddenName) ∷ [])))
-    each true rolling preparing locked hidden = refused_does s req refusals.Device (done_by s moment call)
-    each false true preparing locked hidden = refused_does s req refusals.RollingBack (done_by s moment call)
-    each false false true locked hidden = refused_does s req refusals.Preparing (done_by s moment call)
-    each false false false true hidden = refused_does s req refusals.Locked (done_by s moment call)
-    each false false false false true = refused_does s req refusals.HiddenName (done_by s moment call)
-    each false false false false false = called_does config s req moment call tree once
+    each : (failed rolling preparing locked deep hidden : Bool) → DoesAsAnswered req (done_by s moment call)
+        (called_unless config s req moment call (first_of ((failed, refusals.Device) ∷ (rolling, refusals.RollingBack) ∷ (preparing, refusals.Preparing) ∷ (locked, refusals.Locked) ∷ (deep, refusals.BadPath) ∷ (hidden, refusals.HiddenName) ∷ [])))
+    each true rolling preparing locked deep hidden = refused_does s req refusals.Device (done_by s moment call)
+    each false true preparing locked deep hidden = refused_does s req refusals.RollingBack (done_by s moment call)
+    each false false true locked deep hidden = refused_does s req refusals.Preparing (done_by s moment call)
+    each false false false true deep hidden = refused_does s req refusals.Locked (done_by s moment call)
+    each false false false false true hidden = refused_does s req refusals.BadPath (done_by s moment call)
+    each false false false false false true = refused_does s req refusals.HiddenName (done_by s moment call)
+    each false false false false false false = called_does config s req moment call tree once

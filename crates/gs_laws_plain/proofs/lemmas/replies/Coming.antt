@@ -37,7 +37,7 @@ use Rattle.gs_laws_plain.specs.commands.Commands.{command_of}
 use Rattle.gs_laws_plain.specs.commands.Doing.{DoesAsAnswered, NewCallsDoAsAnswered, done_by, is_of_tree}
 use Rattle.gs_master_record.specs.Plain.{Said}
 use Rattle.gs_master_spec.specs.Beginning.{all_begun, begun, has_versions, members_at, next_stamp}
-use Rattle.gs_master_spec.specs.Calls.{is_always_taken, is_any_hidden, is_locked, is_work}
+use Rattle.gs_master_spec.specs.Calls.{is_always_taken, is_any_deep, is_any_hidden, is_locked, is_work}
 use Rattle.gs_master_spec.specs.Chunks.{chunk_at}
 use Rattle.gs_master_spec.specs.Durable.{is_rolling}
 use Rattle.gs_master_spec.specs.Handling.{Numbered, New, Again, Older, call_turn, called_unless, new_call, numbered, replied_again, taken_as, waits_still}
@@ -107,8 +107,15 @@ module _ (config : Config) (s : State) (req : ReqId) (moment : Moment) (from to 
   abbrev its_own : (ℕ → List ℕ) → Result Answer Refusal
   its_own text = answered answers.Nothing (snapshot_rows (mapped_rows text (fin.entries s.durable.names.tree)) from to)
 
-  hidden_each : is_any_hidden (calls.Snapshot from to) ≡ true → Each (refused s req refusals.HiddenName)
-  hidden_each hidden = refused_each refusals.HiddenName (λ text plain has said. inr (plain_is (sym (ap (λ b. Some (if b then Err refusals.HiddenName else its_own text)) hidden) ∙ said)))
+  -- the same by its paths
+  abbrev tried : (ℕ → List ℕ) → Bool → Bool → Option (Result Answer Refusal)
+  tried text deep hidden = Some (if deep then Err refusals.BadPath else if hidden then Err refusals.HiddenName else its_own text)
+
+  deep_each : is_any_deep its_call ≡ true → Each (refused s req refusals.BadPath)
+  deep_each deep = refused_each refusals.BadPath (λ text plain has said. inr (plain_is (sym (ap (λ b. tried text b (is_any_hidden its_call)) deep) ∙ said)))
+
+  hidden_each : is_any_deep its_call ≡ false → is_any_hidden its_call ≡ true → Each (refused s req refusals.HiddenName)
+  hidden_each shallow hidden = refused_each refusals.HiddenName (λ text plain has said. inr (plain_is (sym (ap (λ b. tried text b (is_any_hidden its_call)) shallow ∙ ap (tried text false) hidden) ∙ said)))
 
   -- messages of views that are begun
   no_reply : (t : Turn) (chunk : ℕ) (servers : List ℕ) → AllByRecursion (λ (m : Message). RepliesSo (λ other result. (other ≡ req) × ComesPlainly s t moment req its_call result) m.body) (to_each servers (about chunk (chunks.Advance (next_stamp s.durable))))
@@ -133,25 +140,26 @@ module _ (config : Config) (s : State) (req : ReqId) (moment : Moment) (from to 
       (pick Each (not (has_versions s.durable (length (chunk ∷ many)))) (refused s req refusals.Exhausted) all (of_store refusals.Exhausted refl)
       (pick Each (fits s.log (and_then wait begin).records) (and_then wait begin) (refused s req refusals.Full) (begun_says (and_then wait begin) (chunk ∷ many) purposes.Quiet wait.after) (of_store refusals.Full refl)))
 
-  snapshot_each : (chunk : ℕ) (many : List ℕ) → unquiet s from ≡ chunk ∷ many → is_any_hidden (calls.Snapshot from to) ≡ false → (rows : Result (Rows ℕ) Refusal) → snapshot_rows (fin.entries s.durable.names.tree) from to ≡ rows → Each (snapshot_if s req from to rows)
-  snapshot_each chunk many still visible (Ok rows) is = subst (λ (xs : List ℕ). Each (begins_snapshot s req from to xs)) (sym still) (waiting_each chunk many)
-  snapshot_each chunk many still visible (Err e) is = refused_each e (λ text plain has said. inr (by text ∙ plain_is (sym (ap (λ b. Some (if b then Err refusals.HiddenName else its_own text)) visible) ∙ said)))
+  snapshot_each : (chunk : ℕ) (many : List ℕ) → unquiet s from ≡ chunk ∷ many → is_any_deep its_call ≡ false → is_any_hidden its_call ≡ false → (rows : Result (Rows ℕ) Refusal) → snapshot_rows (fin.entries s.durable.names.tree) from to ≡ rows → Each (snapshot_if s req from to rows)
+  snapshot_each chunk many still shallow visible (Ok rows) is = subst (λ (xs : List ℕ). Each (begins_snapshot s req from to xs)) (sym still) (waiting_each chunk many)
+  snapshot_each chunk many still shallow visible (Err e) is = refused_each e (λ text plain has said. inr (by text ∙ plain_is (sym (ap (λ b. tried text b (is_any_hidden its_call)) shallow ∙ ap (tried text false) visible) ∙ said)))
     where
       by : (text : ℕ → List ℕ) → Err e ≡ its_own text
       by text = sym (ap (answered answers.Nothing) (snapshot_rows-map text (fin.entries s.durable.names.tree) from to ∙ ap (mapped_edit text) is))
 
   unquiet_each : (chunk : ℕ) (many : List ℕ) → unquiet s from ≡ chunk ∷ many → Each (new_call config s req moment its_call)
   unfolding edited_names
-  unquiet_each chunk many still = tested (is_failed s.fault) (is_rolling s.durable.phase && not (is_always_taken its_call)) (s.volatile.is_preparing && is_work its_call) (is_locked s req its_call) (is_any_hidden its_call) refl
+  unquiet_each chunk many still = tested (is_failed s.fault) (is_rolling s.durable.phase && not (is_always_taken its_call)) (s.volatile.is_preparing && is_work its_call) (is_locked s req its_call) (is_any_deep its_call) (is_any_hidden its_call) refl refl
     where
-      tested : (failed rolling preparing locked hidden : Bool) → is_any_hidden (calls.Snapshot from to) ≡ hidden →
-          Each (called_unless config s req moment its_call (first_of ((failed, refusals.Device) ∷ (rolling, refusals.RollingBack) ∷ (preparing, refusals.Preparing) ∷ (locked, refusals.Locked) ∷ (hidden, refusals.HiddenName) ∷ [])))
-      tested true rolling preparing locked hidden is = of_store refusals.Device refl
-      tested false true preparing locked hidden is = of_store refusals.RollingBack refl
-      tested false false true locked hidden is = of_store refusals.Preparing refl
-      tested false false false true hidden is = of_store refusals.Locked refl
-      tested false false false false true is = hidden_each is
-      tested false false false false false is = snapshot_each chunk many still is (edited (edits.Snapshot from to) (fin.entries s.durable.names.tree)) refl
+      tested : (failed rolling preparing locked deep hidden : Bool) → is_any_deep its_call ≡ deep → is_any_hidden its_call ≡ hidden →
+          Each (called_unless config s req moment its_call (first_of ((failed, refusals.Device) ∷ (rolling, refusals.RollingBack) ∷ (preparing, refusals.Preparing) ∷ (locked, refusals.Locked) ∷ (deep, refusals.BadPath) ∷ (hidden, refusals.HiddenName) ∷ [])))
+      tested true rolling preparing locked deep hidden is seen = of_store refusals.Device refl
+      tested false true preparing locked deep hidden is seen = of_store refusals.RollingBack refl
+      tested false false true locked deep hidden is seen = of_store refusals.Preparing refl
+      tested false false false true deep hidden is seen = of_store refusals.Locked refl
+      tested false false false false true hidden is seen = deep_each is
+      tested false false false false false true is seen = hidden_each is seen
+      tested false false false false false false is seen = snapshot_each chunk many still is seen (edited (edits.Snapshot from to) (fin.entries s.durable.names.tree)) refl
 
 -- ---- the reply that is kept
 

@@ -1,5 +1,5 @@
 -- Each reply of a master whose state stands, or of which a disk has failed.
-use Rattle.std.proofs.Common.{◌≡◌, ◌⊎◌, inl, inr, ◌∙◌, ◌&&◌, ◌||◌, ◌++◌, ℕ, Bool, true, false, not, List, [], ◌∷◌, length, refl, ap, sym, subst, arith}
+use Rattle.std.proofs.Common.{◌≡◌, ◌⊎◌, inl, inr, ◌∙◌, ◌&&◌, ◌||◌, ◌++◌, ◌==◌, ℕ, Bool, true, false, not, List, [], ◌∷◌, length, refl, ap, sym, subst, arith}
 use Rattle.std.specs.Prelude.{filter_map, is_some, option_and_then, take, unwrap_or, Option, Some, None, Result, Ok, Err, if◌then◌else◌}
 use Rattle.std.specs.List.{AllByRecursion, list_all, list_any}
 use Rattle.std.proofs.Math.Seq.{take-append_seam}
@@ -18,8 +18,9 @@ use Rattle.gs_msg.specs.declared.call.Call.TheVariants as calls
 use Rattle.gs_msg.specs.declared.message.Message.{Message}
 use Rattle.gs_msg.specs.declared.node.NodeId.{NodeId}
 use Rattle.gs_msg.specs.declared.node.NodeId.TheVariants as nodes
-use Rattle.gs_path.specs.Element.{is_hidden}
-use Rattle.gs_path.specs.Path.{Path}
+use Rattle.gs_path.specs.Element.{is_hidden, is_stored}
+use Rattle.gs_path.specs.Path.{Path, path_text}
+use Rattle.gs_path.specs.Rules.{elements_of, is_within_depth, judged, parse_hidden}
 use Rattle.gs_laws_moves.proofs.lemmas.answers.Answering.{pick}
 use Rattle.gs_laws_master.proofs.lemmas.standing.StandingRuns.{events_fit}
 use Rattle.gs_laws_master.proofs.lemmas.telling.WritingPlaces.{events_written_at_places}
@@ -32,7 +33,7 @@ use Rattle.gs_laws_plain.specs.commands.Commands.{command_of}
 use Rattle.gs_laws_plain.specs.commands.Doing.{NewCallsDoAsAnswered, is_of_tree}
 use Rattle.gs_master_record.specs.Plain.{PlainEntry}
 use Rattle.gs_master_spec.specs.Applied.{applied, replayed}
-use Rattle.gs_master_spec.specs.Calls.{is_always_taken, is_any_hidden, is_locked, is_work}
+use Rattle.gs_master_spec.specs.Calls.{is_always_taken, is_any_deep, is_any_hidden, is_locked, is_work}
 use Rattle.gs_master_spec.specs.Durable.{Durable, is_rolling}
 use Rattle.gs_master_spec.specs.Handling.{Numbered, New, Again, Older, call_turn, called_unless, from_node, granted, handle, new_call, numbered, pressed, proposals, replied_again, server_turn, taken_as, tick, waits_still, written_if_due}
 use Rattle.gs_master_spec.specs.State.{State, Turn, and_then, first_of, for_each, is_failed, is_unopened, last_reply, met_by, unmoved}
@@ -71,6 +72,37 @@ names_visible [] req from to can among = absurd among
 names_visible (p ∷ ps) req from to can (inl first) = open_paths (list_any is_hidden from) (list_any is_hidden to) (subst CanWait first can.0).0
 names_visible (p ∷ ps) req from to can (inr rest) = names_visible ps req from to can.1 rest
 
+-- and nothing deep, as both of its paths are read from their texts
+read_is_shallow : (text : List ℕ) (p : Path) → parse_hidden text ≡ Ok p → is_within_depth p ≡ true
+read_is_shallow [] p is = absurd (cc)
+read_is_shallow (c ∷ rest) p is = by_slash (c == 47) is
+  where
+    read : Path
+    read = elements_of rest
+
+    same : {a b : Path} → ◌≡◌ {A = Result Path Refusal} (Ok a) (Ok b) → a ≡ b
+    same h = cc
+
+    by_tests : (within whole : Bool) → is_within_depth read ≡ within → (if within && whole then Ok read else Err refusals.BadPath) ≡ Ok p → is_within_depth p ≡ true
+    by_tests true true within h = ap is_within_depth (sym (same h)) ∙ within
+    by_tests true false within h = absurd (cc)
+    by_tests false whole within h = absurd (cc)
+
+    by_slash : (b : Bool) → (if b then judged is_stored read else Err refusals.BadPath) ≡ Ok p → is_within_depth p ≡ true
+    by_slash true h = by_tests (is_within_depth read) (list_all is_stored read) refl h
+    by_slash false h = absurd (cc)
+
+both_shallow : (a b : Bool) → a ≡ true → b ≡ true → (not a || (not b || false)) ≡ false
+both_shallow true true is other = refl
+both_shallow true false is other = absurd (false≢true other)
+both_shallow false b is other = absurd (false≢true is)
+
+names_shallow : (ps : List Pending) (req : ReqId) (from to : Path) → AllByRecursion CanWait ps → IsAmong (record { req = req; waits = waits.Snapshot from to }) ps → is_any_deep (calls.Snapshot from to) ≡ false
+names_shallow [] req from to can among = absurd among
+names_shallow (p ∷ ps) req from to can (inl first) =
+    let told = (subst CanWait first can.0).1 in both_shallow (is_within_depth from) (is_within_depth to) (read_is_shallow (path_text from) from told.0.1) (read_is_shallow (path_text to) to told.1.1)
+names_shallow (p ∷ ps) req from to can (inr rest) = names_shallow ps req from to can.1 rest
+
 module _ (s : State) (t : Turn) (moment : Moment) (heard : Option Body) (counted : IsCounted s.durable.names) (fits : AllFit s t) (kept : (place : ℕ) (d : Durable) → replayed s.durable (take place t.records) ≡ Some d → IsKept d) (can : AllByRecursion CanWait s.volatile.pending) where
   copied : (req : ReqId) (from to : Path) (result : Result Answer Refusal) → WaitsSo s req (waits.Snapshot from to) → GoesOnPlainly s t req from to result → steady.IsPlainCopy s.durable t.records req from to result
   copied req from to result waiting goes = record {
@@ -83,7 +115,7 @@ module _ (s : State) (t : Turn) (moment : Moment) (heard : Option Body) (counted
     none_behind = goes.none_behind;
     stands = led s.durable goes.before;
     fits = fit;
-    plainly = λ moment number text plain said. goes.plainly (names_visible s.volatile.pending req from to can waiting) moment number text plain stands.names.counted said;
+    plainly = λ moment number text plain said. goes.plainly (names_shallow s.volatile.pending req from to can waiting) (names_visible s.volatile.pending req from to can waiting) moment number text plain stands.names.counted said;
   }
     where
       rest : List PlainEntry
@@ -131,7 +163,7 @@ module _ (config : Config) (s : State) (moment : Moment) (failed : is_failed s.f
     device = meek_reply s req call (Err refusals.Device) (inl refl)
 
     new_meek : Meek (new_call config s req moment call)
-    new_meek = subst (λ b. Meek (called_unless config s req moment call (first_of ((b, refusals.Device) ∷ (is_rolling s.durable.phase && not (is_always_taken call), refusals.RollingBack) ∷ (s.volatile.is_preparing && is_work call, refusals.Preparing) ∷ (is_locked s req call, refusals.Locked) ∷ (is_any_hidden call, refusals.HiddenName) ∷ [])))) (sym failed) (record { none = refl; sent = ((call, refl, inl refl), tt) })
+    new_meek = subst (λ b. Meek (called_unless config s req moment call (first_of ((b, refusals.Device) ∷ (is_rolling s.durable.phase && not (is_always_taken call), refusals.RollingBack) ∷ (s.volatile.is_preparing && is_work call, refusals.Preparing) ∷ (is_locked s req call, refusals.Locked) ∷ (is_any_deep call, refusals.BadPath) ∷ (is_any_hidden call, refusals.HiddenName) ∷ [])))) (sym failed) (record { none = refl; sent = ((call, refl, inl refl), tt) })
 
     taken_meek : (how : Numbered) → numbered (last_reply s req.client) req.number ≡ how → Meek (taken_as config s req moment call how)
     taken_meek New is = new_meek

@@ -18,7 +18,7 @@ use Rattle.gs_laws_plain.specs.calm.Calm.{WasShort, WentTo, hidden_after, plain_
 use Rattle.gs_laws_master.specs.Standing.{IsNamedCall}
 use Rattle.gs_laws_plain.specs.commands.Answers.{deletes, has_visible, listed, plain_answer}
 use Rattle.gs_laws_plain.specs.commands.Answers as plain_answers
-use Rattle.gs_master_spec.specs.Calls.{is_any_hidden}
+use Rattle.gs_master_spec.specs.Calls.{is_any_deep, is_any_hidden}
 use Rattle.gs_msg.specs.declared.answer.Answer.{Answer as Said}
 use Rattle.gs_msg.specs.declared.answer.Answer.TheVariants as says
 use Rattle.gs_msg.specs.declared.call.Call.{Call as Called}
@@ -115,31 +115,38 @@ module _ (config : Config) (m : Machine) (w : PlainDesk) (st : Standing config m
 
 -- ---- what is said of what the plain tree answers
 
--- where a hidden name may be refused
-said_done : {A : Type 0} (hides : Bool) (r : Result A Refusal) → IsSure r →
-    says_of nothing_in done (answered replies.Answer (if hides then Err refusals.HiddenName else plain_answers.answered says.Nothing r)) ≡ line_answer (if hides then Err refusals.HiddenName else plain_answers.answered says.Nothing r)
-said_done true r sure = refl
-said_done false (Ok x) sure = refl
-said_done false (Err e) sure = ap (λ (e : Refusal). Err e) sure
+-- where a deep path or a hidden name may be refused
+said_done : {A : Type 0} (deep hides : Bool) (r : Result A Refusal) → IsSure r →
+    says_of nothing_in done (answered replies.Answer (if deep then Err refusals.BadPath else if hides then Err refusals.HiddenName else plain_answers.answered says.Nothing r)) ≡ line_answer (if deep then Err refusals.BadPath else if hides then Err refusals.HiddenName else plain_answers.answered says.Nothing r)
+said_done true hides r sure = refl
+said_done false true r sure = refl
+said_done false false (Ok x) sure = refl
+said_done false false (Err e) sure = ap (λ (e : Refusal). Err e) sure
 
-said_path : {A : Type 0} (p : Path) (r : Result A Refusal) → IsSure r → says_of path_in answers.Path (answered replies.Answer (plain_answers.answered (says.Path p) r)) ≡ line_answer (plain_answers.answered (says.Path p) r)
-said_path p (Ok x) sure = refl
-said_path p (Err e) sure = ap (λ (e : Refusal). Err e) sure
+-- where a deep path may be
+said_path : {A : Type 0} (deep : Bool) (p : Path) (r : Result A Refusal) → IsSure r →
+    says_of path_in answers.Path (answered replies.Answer (if deep then Err refusals.BadPath else plain_answers.answered (says.Path p) r)) ≡ line_answer (if deep then Err refusals.BadPath else plain_answers.answered (says.Path p) r)
+said_path true p r sure = refl
+said_path false p (Ok x) sure = refl
+said_path false p (Err e) sure = ap (λ (e : Refusal). Err e) sure
 
-said_deleted : (hides root none some : Bool) (p : Path) (r : Result (Rows (List ℕ)) Refusal) → IsSure r →
-    says_of deleted_in hidden (answered replies.Answer (if hides then Err refusals.HiddenName else if root then Err refusals.IsRoot else if none then Ok says.Absent else if some then Err refusals.NotEmpty else plain_answers.answered (says.Path p) r))
-    ≡ line_answer (if hides then Err refusals.HiddenName else if root then Err refusals.IsRoot else if none then Ok says.Absent else if some then Err refusals.NotEmpty else plain_answers.answered (says.Path p) r)
-said_deleted true root none some p r sure = refl
-said_deleted false true none some p r sure = refl
-said_deleted false false true some p r sure = refl
-said_deleted false false false true p r sure = refl
-said_deleted false false false false p (Ok x) sure = refl
-said_deleted false false false false p (Err e) sure = ap (λ (e : Refusal). Err e) sure
+said_deleted : (deep hides root none some : Bool) (p : Path) (r : Result (Rows (List ℕ)) Refusal) → IsSure r →
+    says_of deleted_in hidden (answered replies.Answer (if deep then Err refusals.BadPath else if hides then Err refusals.HiddenName else if root then Err refusals.IsRoot else if none then Ok says.Absent else if some then Err refusals.NotEmpty else plain_answers.answered (says.Path p) r))
+    ≡ line_answer (if deep then Err refusals.BadPath else if hides then Err refusals.HiddenName else if root then Err refusals.IsRoot else if none then Ok says.Absent else if some then Err refusals.NotEmpty else plain_answers.answered (says.Path p) r)
+said_deleted true hides root none some p r sure = refl
+said_deleted false true root none some p r sure = refl
+said_deleted false false true none some p r sure = refl
+said_deleted false false false true some p r sure = refl
+said_deleted false false false false true p r sure = refl
+said_deleted false false false false false p (Ok x) sure = refl
+said_deleted false false false false false p (Err e) sure = ap (λ (e : Refusal). Err e) sure
 
-said_names : (rows : Rows (List ℕ)) (p : Path) (o : Option (Entry (List ℕ))) → says_looked names_in answers.Names (answered replies.Answer (listed rows p o)) ≡ line_answer (listed rows p o)
-said_names rows p None = refl
-said_names rows p (Some Dir) = refl
-said_names rows p (Some (File texts)) = refl
+said_names : (deep : Bool) (rows : Rows (List ℕ)) (p : Path) (o : Option (Entry (List ℕ))) →
+    says_looked names_in answers.Names (answered replies.Answer (if deep then Err refusals.BadPath else listed rows p o)) ≡ line_answer (if deep then Err refusals.BadPath else listed rows p o)
+said_names true rows p o = refl
+said_names false rows p None = refl
+said_names false rows p (Some Dir) = refl
+said_names false rows p (Some (File texts)) = refl
 
 done_short : SaysShort (says_of nothing_in done)
 done_short = record { full = refl; exhausted = refl }
@@ -159,48 +166,48 @@ module _ (config : Config) (m : Machine) (w : PlainDesk) (st : Standing config m
   mkdir_line (Err e) named = stays config m w st (Err e)
   mkdir_line (Ok p) named =
       by_change (calls.Mkdirs p) nothing_in done (called (Ok (calls.Mkdirs p)) m)
-      (tree_line config m w st (calls.Mkdirs p) (says_of nothing_in done) (if is_any_hidden (calls.Mkdirs p) then Err refusals.HiddenName else plain_answers.answered says.Nothing (mkdirs_rows m.plain.tree p)) (named p refl) refl done_short
-      (said_done (is_any_hidden (calls.Mkdirs p)) (mkdirs_rows m.plain.tree p) (sure_mkdirs m.plain.tree p)))
+      (tree_line config m w st (calls.Mkdirs p) (says_of nothing_in done) (if is_any_deep (calls.Mkdirs p) then Err refusals.BadPath else if is_any_hidden (calls.Mkdirs p) then Err refusals.HiddenName else plain_answers.answered says.Nothing (mkdirs_rows m.plain.tree p)) (named p refl) refl done_short
+      (said_done (is_any_deep (calls.Mkdirs p)) (is_any_hidden (calls.Mkdirs p)) (mkdirs_rows m.plain.tree p) (sure_mkdirs m.plain.tree p)))
 
   pub create_line : (r : Result Path Refusal) → ((p : Path) → r ≡ Ok p → IsNamedCall (calls.Create p)) → LineGoes config (run serves (asked.on r trees.create_call done) w) (called (machines.on r calls.Create) m)
   create_line (Err e) named = stays config m w st (Err e)
   create_line (Ok p) named =
       by_change (calls.Create p) nothing_in done (called (Ok (calls.Create p)) m)
-      (tree_line config m w st (calls.Create p) (says_of nothing_in done) (if is_any_hidden (calls.Create p) then Err refusals.HiddenName else plain_answers.answered says.Nothing (create_rows m.plain.tree p)) (named p refl) refl done_short
-      (said_done (is_any_hidden (calls.Create p)) (create_rows m.plain.tree p) (sure_create m.plain.tree p)))
+      (tree_line config m w st (calls.Create p) (says_of nothing_in done) (if is_any_deep (calls.Create p) then Err refusals.BadPath else if is_any_hidden (calls.Create p) then Err refusals.HiddenName else plain_answers.answered says.Nothing (create_rows m.plain.tree p)) (named p refl) refl done_short
+      (said_done (is_any_deep (calls.Create p)) (is_any_hidden (calls.Create p)) (create_rows m.plain.tree p) (sure_create m.plain.tree p)))
 
   pub ls_line : (r : Result Path Refusal) → LineGoes config (run serves (asked.on r trees.list_call answers.Names) w) (called (machines.on r calls.List) m)
   ls_line (Err e) = stays config m w st (Err e)
   ls_line (Ok p) =
       by_look (calls.List p) names_in answers.Names (called (Ok (calls.List p)) m)
-      (tree_line config m w st (calls.List p) (says_looked names_in answers.Names) (listed m.plain.tree p (at m.plain.tree p)) tt refl (record { full = refl; exhausted = refl }) (said_names m.plain.tree p (at m.plain.tree p)))
+      (tree_line config m w st (calls.List p) (says_looked names_in answers.Names) (if is_any_deep (calls.List p) then Err refusals.BadPath else listed m.plain.tree p (at m.plain.tree p)) tt refl (record { full = refl; exhausted = refl }) (said_names (is_any_deep (calls.List p)) m.plain.tree p (at m.plain.tree p)))
 
   pub rm_line : (r : Result Path Refusal) (recursive : Bool) → ((p : Path) → r ≡ Ok p → IsNamedCall (calls.Delete p recursive)) → LineGoes config (run serves (asked.on r (λ path. trees.delete_call path recursive) hidden) w) (called (machines.on r (λ path. calls.Delete path recursive)) m)
   rm_line (Err e) recursive named = stays config m w st (Err e)
   rm_line (Ok p) recursive named =
       by_change (calls.Delete p recursive) deleted_in hidden (called (Ok (calls.Delete p recursive)) m)
-      (tree_line config m w st (calls.Delete p recursive) (says_of deleted_in hidden) (if is_any_hidden (calls.Delete p recursive) then Err refusals.HiddenName else deletes m.plain.tree p recursive m.moment m.next_hidden) (named p refl) refl (record { full = refl; exhausted = refl })
-      (said_deleted (is_any_hidden (calls.Delete p recursive)) (same_path p []) (is_none (at m.plain.tree p)) (not recursive && has_visible m.plain.tree p) (hidden_path p m.moment m.next_hidden) (hide_rows m.plain.tree p m.moment m.next_hidden) (sure_hide m.plain.tree p m.moment m.next_hidden)))
+      (tree_line config m w st (calls.Delete p recursive) (says_of deleted_in hidden) (if is_any_deep (calls.Delete p recursive) then Err refusals.BadPath else if is_any_hidden (calls.Delete p recursive) then Err refusals.HiddenName else deletes m.plain.tree p recursive m.moment m.next_hidden) (named p refl) refl (record { full = refl; exhausted = refl })
+      (said_deleted (is_any_deep (calls.Delete p recursive)) (is_any_hidden (calls.Delete p recursive)) (same_path p []) (is_none (at m.plain.tree p)) (not recursive && has_visible m.plain.tree p) (hidden_path p m.moment m.next_hidden) (hide_rows m.plain.tree p m.moment m.next_hidden) (sure_hide m.plain.tree p m.moment m.next_hidden)))
 
   pub undelete_line : (r : Result Path Refusal) → ((p : Path) → r ≡ Ok p → IsNamedCall (calls.Undelete p)) → LineGoes config (run serves (asked.on r trees.undelete_call answers.Path) w) (called (machines.on r calls.Undelete) m)
   undelete_line (Err e) named = stays config m w st (Err e)
   undelete_line (Ok p) named =
       by_change (calls.Undelete p) path_in answers.Path (called (Ok (calls.Undelete p)) m)
-      (tree_line config m w st (calls.Undelete p) (says_of path_in answers.Path) (plain_answers.answered (says.Path (unhide_target p (old_name p))) (unhide_rows m.plain.tree p)) (named p refl) refl (record { full = refl; exhausted = refl })
-      (said_path (unhide_target p (old_name p)) (unhide_rows m.plain.tree p) (sure_unhide m.plain.tree p)))
+      (tree_line config m w st (calls.Undelete p) (says_of path_in answers.Path) (if is_any_deep (calls.Undelete p) then Err refusals.BadPath else plain_answers.answered (says.Path (unhide_target p (old_name p))) (unhide_rows m.plain.tree p)) (named p refl) refl (record { full = refl; exhausted = refl })
+      (said_path (is_any_deep (calls.Undelete p)) (unhide_target p (old_name p)) (unhide_rows m.plain.tree p) (sure_unhide m.plain.tree p)))
 
   pub mv_line : (r q : Result Path Refusal) → ((from to : Path) → r ≡ Ok from → q ≡ Ok to → IsNamedCall (calls.Rename from to)) → LineGoes config (run serves (asked.on_two r q trees.rename_call) w) (called (machines.on_two r q calls.Rename) m)
   mv_line (Err e) q named = stays config m w st (Err e)
   mv_line (Ok from) (Err e) named = stays config m w st (Err e)
   mv_line (Ok from) (Ok to) named =
       by_change (calls.Rename from to) nothing_in done (called (Ok (calls.Rename from to)) m)
-      (tree_line config m w st (calls.Rename from to) (says_of nothing_in done) (if is_any_hidden (calls.Rename from to) then Err refusals.HiddenName else plain_answers.answered says.Nothing (rename_rows m.plain.tree from to)) (named from to refl refl) refl done_short
-      (said_done (is_any_hidden (calls.Rename from to)) (rename_rows m.plain.tree from to) (sure_rename m.plain.tree from to)))
+      (tree_line config m w st (calls.Rename from to) (says_of nothing_in done) (if is_any_deep (calls.Rename from to) then Err refusals.BadPath else if is_any_hidden (calls.Rename from to) then Err refusals.HiddenName else plain_answers.answered says.Nothing (rename_rows m.plain.tree from to)) (named from to refl refl) refl done_short
+      (said_done (is_any_deep (calls.Rename from to)) (is_any_hidden (calls.Rename from to)) (rename_rows m.plain.tree from to) (sure_rename m.plain.tree from to)))
 
   pub snapshot_line : (r q : Result Path Refusal) → ((from to : Path) → r ≡ Ok from → q ≡ Ok to → IsNamedCall (calls.Snapshot from to)) → LineGoes config (run serves (asked.on_two r q trees.snapshot_call) w) (called (machines.on_two r q calls.Snapshot) m)
   snapshot_line (Err e) q named = stays config m w st (Err e)
   snapshot_line (Ok from) (Err e) named = stays config m w st (Err e)
   snapshot_line (Ok from) (Ok to) named =
       by_change (calls.Snapshot from to) nothing_in done (called (Ok (calls.Snapshot from to)) m)
-      (tree_line config m w st (calls.Snapshot from to) (says_of nothing_in done) (if is_any_hidden (calls.Snapshot from to) then Err refusals.HiddenName else plain_answers.answered says.Nothing (snapshot_rows m.plain.tree from to)) (named from to refl refl) refl done_short
-      (said_done (is_any_hidden (calls.Snapshot from to)) (snapshot_rows m.plain.tree from to) (sure_snapshot m.plain.tree from to)))
+      (tree_line config m w st (calls.Snapshot from to) (says_of nothing_in done) (if is_any_deep (calls.Snapshot from to) then Err refusals.BadPath else if is_any_hidden (calls.Snapshot from to) then Err refusals.HiddenName else plain_answers.answered says.Nothing (snapshot_rows m.plain.tree from to)) (named from to refl refl) refl done_short
+      (said_done (is_any_deep (calls.Snapshot from to)) (is_any_hidden (calls.Snapshot from to)) (snapshot_rows m.plain.tree from to) (sure_snapshot m.plain.tree from to)))

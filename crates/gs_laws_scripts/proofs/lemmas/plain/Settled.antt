@@ -6,8 +6,8 @@ use Rattle.gs_base.specs.declared.refusal.Refusal.TheVariants as refusals
 use Rattle.gs_client.specs.Replies.{unsure_or}
 use Rattle.gs_edit.specs.Plain.{create_rows, hide_rows, mkdirs_rows, rename_rows, snapshot_rows, unhide_rows, unhide_target}
 use Rattle.gs_edit.specs.Table.{fronts, moved_path, paths_of, tabled}
-use Rattle.gs_laws_plain.specs.commands.Answers.{answered, deletes, has_visible, listed, plain_answer}
-use Rattle.gs_master_spec.specs.Calls.{is_any_hidden}
+use Rattle.gs_laws_plain.specs.commands.Answers.{answered, by_paths, deletes, has_visible, listed, plain_answer}
+use Rattle.gs_master_spec.specs.Calls.{is_any_deep, is_any_hidden}
 use Rattle.gs_msg.specs.declared.answer.Answer.{Answer}
 use Rattle.gs_msg.specs.declared.answer.Answer.TheVariants as answers
 use Rattle.gs_msg.specs.declared.call.Call.{Call}
@@ -114,12 +114,13 @@ module _ (rows : Rows (List ℕ)) where
   sure_listed p (Some Dir) = tt
   sure_listed p (Some (File texts)) = tt
 
-  hidden_or : (hidden : Bool) (r : Result Answer Refusal) → IsSure r → IsSure (if hidden then Err refusals.HiddenName else r)
-  hidden_or true r x = refl
-  hidden_or false r x = x
+  by_paths_or : (deep hidden : Bool) (r : Result Answer Refusal) → IsSure r → IsSure (if deep then Err refusals.BadPath else if hidden then Err refusals.HiddenName else r)
+  by_paths_or true hidden r x = refl
+  by_paths_or false true r x = refl
+  by_paths_or false false r x = x
 
-  sure_is : (call : Call) (r plain : Result Answer Refusal) → IsSure r → Some (if is_any_hidden call then Err refusals.HiddenName else r) ≡ Some plain → IsSure plain
-  sure_is call r plain x h = subst IsSure (same h) (hidden_or (is_any_hidden call) r x)
+  sure_is : (call : Call) (r plain : Result Answer Refusal) → IsSure r → Some (by_paths call r) ≡ Some plain → IsSure plain
+  sure_is call r plain x h = subst IsSure (same h) (by_paths_or (is_any_deep call) (is_any_hidden call) r x)
     where
       same : {a b : Result Answer Refusal} → ◌≡◌ {A = Option (Result Answer Refusal)} (Some a) (Some b) → a ≡ b
       same h = cc
