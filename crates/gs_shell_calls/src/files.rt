@@ -21,10 +21,7 @@ impl Caller {
     ) -> Result<Answer, Refusal>
         ensures { FollowsDialogue (Sends L.Carries) (on (parse path.now) (with_file (write_to self.old.client.chunk offset bytes.now)) done) (self.old.client, link.old) result (self.new.client, link.new) }
     {
-        let path = match Path::parse(self.alloc, path) {
-            Ok(path) => path,
-            Err(refusal) => return Err(refusal),
-        };
+        let path = Path::parse(self.alloc, path)?;
         answer::done(self.write_file(link, path, offset, bytes))
     }
 
@@ -37,10 +34,7 @@ impl Caller {
     ) -> Result<(), Refusal>
         ensures { FollowsDialogue (Sends L.Carries) (with_file (write_to self.old.client.chunk offset bytes.now) path) (self.old.client, link.old) result (self.new.client, link.new) }
     {
-        let mut file = match self.client.open_write(link, path) {
-            Ok(file) => file,
-            Err(refusal) => return Err(refusal),
-        };
+        let mut file = self.client.open_write(link, path)?;
         let written = file.write(&mut self.client, link, offset, bytes);
         let _edits = file.close();
         written
@@ -54,10 +48,7 @@ impl Caller {
     ) -> Result<Answer, Refusal>
         ensures { FollowsDialogue (Sends L.Carries) (on (parse path.now) (with_file (append_to self.old.client.chunk bytes.now)) answers.Number) (self.old.client, link.old) result (self.new.client, link.new) }
     {
-        let path = match Path::parse(self.alloc, path) {
-            Ok(path) => path,
-            Err(refusal) => return Err(refusal),
-        };
+        let path = Path::parse(self.alloc, path)?;
         answer::number(self.append_to_file(link, path, bytes))
     }
 
@@ -69,10 +60,7 @@ impl Caller {
     ) -> Result<u64, Refusal>
         ensures { FollowsDialogue (Sends L.Carries) (with_file (append_to self.old.client.chunk bytes.now) path) (self.old.client, link.old) result (self.new.client, link.new) }
     {
-        let mut file = match self.client.open_write(link, path) {
-            Ok(file) => file,
-            Err(refusal) => return Err(refusal),
-        };
+        let mut file = self.client.open_write(link, path)?;
         let appended = file.append(&mut self.client, link, bytes);
         let _edits = file.close();
         appended
@@ -87,14 +75,8 @@ impl Caller {
     ) -> Result<Answer, Refusal>
         ensures { FollowsDialogue (Sends L.Carries) (on (parse_hidden path.now) (with_file (read_of self.old.client.chunk offset length)) given_bytes) (self.old.client, link.old) result (self.new.client, link.new) }
     {
-        let path = match Path::parse_hidden(self.alloc, path) {
-            Ok(path) => path,
-            Err(refusal) => return Err(refusal),
-        };
-        let mut file = match self.client.open_read(link, path) {
-            Ok(file) => file,
-            Err(refusal) => return Err(refusal),
-        };
+        let path = Path::parse_hidden(self.alloc, path)?;
+        let mut file = self.client.open_read(link, path)?;
         answer::bytes(file.read(&mut self.client, link, offset, length))
     }
 
@@ -107,14 +89,8 @@ impl Caller {
     ) -> Result<Answer, Refusal>
         ensures { FollowsDialogue (Sends L.Carries) (on (parse_hidden path.now) (with_file (digest_of chunk block)) given_digest) (self.old.client, link.old) result (self.new.client, link.new) }
     {
-        let path = match Path::parse_hidden(self.alloc, path) {
-            Ok(path) => path,
-            Err(refusal) => return Err(refusal),
-        };
-        let mut file = match self.client.open_read(link, path) {
-            Ok(file) => file,
-            Err(refusal) => return Err(refusal),
-        };
+        let path = Path::parse_hidden(self.alloc, path)?;
+        let mut file = self.client.open_read(link, path)?;
         answer::digest(file.digest(&mut self.client, link, chunk, block))
     }
 }

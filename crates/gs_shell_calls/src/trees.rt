@@ -17,40 +17,28 @@ impl Caller {
     pub(crate) fn mkdir<L: Link>(&mut self, link: &mut L, path: &str) -> Result<Answer, Refusal>
         ensures { FollowsDialogue (Sends L.Carries) (on (parse path.now) trees.mkdirs_call done) (self.old.client, link.old) result (self.new.client, link.new) }
     {
-        let path = match Path::parse(self.alloc, path) {
-            Ok(path) => path,
-            Err(refusal) => return Err(refusal),
-        };
+        let path = Path::parse(self.alloc, path)?;
         answer::done(self.client.mkdirs(link, path))
     }
 
     pub(crate) fn create<L: Link>(&mut self, link: &mut L, path: &str) -> Result<Answer, Refusal>
         ensures { FollowsDialogue (Sends L.Carries) (on (parse path.now) trees.create_call done) (self.old.client, link.old) result (self.new.client, link.new) }
     {
-        let path = match Path::parse(self.alloc, path) {
-            Ok(path) => path,
-            Err(refusal) => return Err(refusal),
-        };
+        let path = Path::parse(self.alloc, path)?;
         answer::done(self.client.create(link, path))
     }
 
     pub(crate) fn list<L: Link>(&mut self, link: &mut L, path: &str) -> Result<Answer, Refusal>
         ensures { FollowsDialogue (Sends L.Carries) (on (parse_hidden path.now) trees.list_call answers.Names) (self.old.client, link.old) result (self.new.client, link.new) }
     {
-        let path = match Path::parse_hidden(self.alloc, path) {
-            Ok(path) => path,
-            Err(refusal) => return Err(refusal),
-        };
+        let path = Path::parse_hidden(self.alloc, path)?;
         answer::names(self.client.list(link, path))
     }
 
     pub(crate) fn stat<L: Link>(&mut self, link: &mut L, path: &str) -> Result<Answer, Refusal>
         ensures { FollowsDialogue (Sends L.Carries) (on (parse_hidden path.now) (stat_call self.old.client.chunk) answers.Stat) (self.old.client, link.old) result (self.new.client, link.new) }
     {
-        let path = match Path::parse_hidden(self.alloc, path) {
-            Ok(path) => path,
-            Err(refusal) => return Err(refusal),
-        };
+        let path = Path::parse_hidden(self.alloc, path)?;
         answer::stat(self.client.stat(link, &path))
     }
 
@@ -62,14 +50,8 @@ impl Caller {
     ) -> Result<Answer, Refusal>
         ensures { FollowsDialogue (Sends L.Carries) (on_two (parse from.now) (parse to.now) trees.rename_call) (self.old.client, link.old) result (self.new.client, link.new) }
     {
-        let from = match Path::parse(self.alloc, from) {
-            Ok(from) => from,
-            Err(refusal) => return Err(refusal),
-        };
-        let to = match Path::parse(self.alloc, to) {
-            Ok(to) => to,
-            Err(refusal) => return Err(refusal),
-        };
+        let from = Path::parse(self.alloc, from)?;
+        let to = Path::parse(self.alloc, to)?;
         answer::done(self.client.rename(link, from, to))
     }
 
@@ -81,14 +63,8 @@ impl Caller {
     ) -> Result<Answer, Refusal>
         ensures { FollowsDialogue (Sends L.Carries) (on_two (parse from.now) (parse to.now) trees.snapshot_call) (self.old.client, link.old) result (self.new.client, link.new) }
     {
-        let from = match Path::parse(self.alloc, from) {
-            Ok(from) => from,
-            Err(refusal) => return Err(refusal),
-        };
-        let to = match Path::parse(self.alloc, to) {
-            Ok(to) => to,
-            Err(refusal) => return Err(refusal),
-        };
+        let from = Path::parse(self.alloc, from)?;
+        let to = Path::parse(self.alloc, to)?;
         answer::done(self.client.snapshot(link, from, to))
     }
 
@@ -100,20 +76,14 @@ impl Caller {
     ) -> Result<Answer, Refusal>
         ensures { FollowsDialogue (Sends L.Carries) (on (parse path.now) (λ path. trees.delete_call path recursive) hidden) (self.old.client, link.old) result (self.new.client, link.new) }
     {
-        let path = match Path::parse(self.alloc, path) {
-            Ok(path) => path,
-            Err(refusal) => return Err(refusal),
-        };
+        let path = Path::parse(self.alloc, path)?;
         answer::hidden(self.client.delete(link, path, recursive))
     }
 
     pub(crate) fn undelete<L: Link>(&mut self, link: &mut L, path: &str) -> Result<Answer, Refusal>
         ensures { FollowsDialogue (Sends L.Carries) (on (parse_hidden path.now) trees.undelete_call answers.Path) (self.old.client, link.old) result (self.new.client, link.new) }
     {
-        let path = match Path::parse_hidden(self.alloc, path) {
-            Ok(path) => path,
-            Err(refusal) => return Err(refusal),
-        };
+        let path = Path::parse_hidden(self.alloc, path)?;
         answer::path(self.client.undelete(link, path))
     }
 }

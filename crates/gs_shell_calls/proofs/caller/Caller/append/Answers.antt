@@ -8,4 +8,4 @@ use Rattle.gs_shell_calls.proofs.caller.Caller.append.Goals as goal
 
 pub returns : goal.returns
 returns g c =
-    rw c.number.ensures (on_answered (Sends g.L.Link.Carries) (parse c.args.path.now) (with_file (append_to c.args.self.now.client.chunk c.args.bytes.now)) answers.Number _ _ c.in-Ok.path _ c.in-Ok.ensures.answer c.append_to_file.ensures)
+    rw c.number.ensures (on_answered (Sends g.L.Link.Carries) (parse c.args.path.now) (with_file (append_to c.args.self.now.client.chunk c.args.bytes.now)) answers.Number _ _ c.in_ok-path.path _ c.in_ok-path.ensures.answer c.append_to_file.ensures)

@@ -7,4 +7,4 @@ use Rattle.gs_shell_calls.proofs.caller.Caller.create.Goals as goal
 
 pub returns : goal.returns
 returns g c =
-    rw c.done.ensures (on_answered (Sends g.L.Link.Carries) (parse c.args.path.now) trees.create_call done _ _ c.in-Ok.path _ c.in-Ok.ensures.answer c.create.ensures)
+    rw c.done.ensures (on_answered (Sends g.L.Link.Carries) (parse c.args.path.now) trees.create_call done _ _ c.in_ok-path.path _ c.in_ok-path.ensures.answer c.create.ensures)

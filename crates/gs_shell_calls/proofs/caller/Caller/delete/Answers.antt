@@ -7,4 +7,4 @@ use Rattle.gs_shell_calls.proofs.caller.Caller.delete.Goals as goal
 
 pub returns : goal.returns
 returns g c =
-    rw c.hidden.ensures (on_answered (Sends g.L.Link.Carries) (parse c.args.path.now) (λ path. trees.delete_call path c.args.recursive) hidden _ _ c.in-Ok.path _ c.in-Ok.ensures.answer c.delete.ensures)
+    rw c.hidden.ensures (on_answered (Sends g.L.Link.Carries) (parse c.args.path.now) (λ path. trees.delete_call path c.args.recursive) hidden _ _ c.in_ok-path.path _ c.in_ok-path.ensures.answer c.delete.ensures)

@@ -7,4 +7,4 @@ use Rattle.gs_shell_calls.proofs.caller.Caller.list.Goals as goal
 
 pub returns : goal.returns
 returns g c =
-    rw c.names.ensures (on_answered (Sends g.L.Link.Carries) (parse_hidden c.args.path.now) trees.list_call answers.Names _ _ c.in-Ok.path _ c.in-Ok.ensures.answer c.list.ensures)
+    rw c.names.ensures (on_answered (Sends g.L.Link.Carries) (parse_hidden c.args.path.now) trees.list_call answers.Names _ _ c.in_ok-path.path _ c.in_ok-path.ensures.answer c.list.ensures)

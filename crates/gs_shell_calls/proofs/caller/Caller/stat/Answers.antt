@@ -7,4 +7,4 @@ use Rattle.gs_shell_calls.proofs.caller.Caller.stat.Goals as goal
 
 pub returns : goal.returns
 returns g c =
-    rw c.stat-2.ensures (on_answered (Sends g.L.Link.Carries) (parse_hidden c.args.path.now) (stat_call c.args.self.now.client.chunk) answers.Stat _ _ c.in-Ok.path _ c.in-Ok.ensures.answer c.stat.ensures)
+    rw c.stat-2.ensures (on_answered (Sends g.L.Link.Carries) (parse_hidden c.args.path.now) (stat_call c.args.self.now.client.chunk) answers.Stat _ _ c.in_ok-path.path _ c.in_ok-path.ensures.answer c.stat.ensures)
