@@ -1,28 +1,22 @@
 //! What holds of all calls of a client.
-ghost use Rattle.std.specs.Prelude.{ℕ, IfSome, Result};
-ghost use Rattle.gs_base.specs.declared.refusal.Refusal.{Refusal};
-ghost use Rattle.gs_msg.specs.declared.event.Request.{Request};
-ghost use Rattle.gs_client_dialogue.specs.Dialogues.{FollowsDialogue};
+ghost use Rattle.std.specs.Prelude.{ℕ, IfSome};
 ghost use Rattle.gs_client_dialogue.specs.Heard.{Says};
 ghost use Rattle.gs_client.specs.Edits.{Edits};
-ghost use Rattle.gs_client.specs.Sends.{Sends, next_request};
-ghost use Rattle.gs_client.specs.Trees.{Call as AnyCall};
-ghost use Rattle.gs_client.specs.declared.client.Client.{Client};
-ghost use Rattle.gs_client.specs.declared.link.Reply.{Reply};
+ghost use Rattle.gs_client.specs.Sends.{Sends};
 ghost use Rattle.gs_shell_grammar.specs.Grammar.{Request as Line};
 ghost use Rattle.gs_shell_calls.specs.Asked.{asked_by};
 ghost use Rattle.gs_shell_calls.specs.declared.answer.Answer.{Answer};
 ghost use Rattle.gs_laws_causes.specs.Calls.{OfEachCall};
-ghost use Rattle.gs_laws_causes.specs.Carried.{Carried, Explains, Went};
-ghost use Rattle.gs_laws_causes.specs.Causes.{Exchanges, Why};
+ghost use Rattle.gs_laws_causes.specs.Carried.{Carried, Explains};
+ghost use Rattle.gs_laws_causes.specs.Laws.{CallsAreWays, WaysAreCalls, CausesCameOverTheLink};
 
 use gs_client::Link;
 
 /// What a call comes to is told by its requests with their replies: they are a way through its dialogue, each carried by the link, one after the other; and
 /// each such way is a call.
 pub fn a_call_is_a_way_through_its_dialogue<L: Link, A>()
-    ensures goes { (call : AnyCall A) (old : Client × L) (result : Result A Refusal) (new : Client × L) → FollowsDialogue (Sends L.Carries) call old result new → Went (Sends L.Carries) call old result new }
-    ensures comes { (call : AnyCall A) (old : Client × L) (result : Result A Refusal) (new : Client × L) → Went (Sends L.Carries) call old result new → FollowsDialogue (Sends L.Carries) call old result new }
+    ensures goes { CallsAreWays L.Carries A }
+    ensures comes { WaysAreCalls L.Carries A }
 {}
 
 /// Over any link, each 28 and 29 of a call is from one of the replies that came in that very call, and its place among them is told. Nothing is assumed of
@@ -35,7 +29,7 @@ pub fn a_call_is_a_way_through_its_dialogue<L: Link, A>()
 pub fn an_unsure_answer_has_a_cause<L: Link>()
     ensures calls { OfEachCall (Explains (Sends L.Carries)) }
     ensures edits { OfEachCall (Explains (Edits L.Carries)) }
-    ensures link { (refusal : Refusal) (old : Client × L) (asked : Request) (reply : Reply) (behind : Exchanges) (new : Client × L) → Why refusal asked reply behind → Sends L.Carries old asked reply new → L.Carries old.1 (next_request old.0) asked reply new.1 }
+    ensures link { CausesCameOverTheLink L.Carries }
 {}
 
 /// The same of what a line asks, which may be several calls.

@@ -6,7 +6,7 @@ ghost use Rattle.gs_base.specs.declared.numbers.ReqId.{ReqId};
 ghost use Rattle.gs_base.specs.declared.numbers.Stamp.{Stamp};
 ghost use Rattle.gs_replica.specs.Stands.{Edit};
 ghost use Rattle.gs_laws_chunk.specs.machine.Machine.{ChunkWorld};
-ghost use Rattle.gs_laws_chunk.specs.machine.Events.{Event, Prepares, CommitsRollback, Can, happens, Leads};
+ghost use Rattle.gs_laws_chunk.specs.machine.Events.{Event, CommitsRollback, Can, Leads};
 ghost use Rattle.gs_laws_chunk.specs.machine.Acting.{OthersStay};
 ghost use Rattle.gs_laws_chunk.specs.machine.Lists.{ListsAreOfViews, ListsAreOld, MastersListsAreOld};
 ghost use Rattle.gs_laws_chunk.specs.machine.Mastering.{MastersCommit, MastersForget, MastersKeepPrepared, MastersPeople, MastersPrepare, MastersSettleOnce, MastersStayCalm, MembersStood};
@@ -14,7 +14,7 @@ ghost use Rattle.gs_laws_chunk.specs.machine.Numbering.{BornNumbered, MastersNum
 ghost use Rattle.gs_laws_chunk.specs.machine.Owning.{BeginningsOwn, BornOwn, MastersOwn, ServersOwn};
 ghost use Rattle.gs_laws_chunk.specs.machine.Rolling.{LearnersAreIntact, RolledAreHeld, RolledAreFirst, SurvivorsAreBack};
 ghost use Rattle.gs_laws_chunk.specs.machine.Resting.{LeasesRest, EpochsAreTold, BornFirst, MembersHaveLearned, PeopledStood, PreparedViewsRest, PromisesRest, NoneIsAhead};
-ghost use Rattle.gs_laws_chunk.specs.machine.Laws.{Birth, world_of, IsReached, EachStands, QuietIsStill, QuietStays, SurvivorsKeep, SurvivorsName, SurvivorsWereCurrent, CurrentStillKeep, GivesBack, GivesBackExactly, QuietIsSettled, SettlesOn, AcknowledgedStays, SettledStays, KnownInherits, ReadsAreLegal, Agrees, ReachedWithin, StaysKnown};
+ghost use Rattle.gs_laws_chunk.specs.machine.Laws.{Birth, world_of, IsReached, EachStands, QuietIsStill, QuietStays, SurvivorsKeep, SurvivorsName, SurvivorsWereCurrent, CurrentStillKeep, GivesBack, QuietIsSettled, SettlesOn, AcknowledgedStays, SettledStays, KnownInherits, ReadsAreLegal, Agrees, ReachedWithin, StaysKnown, RollbacksGiveBackExactly};
 ghost use Rattle.gs_laws_chunk.specs.machine.Worked as written;
 ghost use Rattle.gs_laws_chunk.specs.machine.Carried as carried;
 
@@ -43,7 +43,7 @@ pub fn a_survivor_keeps_what_was_prepared()
 /// prepare was accepted, whatever happened between.
 pub fn a_rollback_gives_back_what_stood()
     ensures back { (w : ChunkWorld) (members : List ℕ) → IsReached w → Can w (CommitsRollback members true) → GivesBack w members }
-    ensures exact { (w : ChunkWorld) (whole : ℕ → Bool) (last : ChunkWorld) (members : List ℕ) → IsReached w → Can w (Prepares whole) → Leads (happens w (Prepares whole)) last → GivesBackExactly w whole last members }
+    ensures exact { RollbacksGiveBackExactly }
 {}
 
 /// An edit that a client was told is done is settled, once, and it stays, with the same edits before it and in each member's replica,

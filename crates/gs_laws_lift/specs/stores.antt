@@ -20,3 +20,4 @@ pub mod Passing
 pub mod Left
 pub mod LeftRunning
 pub mod LeftTelling
+pub mod Laws

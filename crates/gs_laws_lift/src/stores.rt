@@ -1,46 +1,36 @@
 //! The chunks of a store: what happens to the store is, for each chunk, a run of the machine of that chunk.
 
-ghost use Rattle.std.specs.Prelude.{◌≡◌, ◌<◌, ℕ, Bool, List, [], Option, Some, true};
+ghost use Rattle.std.specs.Prelude.{◌≡◌, ℕ, Bool, List, Some};
 ghost use Rattle.gs_msg.specs.declared.event.DiskId.{DiskId};
 ghost use Rattle.gs_nodes.specs.declared.place.MasterPlace.{MasterPlace};
-ghost use Rattle.gs_journal.specs.Records.{fresh, standing};
 ghost use Rattle.gs_msg.specs.declared.event.Request.{Request};
-ghost use Rattle.gs_world.specs.Histories.{Begins, History, arms, seen_of};
-ghost use Rattle.gs_laws_world.specs.lasting.Lasting.{StepNamed};
-ghost use Rattle.gs_world.specs.Runs.{Goes, Step};
+ghost use Rattle.gs_world.specs.Histories.{History, arms, seen_of};
 ghost use Rattle.gs_base.specs.declared.config.Config.{Config};
 ghost use Rattle.gs_base.specs.declared.numbers.ReqId.{ReqId};
-ghost use Rattle.gs_base.specs.declared.numbers.Stamp.{Stamp};
-ghost use Rattle.gs_replica.specs.Stands.{Edit};
-ghost use Rattle.gs_lease.specs.declared.view.View.{View};
-ghost use Rattle.gs_laws_chunk.specs.machine.Machine.{ChunkWorld};
-ghost use Rattle.gs_laws_chunk.specs.machine.Events.{Leads};
-ghost use Rattle.gs_laws_chunk.specs.machine.Laws.{Birth, settled, world_of};
-ghost use Rattle.gs_laws_parts.specs.master.Showing.{ShowsView};
-ghost use Rattle.gs_laws_lift.specs.stores.Accounts.{BeginsList, CountsShow, Lists, ListsShow, settled_in};
+ghost use Rattle.gs_laws_chunk.specs.machine.Laws.{settled};
 ghost use Rattle.gs_laws_parts.specs.server.Requests.{Asked, IsOfOneEdit, bytes_in, named};
 ghost use Rattle.gs_laws_lift.specs.stores.Saying.{PushRight};
-ghost use Rattle.gs_laws_lift.specs.stores.Going.{AllSent, Kind};
+ghost use Rattle.gs_laws_lift.specs.stores.Going.{AllSent};
 ghost use Rattle.gs_laws_lift.specs.stores.Asking.{AreAskedIn, AreAskedOver, AskOn, StayAsked};
-ghost use Rattle.gs_laws_lift.specs.stores.Answers.{AnswersBegin, AnswersGoOn};
 ghost use Rattle.gs_laws_lift.specs.stores.Waiting.{WaitsGoOn};
 ghost use Rattle.gs_laws_lift.specs.stores.Passing.{PassedHasNone};
-ghost use Rattle.gs_laws_lift.specs.stores.Telling.{StoresTellFirst, StoresTellOn, StoresTellRun, TellsFirst};
+ghost use Rattle.gs_laws_lift.specs.stores.Telling.{TellsFirst};
 ghost use Rattle.gs_laws_lift.specs.stores.Numbered.{ListsAreElsewhere, NewbornsAreNumbered, NoneIsEarlier, NumberedIsFirst, NumberingGoesOn};
 ghost use Rattle.gs_laws_lift.specs.stores.Owning.{AskingGoesOn, NewbornsAsked, NewbornsOwn, OwningGoesOn};
 ghost use Rattle.gs_laws_lift.specs.stores.Doing.{MastersDo};
-ghost use Rattle.gs_laws_lift.specs.stores.Running.{EachLives, LastsArmed, StoresBegin, StoresGoOn, StoresRun, UnknownArmed};
+ghost use Rattle.gs_laws_lift.specs.stores.Running.{LastsArmed, UnknownArmed};
 ghost use Rattle.gs_laws_lift.specs.stores.Marking.{WholeMembersAreMarked};
 ghost use Rattle.gs_laws_lift.specs.stores.Left.{MastersDoAll};
-ghost use Rattle.gs_laws_lift.specs.stores.LeftRunning.{ArmsLeft, EachLivesAll, StoresGoAll, StoresRunAll};
-ghost use Rattle.gs_laws_lift.specs.stores.LeftTelling.{AreAskedOverAll, AskOnAll, StoresTellFirstAll, StoresTellOnAll, StoresTellRunAll};
+ghost use Rattle.gs_laws_lift.specs.stores.LeftRunning.{ArmsLeft};
+ghost use Rattle.gs_laws_lift.specs.stores.LeftTelling.{AreAskedOverAll, AskOnAll};
 ghost use Rattle.gs_laws_lift.specs.stores.Living.{ShowsArmed};
+ghost use Rattle.gs_laws_lift.specs.stores.Laws.{StepsAreAtOneNode, ChunksBeginUnborn, ChunksGoOnWithMachines, ChunksLiveOverRuns, ChunksLiveOnward, ReplicasStandForLists, ListsTellWhatIsSettled, NewStoresAreUnasked, FirstAnswersAreDone, FurtherAnswersAreDone, TellingBeginsWithMachines, TellingGoesWithMachines, TellingRunsWithMachines, ChunksGoOnWhateverFails, ChunksLiveWhateverFails, ChunksLiveOnWhateverFails, TellingBeginsWhateverFails, TellingGoesOnWhateverFails, TellingRunsWhateverFails};
 
 use gs_block::promises::configurations_have_sizes;
 
 /// Each step of a store is something at one server, at the master, or elsewhere, where only clients say something.
 pub fn each_step_is_at_one_node<D>()
-    ensures { (seen : D → List ℕ) (failures : D → ℕ) (armed : DiskId → ℕ → MasterPlace D → MasterPlace D) (step : Step) (old new : History D) → Goes seen failures armed step old new → StepNamed step old → Kind seen failures armed step old new }
+    ensures { StepsAreAtOneNode D }
 {}
 
 /// Where no disk fails, what the master does at a step is a chain of moves from where it stands, or from what it is started again on, of which all stands and all
@@ -53,8 +43,8 @@ pub fn what_the_master_does_is_a_chain_of_moves<D>()
 /// machine of a chunk that lives leads on, by what happened at that server or by what the master did, to a world that shows the store then; one that isn't
 /// born stays so, or is born, empty or as a copy of another. So it is from the beginning of a store on, in which no chunk is born.
 pub fn all_chunks_go_on_with_their_machines<D>()
-    ensures begins { (seen : D → List ℕ) (failures : D → ℕ) (armed : DiskId → ℕ → MasterPlace D → MasterPlace D) (config : Config) (bytes : ReqId → List ℕ) (among : List ℕ → Bool) → StoresBegin seen failures armed config bytes among }
-    ensures step { (seen : D → List ℕ) (failures : D → ℕ) (armed : DiskId → ℕ → MasterPlace D → MasterPlace D) (config : Config) (bytes : ReqId → List ℕ) (among : List ℕ → Bool) → StoresGoOn seen failures armed config bytes among }
+    ensures begins { ChunksBeginUnborn D }
+    ensures step { ChunksGoOnWithMachines D }
 {
     configurations_have_sizes();
 }
@@ -70,8 +60,8 @@ pub fn a_failure_to_come_changes_nothing_that_is_shown<D>()
 /// world that the machine reaches from the chunk's birth shows the store as it is then; and from any world of a store on the machine of each chunk that lives
 /// leads to the one that shows the last, from the same birth.
 pub fn all_chunks_live_over_each_run<D>()
-    ensures reached { (seen : D → List ℕ) (failures : D → ℕ) (armed : DiskId → ℕ → MasterPlace D → MasterPlace D) (config : Config) (bytes : ReqId → List ℕ) (among : List ℕ → Bool) → EachLives seen failures armed config bytes among }
-    ensures onward { (seen : D → List ℕ) (failures : D → ℕ) (armed : DiskId → ℕ → MasterPlace D → MasterPlace D) (config : Config) (bytes : ReqId → List ℕ) (among : List ℕ → Bool) → StoresRun seen failures armed config bytes among }
+    ensures reached { ChunksLiveOverRuns D }
+    ensures onward { ChunksLiveOnward D }
 {
     configurations_have_sizes();
 }
@@ -85,15 +75,15 @@ pub fn a_whole_member_is_marked_at_a_prepare()
 /// Where the lists and the counts that are told of a chunk beside the nodes agree with what its machine knows, the edits of each live replica
 /// are the first ones of one of these lists, and what is settled by them is what is settled in the machine.
 pub fn lists_that_agree_tell_what_replicas_stand_for()
-    ensures stands { (list : Lists) (copied : Option (ℕ × Stamp)) (chunk : ℕ) (b : Birth) (w : ChunkWorld) (me : ℕ) (edits : List Edit) → Leads (world_of b) w → ListsShow list copied chunk b w → 0 < (w.members me).promise → (w.members me).live ≡ Some edits → BeginsList list copied chunk edits }
-    ensures settled { (list : Lists) (reached : ℕ → ℕ → Stamp → ℕ) (copied : Option (ℕ × Stamp)) (chunk : ℕ) (b : Birth) (w : ChunkWorld) (view : View) → ListsShow list copied chunk b w → CountsShow reached chunk w → ShowsView view w.entry.view → w.entry.is_known ≡ true → w.known.stood w.entry.view.stamp ≡ true → w.known.born < w.entry.view.stamp → settled_in list reached chunk view ≡ settled w }
+    ensures stands { ReplicasStandForLists }
+    ensures settled { ListsTellWhatIsSettled }
 {}
 
 /// One request of a store has one edit. Each client asks its requests under numbers of its own, whatever it hears; and the servers and the master push no bytes and
 /// ask for no edit, as long as no disk of the master fails. So behind any steps there is what each client has asked, to which more is added by and by: all that
 /// was ever sent for a request is of that one; what is pushed are the bytes of its edit, and an edit that is asked for is its own, under its one stamp.
 pub fn each_request_of_a_store_has_one_edit<D>()
-    ensures begins { (seen : D → List ℕ) (failures : D → ℕ) (armed : DiskId → ℕ → MasterPlace D → MasterPlace D) (config : Config) (clients : ℕ) (disks : D × D) (begun : History D) → standing (seen disks.0) (seen disks.1) ≡ fresh → Begins seen failures armed config clients disks begun → AreAskedIn (λ id. []) begun }
+    ensures begins { NewStoresAreUnasked D }
     ensures goes_on { (seen : D → List ℕ) (failures : D → ℕ) (armed : DiskId → ℕ → MasterPlace D → MasterPlace D) → AskOn seen failures armed }
     ensures runs { (seen : D → List ℕ) (failures : D → ℕ) (armed : DiskId → ℕ → MasterPlace D → MasterPlace D) → AreAskedOver seen failures armed }
     ensures stays { (old new : ℕ → Asked) → StayAsked old new → (req : ReqId) (request : Request) → named old req ≡ Some request → named new req ≡ Some request }
@@ -106,9 +96,9 @@ pub fn each_request_of_a_store_has_one_edit<D>()
 /// server that hears about a chunk tells so, to those whose edits wait there and to those who ask again, and the machine of that chunk has them; of a chunk of which the
 /// server keeps nothing no edit is done.
 pub fn each_edit_that_is_told_done_is_done_in_a_machine<D>()
-    ensures begins { (seen : D → List ℕ) (failures : D → ℕ) (armed : DiskId → ℕ → MasterPlace D → MasterPlace D) (config : Config) (bytes : ReqId → List ℕ) (asked : ℕ → Asked) → AnswersBegin seen failures armed config bytes asked }
+    ensures begins { FirstAnswersAreDone D }
     ensures waits { (seen : D → List ℕ) (failures : D → ℕ) (armed : DiskId → ℕ → MasterPlace D → MasterPlace D) (asked : ℕ → Asked) → WaitsGoOn seen failures armed asked }
-    ensures answers { (seen : D → List ℕ) (failures : D → ℕ) (armed : DiskId → ℕ → MasterPlace D → MasterPlace D) (config : Config) (bytes : ReqId → List ℕ) (asked : ℕ → Asked) → AnswersGoOn seen failures armed config bytes asked }
+    ensures answers { FurtherAnswersAreDone D }
 {}
 
 /// Each edit of a chunk's lists was numbered in the view of the one stamp under which its request asked for it, but those with which the chunk was born: the list of that
@@ -137,9 +127,9 @@ pub fn each_edit_is_the_one_that_was_asked_for<D>()
 /// below those of its own views. So each edit that was asked for of the chunk stands first in the view of its stamp; and each edit of a list is the one that its request asks for,
 /// and a message that asks for it was sent. Where a full chunk has passed on what a request asks for, no list has an edit of that request.
 pub fn what_clients_are_told_goes_along_with_the_machines<D>()
-    ensures begins { (seen : D → List ℕ) (failures : D → ℕ) (armed : DiskId → ℕ → MasterPlace D → MasterPlace D) (config : Config) (bytes : ReqId → List ℕ) (among : List ℕ → Bool) (asked : ℕ → Asked) → StoresTellFirst seen failures armed config bytes among asked }
-    ensures step { (seen : D → List ℕ) (failures : D → ℕ) (armed : DiskId → ℕ → MasterPlace D → MasterPlace D) (config : Config) (bytes : ReqId → List ℕ) (among : List ℕ → Bool) (asked : ℕ → Asked) → StoresTellOn seen failures armed config bytes among asked }
-    ensures runs { (seen : D → List ℕ) (failures : D → ℕ) (armed : DiskId → ℕ → MasterPlace D → MasterPlace D) (config : Config) (bytes : ReqId → List ℕ) (among : List ℕ → Bool) (asked : ℕ → Asked) → StoresTellRun seen failures armed config bytes among asked }
+    ensures begins { TellingBeginsWithMachines D }
+    ensures step { TellingGoesWithMachines D }
+    ensures runs { TellingRunsWithMachines D }
     ensures first { (seen : D → List ℕ) (config : Config) (bytes : ReqId → List ℕ) (among : List ℕ → Bool) (asked : ℕ → Asked) → TellsFirst seen config bytes asked among }
     ensures passed { (seen : D → List ℕ) (config : Config) (bytes : ReqId → List ℕ) (asked : ℕ → Asked) → PassedHasNone seen config bytes asked }
 {
@@ -154,9 +144,9 @@ pub fn what_clients_are_told_goes_along_with_the_machines<D>()
 /// may stand on.
 pub fn all_chunks_live_whatever_disks_fail<D>()
     ensures does { (seen : D → List ℕ) (failures : D → ℕ) (armed : DiskId → ℕ → MasterPlace D → MasterPlace D) → MastersDoAll seen failures armed }
-    ensures step { (seen : D → List ℕ) (failures : D → ℕ) (armed : DiskId → ℕ → MasterPlace D → MasterPlace D) (config : Config) (bytes : ReqId → List ℕ) (among : List ℕ → Bool) → StoresGoAll seen failures armed config bytes among }
-    ensures reached { (seen : D → List ℕ) (failures : D → ℕ) (armed : DiskId → ℕ → MasterPlace D → MasterPlace D) (config : Config) (bytes : ReqId → List ℕ) (among : List ℕ → Bool) → EachLivesAll seen failures armed config bytes among }
-    ensures onward { (seen : D → List ℕ) (failures : D → ℕ) (armed : DiskId → ℕ → MasterPlace D → MasterPlace D) (config : Config) (bytes : ReqId → List ℕ) (among : List ℕ → Bool) → StoresRunAll seen failures armed config bytes among }
+    ensures step { ChunksGoOnWhateverFails D }
+    ensures reached { ChunksLiveWhateverFails D }
+    ensures onward { ChunksLiveOnWhateverFails D }
     ensures arms { (seen : D → List ℕ) → ArmsLeft (seen_of seen) arms }
 {
     configurations_have_sizes();
@@ -168,9 +158,9 @@ pub fn all_chunks_live_whatever_disks_fail<D>()
 pub fn what_clients_are_told_goes_along_whatever_disks_fail<D>()
     ensures asks { (seen : D → List ℕ) (failures : D → ℕ) (armed : DiskId → ℕ → MasterPlace D → MasterPlace D) → AskOnAll seen failures armed }
     ensures over { (seen : D → List ℕ) (failures : D → ℕ) (armed : DiskId → ℕ → MasterPlace D → MasterPlace D) → AreAskedOverAll seen failures armed }
-    ensures begins { (seen : D → List ℕ) (failures : D → ℕ) (armed : DiskId → ℕ → MasterPlace D → MasterPlace D) (config : Config) (bytes : ReqId → List ℕ) (among : List ℕ → Bool) (asked : ℕ → Asked) → StoresTellFirstAll seen failures armed config bytes among asked }
-    ensures step { (seen : D → List ℕ) (failures : D → ℕ) (armed : DiskId → ℕ → MasterPlace D → MasterPlace D) (config : Config) (bytes : ReqId → List ℕ) (among : List ℕ → Bool) (asked : ℕ → Asked) → StoresTellOnAll seen failures armed config bytes among asked }
-    ensures runs { (seen : D → List ℕ) (failures : D → ℕ) (armed : DiskId → ℕ → MasterPlace D → MasterPlace D) (config : Config) (bytes : ReqId → List ℕ) (among : List ℕ → Bool) (asked : ℕ → Asked) → StoresTellRunAll seen failures armed config bytes among asked }
+    ensures begins { TellingBeginsWhateverFails D }
+    ensures step { TellingGoesOnWhateverFails D }
+    ensures runs { TellingRunsWhateverFails D }
 {
     configurations_have_sizes();
 }

@@ -1,2 +1,3 @@
 pub mod Meeting
 pub mod Plain
+pub mod Laws

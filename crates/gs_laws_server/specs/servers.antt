@@ -5,3 +5,4 @@ pub mod Refusing
 pub mod Waiting
 pub mod Sealing
 pub mod Counted
+pub mod Laws

@@ -5,3 +5,4 @@ pub mod Saying
 pub mod Steady
 pub mod Through
 pub mod Unarmed
+pub mod Laws

@@ -5,7 +5,7 @@ use Rattle.gs_base.specs.declared.epoch.EpochEnd.TheVariants.{Prepare, Rollback}
 use Rattle.gs_replica.specs.Stands.{Edit}
 use Rattle.gs_laws_chunk.specs.machine.Stamps.{epoch_of, start_of}
 use Rattle.gs_laws_chunk.specs.machine.Machine.{MemberLease, Message, CopyIn, Forward, Done, Learned, ChunkWorld, WasTold}
-use Rattle.gs_laws_chunk.specs.machine.Events.{Event, Applies, Numbers, Learns, Names, CommitsRollback, is_of, IsFit, Can, happens, born, Leads}
+use Rattle.gs_laws_chunk.specs.machine.Events.{Event, Applies, Numbers, Learns, Names, Prepares, CommitsRollback, is_of, IsFit, Can, happens, born, Leads}
 
 -- each request of a client has a greater number than those before it
 pub record IsNumbered (list : List Edit) : Type 0 where
@@ -147,6 +147,11 @@ QuietIsSettled w = w.entry.view.holder ≡ None → settled w ≡ w.known.list w
 -- What was settled when a prepare was accepted is settled when its rollback has been, whatever happened between.
 abbrev pub GivesBackExactly : ChunkWorld → (ℕ → Bool) → ChunkWorld → List ℕ → Type 0
 GivesBackExactly w whole last members = last.entry.epoch ≡ w.entry.epoch + 2 → Can last (CommitsRollback members true) → settled (happens last (CommitsRollback members true)) ≡ settled w
+
+-- So it is of each run from a prepare on.
+abbrev pub RollbacksGiveBackExactly : Type 0
+RollbacksGiveBackExactly = (w : ChunkWorld) (whole : ℕ → Bool) (last : ChunkWorld) (members : List ℕ) → IsReached w → Can w (Prepares whole)
+    → Leads (happens w (Prepares whole)) last → GivesBackExactly w whole last members
 
 -- ---- what is acknowledged
 -- An edit stands in the list of a view, its request at no other place, and each member of that view has reached more.
