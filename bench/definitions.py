@@ -4,6 +4,8 @@
     bench/definitions.py              # for the program: what the contracts of its top name, and what that rests on
     bench/definitions.py CRATE ..     # the same for the public calls of these crates
     bench/definitions.py --all        # for the public calls of all crates
+    bench/definitions.py --promises   # for the promises of docs/promises.txt
+    bench/definitions.py --of NAME .. # for these of them alone
     bench/definitions.py --files ..   # beside it: each file, with the definitions of it
 
 A definition counts where a public contract, a model or a law names it, or another definition that counts does. Imports,
@@ -14,6 +16,8 @@ import collections
 import pathlib
 import re
 import sys
+
+from promises import listed, places
 
 ROOT = pathlib.Path(__file__).resolve().parent.parent
 TOP = ["gs_shell", "gs_shell_threads", "gs_shell_options", "gs_shell_command", "chunkstore"]
@@ -121,7 +125,22 @@ def named(text, names, near, own):
             yield place
 
 
-def reached(files, crates):
+def contracts_of(crates):
+    """The public contracts of these crates, each with the text of its file."""
+    for path in sorted(ROOT.glob("crates/*/src/**/*.rt")):
+        if path.relative_to(ROOT / "crates").parts[0] in crates:
+            text = path.read_text()
+            yield from ((text, contract) for contract in contracts(text))
+
+
+def promised(names):
+    """The contracts of the promises, or of these of them, each with the text of its file."""
+    for crate, name in listed():
+        if not names or name in names:
+            yield from ((path.read_text(), contract) for path, contract in places(crate, name))
+
+
+def reached(files, public):
     seen, waiting = set(), []
 
     def want(places):
@@ -131,11 +150,8 @@ def reached(files, crates):
                 seen.add((crate, module, own))
                 waiting.append((crate, module, own))
 
-    for path in sorted(ROOT.glob("crates/*/src/**/*.rt")):
-        if path.relative_to(ROOT / "crates").parts[0] in crates:
-            text = path.read_text()
-            for contract in contracts(text):
-                want(named(contract, *imports(text), None))
+    for text, contract in public:
+        want(named(contract, *imports(text), None))
     while waiting:
         crate, module, name = waiting.pop()
         file = files[crate, module]
@@ -145,11 +161,13 @@ def reached(files, crates):
 
 def main():
     words = sys.argv[1:]
-    crates = [w for w in words if not w.startswith("--")] or TOP
+    names = [w for w in words if not w.startswith("--")]
+    crates = names or TOP
     files = read_files()
     if "--all" in words:
         crates = {path.name for path in (ROOT / "crates").iterdir()} - set(BESIDE)
-    seen = reached(files, crates)
+    is_promised = "--promises" in words or "--of" in words
+    seen = reached(files, promised(names) if is_promised else contracts_of(crates))
     lines, names = collections.Counter(), collections.defaultdict(list)
     for crate, module, name in sorted(seen):
         lines[crate, module] += len(files[crate, module].lines[name])
