@@ -55,7 +55,7 @@ def places(crate, name):
 def named_in_readme():
     """The promises that the README names."""
     section = SECTION.search((ROOT / "README.md").read_text()).group(1)
-    for sentence in re.findall(r"((?:`[\w:]+`(?:, | and )?)+) of `gs_\w+`", section):
+    for sentence in re.findall(r"((?:`[\w:]+`(?:, )?)+) \(`gs_\w+`\)", section):
         yield from re.findall(r"`([\w:]+)`", sentence)
 
 

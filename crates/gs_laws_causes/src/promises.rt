@@ -14,7 +14,7 @@ use gs_client::Link;
 
 /// What a call comes to is told by its requests with their replies: they are a way through its dialogue, each carried by the link, one after the other; and
 /// each such way is a call.
-pub fn a_call_is_a_way_through_its_dialogue<L: Link, A>()
+fn a_call_is_a_way_through_its_dialogue<L: Link, A>()
     ensures goes { CallsAreWays L.Carries A }
     ensures comes { WaysAreCalls L.Carries A }
 {}
@@ -26,13 +26,13 @@ pub fn a_call_is_a_way_through_its_dialogue<L: Link, A>()
 /// members answered. A 29 is from a refusal that says so; or, of a request that may change something, from a refusal for memory or for a
 /// disk, or from no answer. Where memory of the client's own is wanting that is the answer (33), and so is that it has no number left (31): both are no
 /// cause, and the reply that is one came over the link.
-pub fn an_unsure_answer_has_a_cause<L: Link>()
+fn an_unsure_answer_has_a_cause<L: Link>()
     ensures calls { OfEachCall (Explains (Sends L.Carries)) }
     ensures edits { OfEachCall (Explains (Edits L.Carries)) }
     ensures link { CausesCameOverTheLink L.Carries }
 {}
 
 /// The same of what a line asks, which may be several calls.
-pub fn an_unsure_line_has_a_cause<L: Link>()
+fn an_unsure_line_has_a_cause<L: Link>()
     ensures { (size : ℕ) (line : Line) → IfSome (asked_by size line) (Explains (Sends L.Carries) Answer) }
 {}

@@ -35,12 +35,12 @@ pub fn runs_have_accounts<D>()
 {}
 
 /// Behind each run in which no disk may fail the master stands firm, or its disks wait and tell one; all that was sent keeps to its types; and in each step none fails.
-pub fn runs_stay_sound<D>()
+fn runs_stay_sound<D>()
     ensures { (x : Setup D) → ReachedStaySound x }
 {}
 
 /// Where the empty block is among some, and each block of a text up to its end, so is whatever is cut out at any place of a block.
-pub fn blocks_that_stand_are_all_blocks()
+fn blocks_that_stand_are_all_blocks()
     ensures { (size : ℕ) (among : List ℕ → Bool) (bytes : List ℕ) → among [] ≡ true → BlocksAmong size among bytes → HasBlocks size among bytes }
 {}
 
@@ -48,7 +48,7 @@ pub fn blocks_that_stand_are_all_blocks()
 /// is not born yet, or a world of its machine, which is reached from its birth, shows the store as it is then: what each server keeps of it, the master's part, and all that was ever said.
 /// Copies among them. Different blocks of the run are to have different digests. From one world of a run to a later one the machine of each chunk leads on, from the same birth. So it is where disks of the master
 /// fail, of the store as it is left: once one has failed, what the disks tell is all that is left of the master.
-pub fn each_chunk_of_a_store_is_a_run_of_its_machine<D>()
+pub(crate) fn each_chunk_of_a_store_is_a_run_of_its_machine<D>()
     ensures reached { (x : Setup D) → EachIsARun x }
     ensures onward { (x : Setup D) → EachLeadsOn x }
     ensures left { (x : Setup D) → EachIsARunThrough x }
@@ -59,13 +59,13 @@ pub fn each_chunk_of_a_store_is_a_run_of_its_machine<D>()
 }
 
 /// What an account has of the records is what is durable at the master, as long as no disk fails.
-pub fn what_the_records_tell_is_what_the_master_has<D>()
+fn what_the_records_tell_is_what_the_master_has<D>()
     ensures { (seen : D → List ℕ) → ToldIsHad seen }
 {}
 
 /// The account of a run agrees with the machine of each chunk: its lists are those of the views that stood, its counts those that were reached, what it has of a prepare is
 /// the prepared list, and what is told to be copied is a list that it has. It goes on so at each step.
-pub fn accounts_agree_with_machines<D>()
+fn accounts_agree_with_machines<D>()
     ensures servers { (seen : D → List ℕ) (config : Config) (bytes : ReqId → List ℕ) → ServersAgree seen config bytes }
     ensures masters { (seen : D → List ℕ) (config : Config) (bytes : ReqId → List ℕ) → MastersAgree seen config bytes }
     ensures still { (config : Config) (bytes : ReqId → List ℕ) → StillAgree D config bytes }
@@ -76,7 +76,7 @@ pub fn accounts_agree_with_machines<D>()
 }
 
 /// What an account has of a view that stood as the machine has it, it has so behind each step, and from world to world.
-pub fn what_accounts_have_as_machines_stays<D>()
+fn what_accounts_have_as_machines_stays<D>()
     ensures servers { (seen : D → List ℕ) (config : Config) (bytes : ReqId → List ℕ) → ServersKeepLists seen config bytes }
     ensures masters { (seen : D → List ℕ) (config : Config) (bytes : ReqId → List ℕ) → MastersKeepLists seen config bytes }
     ensures still { StillKeepsLists D }
@@ -87,7 +87,7 @@ pub fn what_accounts_have_as_machines_stays<D>()
 
 /// The account of a run of a store agrees with the machines of all its chunks when the store begins new, and behind each step where it did so before it. A copy was born with
 /// what the account has of the view that it is a copy of.
-pub fn accounts_of_stores_agree_with_machines<D>()
+fn accounts_of_stores_agree_with_machines<D>()
     ensures first { (x : Setup D) (bytes : ReqId → List ℕ) → StoresAgreeFirst x bytes }
     ensures steps { (x : Setup D) (bytes : ReqId → List ℕ) → StoresAgreeOn x bytes }
 {
@@ -95,14 +95,14 @@ pub fn accounts_of_stores_agree_with_machines<D>()
 }
 
 /// Who survives by the account of a run, of those from whom a rollback may take a chunk, is intact in the chunk's machine, behind each step of a store at which it was so before it.
-pub fn accounts_tell_who_is_intact<D>()
+fn accounts_tell_who_is_intact<D>()
     ensures { (x : Setup D) (bytes : ReqId → List ℕ) → StoresStayIntact x bytes }
 {}
 
 /// Behind each run of a store that has begun new, in which no disk of the master fails and all that is asked is within its types, where different blocks have different digests: each chunk is not
 /// born yet, or a machine of it shows the store; the account of the run agrees with the machines, and who survives by it is intact in them. In a later world of the run each
 /// chunk that lived leads on, and what the account had of its views it has still.
-pub fn all_chunks_are_seen<D>()
+fn all_chunks_are_seen<D>()
     ensures reached { (x : Setup D) → EachIsSeen x }
     ensures onward { (x : Setup D) → EachSeesOn x }
 {
@@ -113,7 +113,7 @@ pub fn all_chunks_are_seen<D>()
 /// So it is whatever disks of the master fail, as often as they may. Behind each run the master stands, or its disks tell what one may stand on that is started again. Once a disk has failed
 /// what they tell is all that is left of the master, and the account goes by that: then too each chunk is not born yet, or a machine of it shows the store; the account agrees with the machines, and
 /// who survives by it is intact in them; and in a later world of the run each chunk that lived leads on. So behind a failure what stood before it stands, with so many records of the event at which it failed.
-pub fn all_chunks_are_seen_whatever_disks_fail<D>()
+fn all_chunks_are_seen_whatever_disks_fail<D>()
     ensures stays { (x : Setup D) → ReachedStayThrough x }
     ensures reached { (x : Setup D) → EachIsSeenThrough x }
     ensures onward { (x : Setup D) → EachSeesOnThrough x }
@@ -190,7 +190,7 @@ pub fn survivors_keep_what_stood_at_the_prepare<D>()
 /// Each view of a chunk that a client was ever told was looked up: to the same store leads a run that passes a world in which the call that is answered had been sent. The records told there that a file has the chunk, or
 /// had it, that this is its settled view, and that this is the epoch; and nothing was rolled back. It needn't be where the client was first told: an answer that is kept may be sent later, when another view has been settled, and by a master of which
 /// a disk has failed. Where one fails at the turn of a look-up, the caller is told that it is unsure, and of no chunk.
-pub fn locations_were_looked_up<D>()
+fn locations_were_looked_up<D>()
     ensures { (x : Setup D) → LocationsWereLookedUp x }
 {
     configurations_have_sizes();

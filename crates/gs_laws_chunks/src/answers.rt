@@ -13,7 +13,7 @@ use gs_block::promises::configurations_have_sizes;
 /// Each call that was ever sent is its client's own, under a number that it has asked under; and so is each reply that was ever sent, each that the master keeps, in memory, on record or by what its disks tell, and each
 /// call that waits. So it is over every run of a store that has begun new, in which all that is asked is within its types, whatever comes, how often, and in which order, whatever begins again, and whatever disks fail; and so it is of what a script leaves.
 /// So a number that a client hasn't asked under yet is fresh: there is nothing of it in the store.
-pub fn of_each_reply_its_client_has_asked<D>()
+fn of_each_reply_its_client_has_asked<D>()
     ensures begun { (seen : D → List ℕ) → BeginsAsked seen }
     ensures kept { StaysAsked D }
     ensures unarmed { StaysAskedUnarmed D }
@@ -25,17 +25,17 @@ pub fn of_each_reply_its_client_has_asked<D>()
 /// An answer that a client gets to a call that is answered at once was made for this very call, since the client asked: at one event, at which the call came to a standing master as new to it, and that answered so. So
 /// no answer is older than its call, whatever messages come, how often, and in which order. And each world on the way to that event, and from it on, is one that the run passes.
 /// The master isn't started again meanwhile, and no failure of a disk is arranged.
-pub fn an_answer_is_made_for_its_call<D>()
+fn an_answer_is_made_for_its_call<D>()
     ensures { (seen : D → List ℕ) (failures : D → ℕ) (armed : DiskId → ℕ → MasterPlace D → MasterPlace D) → AnswersAreMade seen failures armed }
 {}
 
 /// As long as a client only looks, whatever else comes, the names, the phase and the epoch of the master stand where no call waits, and all that was called before has a number that the client has had: nothing of before changes them.
-pub fn names_stand_while_a_client_looks<D>()
+fn names_stand_while_a_client_looks<D>()
     ensures { (seen : D → List ℕ) (failures : D → ℕ) (armed : DiskId → ℕ → MasterPlace D → MasterPlace D) → StaysStill seen failures armed }
 {}
 
 /// A client that is the only one has the answer to its commit of a prepare, or of a rollback, and lists a path then, and asks nothing else between but look-ups. What it gets is the listing by the names that stood right behind the event
 /// at which its commit was accepted, whatever else comes, and whatever disks fail.
-pub fn what_is_listed_behind_a_commit_is_by_the_names_then<D>()
+fn what_is_listed_behind_a_commit_is_by_the_names_then<D>()
     ensures { (seen : D → List ℕ) (failures : D → ℕ) (armed : DiskId → ℕ → MasterPlace D → MasterPlace D) → ListsAreByCommits seen failures armed }
 {}

@@ -14,13 +14,13 @@ ghost use Rattle.gs_laws_chunks.specs.calls.Told.{DisksWereTold, KeptWereTold, R
 use gs_block::promises::configurations_have_sizes;
 
 /// A store may arrange failures of disks. That changes nothing that its disks tell, and nothing that the master has in memory. Nor does a store that arranges none.
-pub fn failures_that_are_arranged_change_nothing<D>()
+fn failures_that_are_arranged_change_nothing<D>()
     ensures arms { (seen : D → List ℕ) (failures : D → ℕ) → ArmsAlone (seen_of seen) (failures_of failures) arms }
     ensures unarmed { (seen : D → List ℕ) (failures : D → ℕ) → ArmsAlone seen failures unarmed }
 {}
 
 /// A store that is reached with the account of its run has come there by a run as the laws here take it. So they hold of it, beside what is said of its plain view.
-pub fn a_reached_store_has_run<D>()
+fn a_reached_store_has_run<D>()
     ensures { (x : Setup D) → ReachedHaveRun x }
 {}
 
@@ -38,7 +38,7 @@ pub fn each_step_is_for_its_calls<D>()
 }
 
 /// All that is ever called in a run under one request is one call. A client takes a number for it that it hasn't had, and nobody else calls.
-pub fn each_request_is_one_call<D>()
+fn each_request_is_one_call<D>()
     ensures { (seen : D → List ℕ) (failures : D → ℕ) (armed : DiskId → ℕ → MasterPlace D → MasterPlace D) → RequestsAreOneCall seen failures armed }
 {
     configurations_have_sizes();

@@ -3,13 +3,13 @@
 ghost use Rattle.gs_laws_chunks.specs.accounts.Running.{Setup};
 ghost use Rattle.gs_laws_chunks.specs.refusals.Refused.{RefusedAreNumberedNowhere, RefusedStandNowhere, ToldAreNumberedNowhere, ToldStandNowhere};
 
-use crate::each_chunk_of_a_store_is_a_run_of_its_machine;
+use crate::accounts::each_chunk_of_a_store_is_a_run_of_its_machine;
 use gs_laws_server::{a_refused_edit_is_never_numbered, refusals_are_told_where_edits_are_refused};
 
 /// An edit that a chunkserver has refused is numbered at no later step of a run, unless it was refused as older than another one of its client.
 /// That server doesn't number it, and no other is asked to. If no step before has numbered it either, no list of any chunk has it, then or later. So it is never settled.
 /// Messages may come in any order and any number of times, nodes may restart, replicas may be lost or damaged, and disks of the master may fail.
-pub fn a_refused_edit_is_settled_nowhere<D>()
+fn a_refused_edit_is_settled_nowhere<D>()
     ensures numbered { (x : Setup D) → RefusedAreNumberedNowhere x }
     ensures settled { (x : Setup D) → RefusedStandNowhere x }
 {

@@ -5,12 +5,12 @@ ghost use Rattle.gs_laws_looks.specs.carrying.Exchanged.{LooksAreCarried};
 ghost use Rattle.std.specs.Prelude.{List, ℕ};
 
 /// A desk carries a call of a client to an answer: that is a run of a store, in which the client asks under that number, and has the answer behind deliveries and ticks, at which nothing is asked; and then it takes it.
-pub fn a_call_that_is_carried_has_its_answer<D>()
+fn a_call_that_is_carried_has_its_answer<D>()
     ensures { (seen : D → List ℕ) (failures : D → ℕ) → CallsAreCarried seen failures }
 {}
 
 /// A desk carries a look-up, or a fetch, of a client to a reply: that is a run of a store, in which the client asks under that number, and has an answer, or a part of a chunk, behind steps at which nothing is asked of the
 /// master but look-ups; and then it takes it. Where it is refused, or nothing comes, nothing else is asked of the master meanwhile either.
-pub fn a_look_that_is_carried_has_its_reply<D>()
+fn a_look_that_is_carried_has_its_reply<D>()
     ensures { (seen : D → List ℕ) (failures : D → ℕ) → LooksAreCarried seen failures }
 {}

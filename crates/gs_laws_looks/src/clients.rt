@@ -7,7 +7,7 @@ ghost use Rattle.gs_path.specs.Path.{Path};
 
 /// Where each answer to a client is of what stands, a file that it opens and reads gives what the file has from an offset on, and the digest of a block is that of the block: unless it is refused. Who answers, by which views and
 /// how often a member doesn't is nothing to it. So two reads of what is the same give the same.
-pub fn reads_give_what_stands()
+fn reads_give_what_stands()
     ensures bytes { (f : Stands) → ReadsWhatStands f }
     ensures digests { (f : Stands) → DigestsWhatStands f }
 {}

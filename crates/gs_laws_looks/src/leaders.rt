@@ -14,7 +14,7 @@ use gs_laws_server::a_message_edits_a_replica_by_what_it_says;
 /// From a world in which a file has a chunk, or had it, and no rollback goes on, as long as no epoch begins and nobody leads a view of the chunk that is settled, whatever comes between: a look-up of it, and behind that a read
 /// of a member of the view that was told, give the part that was asked for of the text that was settled in the first world, whatever views of it have been settled since. Nobody leads a chunk right behind a prepare, or right
 /// behind its rollback; so what is read so of a place of a file at both is the same.
-pub fn reads_of_a_chunk_that_nobody_leads_are_of_what_was_settled<D>()
+fn reads_of_a_chunk_that_nobody_leads_are_of_what_was_settled<D>()
     ensures settled { (x : Setup D) → ReadsAreOfUnled x }
     ensures back { (x : Setup D) → UnledReadsGoBack x }
 {

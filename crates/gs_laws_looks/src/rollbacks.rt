@@ -13,7 +13,7 @@ use gs_laws_server::a_message_edits_a_replica_by_what_it_says;
 
 /// A list that the master answers to a new call is that of the names that the records tell then, whatever disks of it have failed. So as long as the names are those that stood right behind a prepare, or right behind
 /// its rollback, what is listed there is the same at both.
-pub fn lists_behind_a_rollback_are_those_behind_its_prepare<D>()
+fn lists_behind_a_rollback_are_those_behind_its_prepare<D>()
     ensures names { (x : Setup D) → ListsAreOfNames x }
     ensures back { (x : Setup D) → ListsGoBack x }
 {
@@ -23,7 +23,7 @@ pub fn lists_behind_a_rollback_are_those_behind_its_prepare<D>()
 /// What a member of a chunk's settled view gives is the part that was asked for of the text that was settled when the chunk was looked up, as long as that view is the settled one and nobody leads it: whatever comes between
 /// the look-up and the read, calls, messages of any age, losses, damage and restarts among it, and also while another view is proposed. No chunk is led right behind a prepare or right behind its rollback; so what
 /// is read of a place of a file at both is the same.
-pub fn reads_behind_a_rollback_are_those_behind_its_prepare<D>()
+fn reads_behind_a_rollback_are_those_behind_its_prepare<D>()
     ensures settled { (x : Setup D) → ReadsAreOfSettled x }
     ensures back { (x : Setup D) → ReadsGoBack x }
 {

@@ -3,7 +3,7 @@
 ghost use Rattle.gs_laws_moves.specs.upgrades.Since.{CutsLead, TurnsBegin, TurnsLead};
 
 /// An event that leads from an ordinary phase to another is a prepare. Right behind it nothing is to be taken back, and the prepared view of each chunk that a file has, or had, is its settled one.
-pub fn an_upgrade_begins_with_what_stands()
+fn an_upgrade_begins_with_what_stands()
     ensures { TurnsBegin }
 {}
 
@@ -11,7 +11,7 @@ pub fn an_upgrade_begins_with_what_stands()
 /// the prepared view of each chunk that was listed then; whatever comes, also through checkpoints, and where the append of a record fails. The event that
 /// ends a rollback leaves the names of the prepare; and of each chunk that stood in a file then a server that may give it back had told, as the event met it. Each
 /// chunk that stood in a file then, or before, has a view behind it that nobody leads, whose members are just those servers that had told.
-pub fn what_was_prepared_stays_until_it_is_back()
+fn what_was_prepared_stays_until_it_is_back()
     ensures turns { TurnsLead }
     ensures cuts { CutsLead }
 {}

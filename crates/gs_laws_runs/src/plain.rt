@@ -17,26 +17,26 @@ use gs_laws_server::a_message_edits_a_replica_by_what_it_says;
 
 /// A step leads from the plain view before it to that behind it, where more is settled of chunks that stand at one place each, its records change no text
 /// but at a rollback, and what is told of the texts behind them is what is settled then, and what was at the last prepare.
-pub fn a_step_leads_from_plain_view_to_plain_view()
+fn a_step_leads_from_plain_view_to_plain_view()
     ensures { StepsOfAccountsLead }
 {}
 
 /// Where a step neither begins nor ends an upgrade, what was settled of each chunk is a beginning of what is settled then, and the account keeps what it
 /// has of the last prepare, it leads from plain view to plain view.
-pub fn a_step_within_an_epoch_leads()
+fn a_step_within_an_epoch_leads()
     ensures { GrowingStepsLead }
 {}
 
 /// So do the steps at which an upgrade is prepared, finalized and rolled back, each by one record: at a prepare what the account has
 /// of each chunk has the text that is settled, and behind a rollback the text of each chunk is that of the prepare.
-pub fn each_end_of_an_upgrade_leads()
+fn each_end_of_an_upgrade_leads()
     ensures prepares { PreparesLead }
     ensures finalizes { FinalizesLead }
     ensures commits { CommitsLead }
 {}
 
 /// At each step of a run edits are settled of no chunk that stands at more than one place of the tree: so no other text changes with one.
-pub fn edits_come_to_one_place_each<D>()
+fn edits_come_to_one_place_each<D>()
     ensures { (x : Setup D) → EditsOnePlace x }
 {
     configurations_have_sizes();
@@ -47,7 +47,7 @@ pub fn edits_come_to_one_place_each<D>()
 
 /// Of a chunk that no file has just those edits are settled of which it is a copy, and none where it is no copy, whatever has happened since it was made; and so it is at a step that puts it into
 /// a file, but where a rollback is committed.
-pub fn new_chunks_are_as_they_were_made<D>()
+fn new_chunks_are_as_they_were_made<D>()
     ensures new { (x : Setup D) → NewAreAsMade x }
     ensures added { (x : Setup D) → AddedAreAsMade x }
 {
@@ -57,13 +57,13 @@ pub fn new_chunks_are_as_they_were_made<D>()
 
 /// A call that waits, at a master of which no disk has failed, to copy a chunk at a place of a file, or for that copy, holds the place in each world of a run: no other call waits so at that file; and while one waits for its
 /// copy, nobody may write the chunk until the copy has come there.
-pub fn places_that_are_copied_are_held<D>()
+fn places_that_are_copied_are_held<D>()
     ensures { (x : Setup D) → PlacesAreHeld x }
 {}
 
 /// Whatever disks of the master fail in a run, for a chunk of which a view is settled a message was sent that makes it on a server without edits, or as a copy: a server that was told neither keeps nothing of it, and
 /// promises nothing. One that a call is to put in the place of another is made nowhere; so once a view of it is settled it was told to be a copy, and so was each that a step puts in the place of another, before that step.
-pub fn copies_were_told_to_be_such<D>()
+pub(crate) fn copies_were_told_to_be_such<D>()
     ensures settled { (x : Setup D) → SettledWereMade x }
     ensures waiting { (x : Setup D) → WaitingWereTold x }
     ensures put { (x : Setup D) → PutWereTold x }

@@ -3,7 +3,7 @@
 ghost use Rattle.gs_laws_runs.specs.replies.Answered.{CommandsAreOfRecords, RepliesAreAsPlain, SentAreAsPlain};
 ghost use Rattle.gs_laws_chunks.specs.accounts.Running.{Setup};
 
-use crate::copies_were_told_to_be_such;
+use crate::plain::copies_were_told_to_be_such;
 use gs_block::promises::configurations_have_sizes;
 use gs_laws_chunks::{a_rollback_gives_back_what_was_settled, each_rollback_is_of_a_prepare};
 use gs_laws_plain::calls_of_the_tree_do_what_they_answer;

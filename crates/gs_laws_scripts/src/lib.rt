@@ -10,14 +10,8 @@ mod runs;
 mod stops;
 
 pub use answers::a_script_answers_its_input;
-pub use lists::{
-    what_a_script_lists_behind_a_rollback_is_what_it_listed_behind_its_prepare,
-    what_is_listed_twice_by_lines_is_the_same,
-};
+pub use lists::what_a_script_lists_behind_a_rollback_is_what_it_listed_behind_its_prepare;
 pub use plain::scripts_are_answered_as_by_the_plain_machine;
-pub use reads::{
-    what_a_script_reads_behind_a_rollback_is_what_it_read_behind_its_prepare,
-    what_is_read_twice_by_lines_is_the_same,
-};
+pub use reads::what_a_script_reads_behind_a_rollback_is_what_it_read_behind_its_prepare;
 pub use runs::each_script_is_reached;
 pub use stops::a_stopped_script_answers_the_beginning_of_its_input;

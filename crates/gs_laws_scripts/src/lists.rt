@@ -12,7 +12,7 @@ use gs_laws_looks::{
 
 /// A desk answers an epoch to `rollingUpgrade prepare`, or to `prepare-commit`, and names to `ls` of a path right behind that; behind any lines it answers the next epoch to `rollingUpgrade rollback`, or to `rollback-commit`, and names to the same `ls` right behind that. These names
 /// are the same, whatever lines come between, and whatever disks fail.
-pub fn what_is_listed_twice_by_lines_is_the_same<D>()
+fn what_is_listed_twice_by_lines_is_the_same<D>()
     ensures { (seen : D → List ℕ) (failures : D → ℕ) (config : Config) (disks : D × D) → ListTheSame seen failures config disks }
 {
     epochs_that_are_answered_are_numbers::<D>();

@@ -12,7 +12,7 @@ use gs_laws_looks::{
 
 /// A desk answers an epoch to `rollingUpgrade prepare`, or to `prepare-commit`, and bytes or a digest to `read` or `digest` of a file right behind that; behind any lines it answers the next epoch to `rollingUpgrade rollback`, or to `rollback-commit`, and the same line
 /// right behind that. So it goes in a run of a store. Both answers are the same, whatever lines come between, and whatever disks fail, if there is such a run in which different blocks that servers have on the way have different digests.
-pub fn what_is_read_twice_by_lines_is_the_same<D>()
+fn what_is_read_twice_by_lines_is_the_same<D>()
     ensures { (seen : D → List ℕ) (failures : D → ℕ) (config : Config) (disks : D × D) → ReadTheSameWhereToldApart seen failures config disks }
 {
     readers_ask_under_locations_that_they_were_told();

@@ -48,7 +48,7 @@ pub fn an_event_calls_what_it_says()
 /// lengthens it by exactly the one edit that the event applies, but where the replica is made anew: by a create or a copy under a stamp above
 /// the promise, or by a rollback. The same over a run of events, and a replica that is live at the end of such a run was live throughout. At
 /// each edit that is applied, digests are to tell the replica's blocks from those of its list, where they differ.
-pub fn what_a_replica_stands_for_goes_on()
+fn what_a_replica_stands_for_goes_on()
     ensures event { ReplicasStandBehindAnEvent }
     ensures run { ReplicasStandBehindARun }
     ensures lived { ReplicasLiveThroughout }
@@ -58,7 +58,7 @@ pub fn what_a_replica_stands_for_goes_on()
 /// each event that keeps the replica, whatever other blocks are damaged, but for damage of that very block. The same over a run of events. So
 /// a block that wasn't damaged since the replica was made holds what the edits give: a create makes a replica of which each block is so, and
 /// so is each block of an undamaged one, where digests tell.
-pub fn a_block_that_is_not_damaged_holds_what_its_edits_give()
+fn a_block_that_is_not_damaged_holds_what_its_edits_give()
     ensures event { BlocksHoldBehindAnEvent }
     ensures run { BlocksHoldBehindARun }
     ensures created { CreatedBlocksHold }
@@ -70,7 +70,7 @@ pub fn a_block_that_is_not_damaged_holds_what_its_edits_give()
 /// block; one that is taken, under a stamp above the promise, stands for the edits that give its image. A copy under a new handle stands for
 /// the edits of the old one, and what a rollback makes live for those that were sealed. No block of these is damaged. Each server that began
 /// with nothing has sizes at which this holds.
-pub fn what_is_made_anew_stands_for_what_it_is_made_of()
+fn what_is_made_anew_stands_for_what_it_is_made_of()
     ensures created { CreatedReplicasStand }
     ensures sent { SentCopiesAreExact }
     ensures taken { TakenCopiesStand }
@@ -83,7 +83,7 @@ pub fn what_is_made_anew_stands_for_what_it_is_made_of()
 /// waits, whose number every member has told of once the acknowledgement is heard. An edit of which every member has told where it is numbered
 /// is done at once: so is each where the server is the only member. A client's last edit that comes again is answered as done where every
 /// member is known to have it. An acknowledgement under any other stamp sends nothing, and changes nothing of the chunk.
-pub fn edits_that_all_have_are_done()
+fn edits_that_all_have_are_done()
     ensures later { WaitingEditsAreDone }
     ensures at_once { EditsAreDoneAtOnce }
     ensures alone { EditsOfOneMemberAreDone }
@@ -94,20 +94,20 @@ pub fn edits_that_all_have_are_done()
 /// A refused message leaves the server: all that it keeps is the same, but that a damaged block by which the message is refused may mark the
 /// replica that it is of as bad, and that the refusal of an edit may be kept for its client, under the edit's number. A message that is for
 /// another kind of node, and an epoch that is refused, leave all.
-pub fn a_refused_message_leaves_the_server()
+fn a_refused_message_leaves_the_server()
     ensures { RefusedMessagesLeaveTheServer }
 {
     a_refused_message_leaves_the_chunk();
 }
 
 /// A message about a chunk makes of what is kept of the chunk exactly what its part says.
-pub fn a_message_about_a_chunk_makes_what_it_says()
+fn a_message_about_a_chunk_makes_what_it_says()
     ensures { MessagesMakeWhatTheySay }
 {}
 
 /// At each server that began with nothing, whatever happened to it since: the numbers of the edits that wait under a lease rise, so the first
 /// of them is the lowest, and each is at most the count of the live replica, if there is one. What members have told is kept of 16 servers.
-pub fn outboxes_are_in_order()
+fn outboxes_are_in_order()
     ensures rising { (handle : ℕ) (s : Server) (l : PrimaryLease) → IsReached s → (place_of handle s).lease ≡ Some l → AreRising l.outbox }
     ensures counted { OutboxesAreCounted }
     ensures told { (handle : ℕ) (s : Server) (l : PrimaryLease) → IsReached s → (place_of handle s).lease ≡ Some l → length l.told ≡ 16 }
@@ -117,7 +117,7 @@ pub fn outboxes_are_in_order()
 /// seal, and where damage was of blocks that edits had touched, a copy carries the same image. So an accepted copy under a stamp above the
 /// promise that carries a sealed image, then such a run, and then a rollback make live, if anything, what the image stood for, without a
 /// damaged block; and they do make it live where damage was of blocks that edits had touched.
-pub fn sealed_images_stay_on_a_server()
+fn sealed_images_stay_on_a_server()
     ensures stood { SealedImagesStand }
     ensures spared { SparedImagesStay }
     ensures copied { CarriedImagesComeBack }
@@ -127,7 +127,7 @@ pub fn sealed_images_stay_on_a_server()
 /// What is promised again leaves what stands. A create, a copy for another handle and a copy that is sent, under a stamp that isn't above
 /// the promise, leave the slot as it is, if they are accepted at all. At each server that began with nothing, a message by which a chunk is
 /// created or a copy of it is sent, under such a stamp, leaves the lease too.
-pub fn what_is_promised_again_leaves_what_stands()
+fn what_is_promised_again_leaves_what_stands()
     ensures created { (block chunk : ℕ) (stamp : Stamp) (s s2 : Slot) → is_before s.promise stamp ≡ false → create block chunk stamp s ≡ Ok s2 → s2 ≡ s }
     ensures taken { (h : Held) (s s2 : Slot) → is_before s.promise h.promise ≡ false → take_copy h s ≡ Ok s2 → s2 ≡ s }
     ensures create { CreatesAgainLeaveThePlace }
@@ -135,14 +135,14 @@ pub fn what_is_promised_again_leaves_what_stands()
 {}
 
 /// A drop that is accepted leaves neither a live replica nor a lease of the chunk.
-pub fn a_dropped_replica_leaves_no_lease()
+fn a_dropped_replica_leaves_no_lease()
     ensures { DropsLeaveNoLease }
 {}
 
 /// Each server counts edits in 64 bits. Where all counts that a server keeps are numbers of 64 bits, and those that it hears, each event
 /// leaves it so, and those that it sends are: a primary refuses the edit behind the last count, a member applies the number that it is sent,
 /// a rollback gives the count that was sealed, and a copy that of its image. A new server counts nothing. So what it promises can be told.
-pub fn each_server_counts_in_64_bits()
+fn each_server_counts_in_64_bits()
     ensures heard { (s : Server) (message : Message) (moment : Moment) → IsCountedServer s → IsCountedMessage message → GoesCounted (servers.handle s message moment) }
     ensures ticked { (s : Server) (moment : Moment) → IsCountedServer s → GoesCounted (servers.tick s moment) }
     ensures beats { (s : Server) → IsCountedMessage (servers.beat s) }

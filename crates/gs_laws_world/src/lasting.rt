@@ -6,7 +6,7 @@ ghost use Rattle.gs_laws_world.specs.lasting.Laws.{NewStoresLast, SoundRunsLast,
 /// its disks are seen, and the records there can be read again and tell what is durable. Where memory was wanting for a restart its disks wait,
 /// and tell what a master may stand on. So it is of a new store, and behind each step from there, also where no failure can be made to come. It
 /// has a premise: what the master hears names paths by the rules and numbers of 64 bits.
-pub fn a_master_stays_firm_while_no_disk_fails<D>()
+fn a_master_stays_firm_while_no_disk_fails<D>()
     ensures begun { NewStoresLast D }
     ensures kept { SoundRunsLast D }
     ensures unarmed { UnarmedSoundRunsLast D }
@@ -14,7 +14,7 @@ pub fn a_master_stays_firm_while_no_disk_fails<D>()
 
 /// A restart of a master that stands firm opens what stood, and no more: nothing that was in memory alone is left. Where it isn't opened and no
 /// disk has failed, its disks wait and tell what stood; and a restart of disks that wait opens what they tell.
-pub fn a_restart_opens_what_stood<D>()
+fn a_restart_opens_what_stood<D>()
     ensures opened { RestartsOpenWhatStood D }
     ensures waits { RefusedRestartsWait D }
     ensures again { WaitingDisksAreOpened D }

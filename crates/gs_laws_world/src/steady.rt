@@ -14,14 +14,14 @@ ghost use Rattle.gs_nodes.specs.declared.place.MasterPlace.TheVariants.{Standing
 
 /// A master that stands firm, whose log is within its limit, refuses a message and a tick for want of memory alone, or as `BadLine` where a
 /// record of it can't be written: its records fit what they meet, and have room.
-pub fn a_firm_master_refuses_for_memory<D>()
+fn a_firm_master_refuses_for_memory<D>()
     ensures messages { FirmMastersRefuseMessages D }
     ensures ticks { FirmMastersRefuseTicks D }
 {}
 
 /// Where all that such a master keeps is within its types besides, it refuses what it hears and a tick for want of memory alone, since each
 /// record can be written. What it hears is within its types too: its request, and where a call meets names, those.
-pub fn a_steady_master_refuses_for_memory_alone<D>()
+fn a_steady_master_refuses_for_memory_alone<D>()
     ensures messages { SteadyMastersRefuseMessages D }
     ensures ticks { SteadyMastersRefuseTicks D }
 {}
@@ -29,7 +29,7 @@ pub fn a_steady_master_refuses_for_memory_alone<D>()
 /// A master stays steady as long as no disk of it fails and what it hears is within its types: it stands firm, all that it keeps is within its
 /// types, and its log is within its limit, so that each record of it can be written. Over disks that say nothing a store begins so. Each step
 /// leaves the master so, or, where memory was wanting for a restart, disks that tell such a master. What is steady is firm.
-pub fn a_master_stays_steady_while_no_disk_fails<D>()
+fn a_master_stays_steady_while_no_disk_fails<D>()
     ensures begun { NewStoresAreSteady D }
     ensures kept { SteadyRunsStaySteady D }
     ensures unarmed { UnarmedSteadyRunsStaySteady D }
@@ -38,14 +38,14 @@ pub fn a_master_stays_steady_while_no_disk_fails<D>()
 
 /// A store that is asked within its types keeps them: all that its nodes have sent may be said to its receiver, and each server counts in 64
 /// bits. So its master hears only what is within its types.
-pub fn a_store_that_is_asked_within_its_types_keeps_them<D>()
+fn a_store_that_is_asked_within_its_types_keeps_them<D>()
     ensures begun { NewStoresKeepTypes D }
     ensures kept { RunsKeepTypes D }
     ensures heard { QuietRunsAreSteady D }
 {}
 
 /// So the master of such a store stays steady while no disk of it fails, and refuses what it is sent, and a tick, for want of memory alone.
-pub fn a_master_asked_within_its_types_stays_steady<D>()
+fn a_master_asked_within_its_types_stays_steady<D>()
     ensures kept { QuietRunsStaySteady D }
     ensures unarmed { UnarmedQuietRunsStaySteady D }
     ensures messages { SentMessagesAreRefusedForMemory D }
@@ -58,7 +58,7 @@ pub fn a_master_asked_within_its_types_stays_steady<D>()
 /// wait, they tell something on which a restarted master is steady, whatever log it has. The disks tell one thing, and that is what is durable where no
 /// disk has failed. At a step it stays, or a master of which no disk had failed makes a turn of which so many records stand behind it, perhaps all, and
 /// the others never were. So behind any run a restart opens what stood, or the disks wait, and tell what they told.
-pub fn a_master_lasts_through_failures<D>()
+fn a_master_lasts_through_failures<D>()
     ensures begun { NewStoresLastThrough D }
     ensures kept { RunsLastThrough D }
     ensures unarmed { UnarmedRunsLastThrough D }
