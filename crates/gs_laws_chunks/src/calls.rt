@@ -28,7 +28,7 @@ fn a_reached_store_has_run<D>()
 /// What such a master tells, records and leaves waiting in the turn of a step is for the call that comes, or for one that was sent before and has waited.
 /// So is each record that stands after a step, also where a disk fails at the step, after some of the records of its turn. No others ever stand.
 /// A record may tell that an epoch has ended, or that a rollback is done. Then just the call for that comes at the step, and it is answered the epoch of the record, and nothing else.
-pub fn each_step_is_for_its_calls<D>()
+fn each_step_is_for_its_calls<D>()
     ensures waits { (seen : D → List ℕ) (failures : D → ℕ) (armed : DiskId → ℕ → MasterPlace D → MasterPlace D) → CallsWaitAsSent seen failures armed }
     ensures turns { (seen : D → List ℕ) (failures : D → ℕ) (armed : DiskId → ℕ → MasterPlace D → MasterPlace D) → TurnsAreForCalls seen failures armed }
     ensures records { (seen : D → List ℕ) (failures : D → ℕ) (armed : DiskId → ℕ → MasterPlace D → MasterPlace D) → RecordsAreForCalls seen failures armed }
@@ -48,7 +48,7 @@ fn each_request_is_one_call<D>()
 /// This holds whether the reply is sent then, or is kept and given again, also after failures of disks and restarts.
 /// Right after the move that tells so, the chunk stood at the path and the index that the call named, on the view that is told. The view has a primary where the chunk is to be written.
 /// These are the names to which so many of the records of that turn lead.
-pub fn each_location_is_of_the_place_that_its_client_asked<D>()
+fn each_location_is_of_the_place_that_its_client_asked<D>()
     ensures replies { (seen : D → List ℕ) (failures : D → ℕ) (armed : DiskId → ℕ → MasterPlace D → MasterPlace D) → RepliesWereTold seen failures armed }
     ensures stood { ToldStoodThere D }
     ensures kept { (seen : D → List ℕ) (failures : D → ℕ) (armed : DiskId → ℕ → MasterPlace D → MasterPlace D) → KeptWereTold seen failures armed }

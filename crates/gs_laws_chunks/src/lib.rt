@@ -19,6 +19,5 @@ pub use accounts::{
     reads_are_legal, replicas_stand_for_beginnings_of_lists, runs_have_accounts,
     survivors_keep_what_stood_at_the_prepare,
 };
-pub use calls::{each_location_is_of_the_place_that_its_client_asked, each_step_is_for_its_calls};
 pub use members::a_rollback_leaves_members_with_the_bytes;
 pub use refusals::an_edit_that_was_told_refused_is_settled_nowhere;
