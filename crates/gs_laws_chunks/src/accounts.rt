@@ -209,7 +209,7 @@ pub fn copies_inherit<D>()
 }
 
 /// An accepted rollback gives back the names of the last accepted prepare: the tree with the handles of its files, and how often each stands there; whatever has happened between, at whichever nodes. No more is
-/// asked of a run than that all that is asked is within its types; disks of the master may fail as they like. Where one fails at the record of a commit, the rollback is done if that record stands: it is told
+/// asked of a run than that all that is asked is within its types, and in the clause by accounts that digests tell blocks apart; disks of the master may fail as they like. Where one fails at the record of a commit, the rollback is done if that record stands: it is told
 /// where the master is started again.
 pub fn an_accepted_rollback_gives_the_names_back<D>()
     ensures kept { (x : Setup D) → GivesNamesBack x }
@@ -246,7 +246,7 @@ pub fn one_survivor_is_enough<D>()
     a_message_edits_a_replica_by_what_it_says();
 }
 
-/// Each rollback that is done in a run is one of an upgrade whose prepare was accepted earlier in it, with no upgrade ended between. So what holds of rollbacks of prepared upgrades holds of each that is done.
+/// A store at which a rollback is done is reached by a run in which its prepare was accepted, with no upgrade ended between. It needn't be the given run. So what holds of rollbacks of prepared upgrades holds of each that is done.
 pub fn each_rollback_is_of_a_prepare<D>()
     ensures { (x : Setup D) → EachIsOfAPrepare x }
 {}

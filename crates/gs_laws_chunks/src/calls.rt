@@ -44,7 +44,7 @@ fn each_request_is_one_call<D>()
     configurations_have_sizes();
 }
 
-/// A reply of a run may tell where a chunk is. It was told so in the turn of a step of the run, to a call of this very request that was sent before that step.
+/// A reply of a run may tell where a chunk is. It was told so in the turn of a step, to a call of this very request that was sent before that step. The step is one of a run that leads to the same store, which needn't be the given one.
 /// This holds whether the reply is sent then, or is kept and given again, also after failures of disks and restarts.
 /// Right after the move that tells so, the chunk stood at the path and the index that the call named, on the view that is told. The view has a primary where the chunk is to be written.
 /// These are the names to which so many of the records of that turn lead.

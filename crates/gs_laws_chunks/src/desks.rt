@@ -34,7 +34,7 @@ fn each_line_asks_within_its_types()
 /// All that the lines of a script ask is within the types of the store that it runs over: a desk that begins, each line, and so a whole script
 /// lead on by such steps. So where the disks said nothing and none of them failed in a step, the master is steady behind each line, and in each
 /// step, whatever it refuses of what it is sent or of its ticks, it refuses for want of memory alone.
-fn each_script_asks_within_its_types<D>()
+pub fn each_script_asks_within_its_types<D>()
     ensures begins { DesksBeginWithin D }
     ensures line { LinesStayWithin D }
     ensures script { ScriptsEndWithin D }

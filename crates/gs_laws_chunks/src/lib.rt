@@ -19,5 +19,6 @@ pub use accounts::{
     reads_are_legal, replicas_stand_for_beginnings_of_lists, runs_have_accounts,
     survivors_keep_what_stood_at_the_prepare,
 };
+pub use desks::each_script_asks_within_its_types;
 pub use members::a_rollback_leaves_members_with_the_bytes;
 pub use refusals::an_edit_that_was_told_refused_is_settled_nowhere;

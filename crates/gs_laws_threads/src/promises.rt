@@ -16,11 +16,11 @@ use gs_journal::Disk;
 use std::sync::Wait;
 use std::time::Clock;
 
-/// Each 28 and 29 of a call of a caller has a cause that its history took in that call. No reply of a caller's is lost: it waits for one.
+/// Each 28 and 29 of a call of a caller has a cause that its history took in that call. A caller gives no request up: it waits for a reply.
 ///
 /// A 28 is from a message that brings that refusal, or the location of a chunk without members. A 29 is from a message that brings that refusal, or that
 /// memory or a disk was wanting for a request that may change something; or memory of the caller's own was wanting for such a request, or for the copy of
-/// its reply, where that isn't an edit's outcome. Neither is from a clock or a number at its last value.
+/// a reply that has a path, names, a status or bytes. Neither is from a clock or a number at its last value.
 pub fn an_unsure_caller_has_a_cause<N: Plan, D: Disk + Drop, R: Wait + Clock + Drop>()
     ensures calls { OfEachCall (Tells (Sends (carried {N = N} {R = R} D.seen D.failures)) (λ (s : Client × Caller N D R). s.1.node)) }
     ensures edits { OfEachCall (Tells (Edits (carried {N = N} {R = R} D.seen D.failures)) (λ (s : Client × ℕ × Caller N D R). s.2.node)) }

@@ -219,8 +219,9 @@ impl<D: Disk + Drop> World<D> {
         }
     }
 
-    /// One event after the other, and what is told of each. Where memory is wanting for that list, nothing happens. What holds over every
-    /// such run, whatever disks of the master fail: an accepted rollback gives back what stood at its prepare
+    /// One event after the other, and what is told of each. If there is no memory for that list, nothing happens. Say a store began over
+    /// disks that said nothing, is asked within its types, and different blocks have different digests. Then this holds over the run,
+    /// whatever disks of the master fail: an accepted rollback gives back what stood at its prepare
     /// (`a_rollback_gives_back_names_and_bytes` of `gs_laws_chunks`), edits that were told done stay (`done_edits_stay`), and reads are of
     /// what was written (`reads_are_legal`). It is a run of the plain machine (`a_run_is_a_run_of_the_plain_machine` of `gs_laws_runs`), which a
     /// rollback leads back to what it showed at the prepare (`a_rollback_shows_what_its_prepare_showed`), and a request that was refused

@@ -70,7 +70,7 @@ module _ {D : Type 0} (x : Setup D) where
       view_at last chunk ≡ Some view → is_member view.members id ≡ true → Runs x steps back last later c → slice_get later.nodes.servers id ≡ Some s → is_before view.stamp (slot_in chunk s).promise ≡ false →
       (slot_in chunk s).live ≡ Some l → lowest_damaged l.replica.held.chunk ≡ None → HasText x.config.chunk (settled_edits before chunk) l.replica.held.chunk l.replica.held.count
 
-  -- A rollback that is done, in whatever run, is that of an upgrade whose prepare was accepted in it, and which wasn't ended between.
+  -- A store at which a rollback is done is reached by a run in which the prepare of its upgrade was accepted, and which no upgrade ended between. It needn't be the given run.
   abbrev pub EachIsOfAPrepare : Type 0
   EachIsOfAPrepare = (now back : History D) (after last : Account) (step : Step) → IsReached x now after → Moves x step now after back last → rolls_back after.durable last.durable ≡ true →
       (prepared : History D) × (before : Account) × HasRolledBack prepared before now after back last
