@@ -134,10 +134,12 @@ def contracts_of(crates):
 
 
 def promised(names):
-    """The contracts of the promises, or of these of them, each with the text of its file."""
-    for crate, name in listed():
-        if not names or name in names:
-            yield from ((path.read_text(), contract) for path, contract in places(crate, name))
+    """The contracts of the promises, or of these public functions, each with the text of its file."""
+    for crate, name in [(None, name) for name in names] or listed():
+        found = list(places(crate, name))
+        if not found:
+            raise SystemExit(f"no public function with a contract has the name {name}")
+        yield from ((path.read_text(), contract) for path, contract in found)
 
 
 def reached(files, public):

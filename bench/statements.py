@@ -5,10 +5,12 @@
     bench/statements.py OLD NEW --all # tells each difference whole
 
 Where a definition stands may change, and the crates' names. So a statement is its text, without comments and imports; and
-for each name in it of another definition, the text of that definition. A function's clauses go under its name.
+for each name in it of another definition, a sum of that one with what it leads to, five levels down. A function's clauses go under its
+head, and a type's declaration is a statement too. `pub` may come and go.
 It prints how many statements stand on both sides and which stand on one alone, and ends with status 1 where there are such.
 """
 import collections
+import hashlib
 import pathlib
 import re
 import subprocess
@@ -19,6 +21,11 @@ ROOT = pathlib.Path(__file__).resolve().parent.parent
 IMPORT = re.compile(r"^\s*(?:ghost )?use Rattle\.([\w.]+?)(?:\.\{([^}]*)\})?(?: as ([\w-]+))?;?\s*$", re.M)
 WORD = re.compile(r"[^\s(){}\[\],;`]+")
 CLAUSE = re.compile(r"^\s*(ensures|requires|ghost (?!use))")
+BEGINS = re.compile(r"\s*(?:pub(?:\(\w+\))? )?(?:const (?=fn))?(fn|struct|enum|trait|impl|type|const)\b")
+PUBLIC = re.compile(r"\bpub(\(\w+\))? ")
+
+# So many levels of definitions are looked into below a statement.
+DEPTH = 5
 
 
 def blocks_of(text):
@@ -39,21 +46,38 @@ def blocks_of(text):
 
 
 def clauses_of(text):
-    """The clauses of a source file, each under the function or the type that it stands at."""
-    owner, clause = "", []
-    for line in text.splitlines():
-        named = re.match(r"\s*(?:pub(?:\(\w+\))? )?(?:const )?(?:fn|struct|enum|trait|impl)\b(.*)", line)
-        if clause and (CLAUSE.match(line) or line.strip() in ("{", "{}") or not line.strip()):
-            yield "\n".join([owner, *clause])
-            clause = []
-        if CLAUSE.match(line):
-            clause = [line.strip()]
+    """What a source file states: the clauses of each function under its whole head and its `impl`, and each type as it is declared."""
+    within, head, clause, kind = "", [], [], None
+    for line in [*text.splitlines(), ""]:
+        bare = line.strip()
+        begins = BEGINS.match(line)
+        if kind == "type":
+            head.append(bare)
+            if line.startswith("}") or line.endswith(";"):
+                yield "\n".join(head)
+                kind = None
+        elif clause and (CLAUSE.match(line) or bare in ("{", "{}", "")):
+            yield "\n".join([*head, *clause])
+            clause = [bare] if CLAUSE.match(line) else []
+        elif CLAUSE.match(line):
+            clause = [bare]
         elif clause:
-            clause.append(line.strip())
-        elif named:
-            owner = re.sub(r"^\s*pub(\(\w+\))? ", "", line).strip()
-    if clause:
-        yield "\n".join([owner, *clause])
+            clause.append(bare)
+        elif begins and begins[1] == "impl":
+            within = kind = None
+            within, head = bare, [bare]
+        elif begins and begins[1] in ("struct", "enum", "type", "const") and not line.startswith(" "):
+            head, kind = [PUBLIC.sub("", bare)], "type"
+            if bare.endswith((";", "}")):
+                yield head[0]
+                kind = None
+        elif begins:
+            inside = [within] if line.startswith(" ") and within else []
+            head, kind = [*inside, PUBLIC.sub("", bare)], "head"
+        elif kind == "head" and bare not in ("{", "{}", ""):
+            head.append(bare)
+        if bare in ("{", "{}"):
+            kind = None
 
 
 def imports_of(text):
@@ -80,6 +104,7 @@ class Commit:
         self.texts = {module_of(p, folder): p.read_text() for p in sorted(folder.glob("*/specs/**/*.antt"))}
         self.blocks = {module: blocks_of(text) for module, text in self.texts.items()}
         self.heads = {module: self.heads_of(blocks) for module, blocks in self.blocks.items()}
+        self.named, self.sums = {}, {}
         self.sources = [p.read_text() for p in sorted(folder.glob("*/src/**/*.rt"))]
 
     @staticmethod
@@ -91,27 +116,41 @@ class Commit:
                 found.setdefault(word, block)
         return found
 
-    def led_to(self, module, name):
-        """The text of what a name leads to, or the path where that isn't a definition of the repository."""
-        if module in self.heads:
-            return self.heads[module].get(name, name) if name else module.split(".")[-1]
-        return f"{module}.{name}"
+    def led_to(self, module, name, depth):
+        """What a name leads to: a sum of the definition with what this leads to, or the path where that isn't a definition here."""
+        if module not in self.heads:
+            return f"{module}.{name}"
+        block = self.heads[module].get(name) if name else None
+        return self.sum_of(module, block, depth) if block else name or module.split(".")[-1]
 
-    def with_names(self, text, names):
+    def names_of(self, module):
+        """What each name in a module of specs/ leads to: its own definitions, and what it imports."""
+        if module not in self.named:
+            own = {name: (module, name) for block in self.blocks[module] for name in list(self.heads_of([block.split("where\n")[0]]))[:1]}
+            self.named[module] = own | imports_of(self.texts[module])
+        return self.named[module]
+
+    def sum_of(self, module, block, depth):
+        """A sum of a definition with what it leads to, so many levels down."""
+        key = (module, block, depth)
+        if key not in self.sums:
+            whole = self.with_names(block, self.names_of(module), depth - 1) if depth else block
+            self.sums[key] = hashlib.sha256(whole.encode()).hexdigest()
+        return self.sums[key]
+
+    def with_names(self, text, names, depth=DEPTH):
         """A statement, and after it each name in it that leads somewhere, with what it leads to."""
         words = {part for word in WORD.findall(text) for part in {word, word.split(".")[0]}}
         told = [text]
         for name in sorted(names):
-            if name in words or ("◌" in name and all(sign in text for sign in name.split("◌"))):
-                told.append(f"{name}: {self.led_to(*names[name])}")
+            if name in words or ("◌" in name and all(sign in words for sign in name.split("◌") if sign)):
+                told.append(f"{name}: {self.led_to(*names[name], depth)}")
         return "\n".join(told)
 
     def statements(self):
         found = collections.Counter()
         for module, blocks in self.blocks.items():
-            own = {name: (module, name) for block in blocks for name in list(self.heads_of([block.split("where\n")[0]]))[:1]}
-            names = own | imports_of(self.texts[module])
-            found.update(self.with_names(block, names) for block in blocks)
+            found.update(self.with_names(block, self.names_of(module)) for block in blocks)
         for text in self.sources:
             names = imports_of(text)
             found.update(self.with_names(clause, names) for clause in clauses_of(text))

@@ -42,7 +42,7 @@ CALLERS = [1, 2, 4]
 SIZES = ["--servers", "3", "--racks", "2", "--block", "4", "--chunk", "16"]
 # How a run's processes are disturbed: on one processor, on all, and each of them put after all else.
 DISTURBED = [[], ["nice", "-n", "19"], ["taskset", "-c", "0"], ["taskset", "-c", "0", "nice", "-n", "19"]]
-WRITES, CALLERS = 50, 4
+SOAKED_WRITES, SOAKED_CALLERS = 50, 4
 FEW = 50
 PARTS = [("seconds", "{:.2f}"), ("busy", "{:.2f}"), ("peak", "{:,}"), ("events", "{:,}"), ("sent", "{:,}")]
 
@@ -178,10 +178,10 @@ def script_run(program, before, seed, limit):
 
 
 def callers_run(program, before, limit):
-    told, why = ended([*before, program, "threads", "write", str(CALLERS), str(WRITES)], limit)
+    told, why = ended([*before, program, "threads", "write", str(SOAKED_CALLERS), str(SOAKED_WRITES)], limit)
     if why:
         return why
-    return None if told.split() == [str(CALLERS * WRITES).encode()] else f"accepted {told!r} of {CALLERS * WRITES}"
+    return None if told.split() == [str(SOAKED_CALLERS * SOAKED_WRITES).encode()] else f"accepted {told!r} of {SOAKED_CALLERS * SOAKED_WRITES}"
 
 
 def soak(asked):

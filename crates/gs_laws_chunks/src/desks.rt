@@ -3,7 +3,7 @@
 ghost use Rattle.std.specs.Prelude.{◌≡◌, ◌<◌, ℕ, List, Some};
 ghost use Rattle.gs_base.specs.Told.{IsNumber};
 ghost use Rattle.gs_shell_grammar.specs.Grammar.{At, line_request};
-ghost use Rattle.gs_laws_chunks.specs.desks.Laws.{DesksBeginReached, LinesLeadBySteps, ScriptsEndReached, ServersOfDesksAreReached, LinesAskWithinTypes, DesksBeginWithin, LinesStayWithin, ScriptsEndWithin, DesksWithinKeepTypes, WhatWaitsMayBeSaid, DesksQuietRunsAreSteady, DesksQuietRunsEndSteady, DesksQuietRunsRefuseForMemory, UnfailedRunsAreQuiet, UnfailedDesksAreSteady};
+ghost use Rattle.gs_laws_chunks.specs.desks.Laws.{DesksBeginReached, LinesLeadBySteps, ScriptsEndReached, ServersOfDesksAreReached, LinesAskWithinTypes, DesksBeginWithin, LinesStayWithin, ScriptsEndWithin, DesksWithinKeepTypes, WhatWaitsMayBeSaid, DesksQuietRunsHearWithinTypes, DesksQuietRunsEndSteady, DesksQuietRunsRefuseForMemory, UnfailedRunsAreQuiet, UnfailedDesksAreSteady};
 
 use gs_block::promises::configurations_have_sizes;
 
@@ -40,7 +40,7 @@ pub fn each_script_asks_within_its_types<D>()
     ensures script { ScriptsEndWithin D }
     ensures kept { DesksWithinKeepTypes D }
     ensures waiting { WhatWaitsMayBeSaid D }
-    ensures heard { DesksQuietRunsAreSteady D }
+    ensures heard { DesksQuietRunsHearWithinTypes D }
     ensures steady { DesksQuietRunsEndSteady D }
     ensures refused { DesksQuietRunsRefuseForMemory D }
 {}

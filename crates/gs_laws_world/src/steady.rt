@@ -8,22 +8,22 @@ ghost use Rattle.gs_master_spec.specs.State.{is_failed};
 ghost use Rattle.gs_laws_world.specs.steady.Unarmed.{unarmed};
 ghost use Rattle.gs_laws_world.specs.steady.Steady.{LastsSteady};
 ghost use Rattle.gs_laws_world.specs.steady.Through.{LastsThrough, TellsAt};
-ghost use Rattle.gs_laws_world.specs.steady.Laws.{FirmMastersRefuseMessages, FirmMastersRefuseTicks, SteadyMastersRefuseMessages, SteadyMastersRefuseTicks, NewStoresAreSteady, SteadyRunsStaySteady, UnarmedSteadyRunsStaySteady, NewStoresKeepTypes, RunsKeepTypes, QuietRunsAreSteady, QuietRunsStaySteady, UnarmedQuietRunsStaySteady, SentMessagesAreRefusedForMemory, TicksAreRefusedForMemory, QuietRunsRefuseForMemory, NewStoresLastThrough, RunsLastThrough, UnarmedRunsLastThrough, StepsTellOn, RestartsOpenWhatIsTold, RestartsWaitForWhatIsTold};
+ghost use Rattle.gs_laws_world.specs.steady.Laws.{FirmMastersRefuseMessagesForMemory, FirmMastersRefuseTicksForMemory, SteadyMastersRefuseMessagesForMemory, SteadyMastersRefuseTicksForMemory, NewStoresAreSteady, SteadyRunsStaySteady, UnarmedSteadyRunsStaySteady, NewStoresKeepTypes, RunsKeepTypes, QuietRunsHearWithinTypes, QuietRunsStaySteady, UnarmedQuietRunsStaySteady, SentMessagesAreRefusedForMemory, TicksAreRefusedForMemory, QuietRunsRefuseForMemory, NewStoresLastThrough, RunsLastThrough, UnarmedRunsLastThrough, StepsTellOn, RestartsOpenWhatIsTold, RestartsWaitForWhatIsTold};
 ghost use Rattle.gs_nodes.specs.declared.place.MasterPlace.{MasterPlace};
 ghost use Rattle.gs_nodes.specs.declared.place.MasterPlace.TheVariants.{Standing};
 
 /// A master that stands firm, whose log is within its limit, refuses a message and a tick for want of memory alone, or as `BadLine` where a
 /// record of it can't be written: its records fit what they meet, and have room.
 fn a_firm_master_refuses_for_memory<D>()
-    ensures messages { FirmMastersRefuseMessages D }
-    ensures ticks { FirmMastersRefuseTicks D }
+    ensures messages { FirmMastersRefuseMessagesForMemory D }
+    ensures ticks { FirmMastersRefuseTicksForMemory D }
 {}
 
 /// Where all that such a master keeps is within its types besides, it refuses what it hears and a tick for want of memory alone, since each
 /// record can be written. What it hears is within its types too: its request, and where a call meets names, those.
 fn a_steady_master_refuses_for_memory_alone<D>()
-    ensures messages { SteadyMastersRefuseMessages D }
-    ensures ticks { SteadyMastersRefuseTicks D }
+    ensures messages { SteadyMastersRefuseMessagesForMemory D }
+    ensures ticks { SteadyMastersRefuseTicksForMemory D }
 {}
 
 /// A master stays steady as long as no disk of it fails and what it hears is within its types: it stands firm, all that it keeps is within its
@@ -41,7 +41,7 @@ fn a_master_stays_steady_while_no_disk_fails<D>()
 fn a_store_that_is_asked_within_its_types_keeps_them<D>()
     ensures begun { NewStoresKeepTypes D }
     ensures kept { RunsKeepTypes D }
-    ensures heard { QuietRunsAreSteady D }
+    ensures heard { QuietRunsHearWithinTypes D }
 {}
 
 /// So the master of such a store stays steady while no disk of it fails, and refuses what it is sent, and a tick, for want of memory alone.

@@ -81,8 +81,8 @@ WhatWaitsMayBeSaid D = (seen : D → List ℕ) (failures : D → ℕ) (config : 
     → AllByRecursion (λ message. MayBeSaid message.to message.body) desk.wire.queue.items × AllByRecursion (λ message. MayBeSaid message.to message.body) desk.wire.held.items
 
 -- If no disk failed on the way to such a desk, the master heard all within its types.
-abbrev pub DesksQuietRunsAreSteady : Type 0 → Type 0
-DesksQuietRunsAreSteady D = (seen : D → List ℕ) (failures : D → ℕ) (config : Config) (disks : D × D) (desk : Desk D) (r : IsReachedWithin seen failures config disks desk)
+abbrev pub DesksQuietRunsHearWithinTypes : Type 0 → Type 0
+DesksQuietRunsHearWithinTypes D = (seen : D → List ℕ) (failures : D → ℕ) (config : Config) (disks : D × D) (desk : Desk D) (r : IsReachedWithin seen failures config disks desk)
     → RunsQuietly seen failures unarmed r.reached.steps r.reached.begun (history r.sent (way_of desk.wire))
     → RunsSteadily seen failures unarmed r.reached.steps r.reached.begun (history r.sent (way_of desk.wire))
 

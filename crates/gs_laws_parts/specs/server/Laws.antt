@@ -241,8 +241,8 @@ StoresBeginAtBirth = (among : List ℕ → Bool) (c : Setting) (chunk : ℕ) (b 
 
 -- ---- a chunk that is unborn
 -- A message that says nothing of a chunk leaves it unborn at a server.
-abbrev pub WhatIsUnheardStaysUnborn : Type 0
-WhatIsUnheardStaysUnborn = (chunk : ℕ) (s : Server) (message : Message) (moment : Moment) → KeepsNothing chunk s → SaysNothing chunk message.body
+abbrev pub WhatIsUnsaidStaysUnborn : Type 0
+WhatIsUnsaidStaysUnborn = (chunk : ℕ) (s : Server) (message : Message) (moment : Moment) → KeepsNothing chunk s → SaysNothing chunk message.body
     → StaysUnborn chunk (handle s message moment).after (handle s message moment).sent
 
 -- Where a chunk is born, a server that keeps nothing of it is shown as a member, if it knows no later epoch.

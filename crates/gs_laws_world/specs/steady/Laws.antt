@@ -33,25 +33,25 @@ use Rattle.gs_msg.specs.declared.node.NodeId.TheVariants as nodes
 
 -- ---- what a master refuses
 -- A firm master refuses a message for memory alone, or where a record of it cannot be written.
-abbrev pub FirmMastersRefuseMessages : Type 0 → Type 0
-FirmMastersRefuseMessages D = (seen : D → List ℕ) (failures : D → ℕ) (message : Message) (moment : Moment) (m : MasterOf D) (e : Refusal) (new : MasterPlace D)
+abbrev pub FirmMastersRefuseMessagesForMemory : Type 0 → Type 0
+FirmMastersRefuseMessagesForMemory D = (seen : D → List ℕ) (failures : D → ℕ) (message : Message) (moment : Moment) (m : MasterOf D) (e : Refusal) (new : MasterPlace D)
     → StandsFirm seen m → m.state.log.size ≤ m.state.log.limit → IsNamedBody message.body × IsNumber moment.0
     → MasterHears seen failures message moment (Standing m) (Err e) new → RefusesAlone (handle m.config m.state message moment) e
 
 -- So it does with a tick.
-abbrev pub FirmMastersRefuseTicks : Type 0 → Type 0
-FirmMastersRefuseTicks D = (seen : D → List ℕ) (failures : D → ℕ) (moment : Moment) (m : MasterOf D) (e : Refusal) (new : MasterPlace D) → StandsFirm seen m
+abbrev pub FirmMastersRefuseTicksForMemory : Type 0 → Type 0
+FirmMastersRefuseTicksForMemory D = (seen : D → List ℕ) (failures : D → ℕ) (moment : Moment) (m : MasterOf D) (e : Refusal) (new : MasterPlace D) → StandsFirm seen m
     → m.state.log.size ≤ m.state.log.limit → MasterTicks seen failures moment (Standing m) (Err e) new → RefusesAlone (pressed_all m.state moment) e
 
 -- A steady master refuses a message within its types for memory alone.
-abbrev pub SteadyMastersRefuseMessages : Type 0 → Type 0
-SteadyMastersRefuseMessages D = (seen : D → List ℕ) (failures : D → ℕ) (message : Message) (moment : Moment) (m : MasterOf D) (e : Refusal) (new : MasterPlace D)
+abbrev pub SteadyMastersRefuseMessagesForMemory : Type 0 → Type 0
+SteadyMastersRefuseMessagesForMemory D = (seen : D → List ℕ) (failures : D → ℕ) (message : Message) (moment : Moment) (m : MasterOf D) (e : Refusal) (new : MasterPlace D)
     → StandsFirm seen m → IsSteady m.state → IsNamedBody message.body × IsNumber moment.0 → IsHeardBody m.state.durable.names message.body
     → MasterHears seen failures message moment (Standing m) (Err e) new → e ≡ refusals.Memory
 
 -- So it does with a tick.
-abbrev pub SteadyMastersRefuseTicks : Type 0 → Type 0
-SteadyMastersRefuseTicks D = (seen : D → List ℕ) (failures : D → ℕ) (moment : Moment) (m : MasterOf D) (e : Refusal) (new : MasterPlace D) → StandsFirm seen m
+abbrev pub SteadyMastersRefuseTicksForMemory : Type 0 → Type 0
+SteadyMastersRefuseTicksForMemory D = (seen : D → List ℕ) (failures : D → ℕ) (moment : Moment) (m : MasterOf D) (e : Refusal) (new : MasterPlace D) → StandsFirm seen m
     → IsSteady m.state → MasterTicks seen failures moment (Standing m) (Err e) new → e ≡ refusals.Memory
 
 -- ---- a steady master
@@ -83,8 +83,8 @@ RunsKeepTypes D = (seen : D → List ℕ) (failures : D → ℕ) (armed : DiskId
     → RunsTo seen failures armed steps old new → AllByRecursion IsStepWithin steps → KeepsTypes old → KeepsTypes new
 
 -- If no disk fails in such a run, its master hears all within its types.
-abbrev pub QuietRunsAreSteady : Type 0 → Type 0
-QuietRunsAreSteady D = (seen : D → List ℕ) (failures : D → ℕ) (armed : DiskId → ℕ → MasterPlace D → MasterPlace D) (steps : List Step) (old new : History D)
+abbrev pub QuietRunsHearWithinTypes : Type 0 → Type 0
+QuietRunsHearWithinTypes D = (seen : D → List ℕ) (failures : D → ℕ) (armed : DiskId → ℕ → MasterPlace D → MasterPlace D) (steps : List Step) (old new : History D)
     → RunsQuietly seen failures armed steps old new → AllByRecursion IsStepWithin steps → KeepsTypes old → RunsSteadily seen failures armed steps old new
 
 -- ---- its master
