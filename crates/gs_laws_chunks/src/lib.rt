@@ -20,5 +20,7 @@ pub use accounts::{
     survivors_keep_what_stood_at_the_prepare,
 };
 pub use desks::each_script_asks_within_its_types;
-pub use members::a_rollback_leaves_members_with_the_bytes;
+pub use members::{
+    a_rollback_leaves_members_with_the_bytes, a_rollback_leaves_members_with_the_bytes_of_then,
+};
 pub use refusals::an_edit_that_was_told_refused_is_settled_nowhere;

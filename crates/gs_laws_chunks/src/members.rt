@@ -28,7 +28,7 @@ pub fn a_rollback_leaves_members_with_the_bytes<D>()
 /// After a rollback each chunk that stood in a file at the prepare has a member. Between the two each member has named it, in a message that the commit counts.
 /// Right after the event that sent this message the member had a live replica, each block with its digest. Its bytes were those that each sound replica of a member had right after the prepare.
 /// It has these bytes still in each world after the commit, with two exceptions. Its replica was lost, damaged or dropped since, or it has made a greater promise.
-fn a_rollback_leaves_members_with_the_bytes_of_then<D>()
+pub fn a_rollback_leaves_members_with_the_bytes_of_then<D>()
     ensures kept { (x : Setup D) → RollbackLeavesBytes x }
     ensures told { (x : Setup D) → RollbackLeavesTold x }
 {

@@ -25,7 +25,7 @@ ghost use Rattle.gs_master_spec.specs.Undoing.{EditsAsTold};
 
 /// While a rollback is begun and not done, no view is begun, and no replica is dropped, whatever message comes and at each
 /// tick.
-fn nothing_is_begun_or_dropped_while_rolling_back()
+pub fn nothing_is_begun_or_dropped_while_rolling_back()
     ensures messages { NothingWhileRolling }
     ensures ticks { NothingAtTicks }
 {}

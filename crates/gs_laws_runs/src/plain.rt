@@ -36,7 +36,7 @@ fn each_end_of_an_upgrade_leads()
 {}
 
 /// At each step of a run edits are settled of no chunk that stands at more than one place of the tree: so no other text changes with one.
-fn edits_come_to_one_place_each<D>()
+pub fn edits_come_to_one_place_each<D>()
     ensures { (x : Setup D) → EditsOnePlace x }
 {
     configurations_have_sizes();

@@ -14,7 +14,7 @@ fn a_master_stays_firm_while_no_disk_fails<D>()
 
 /// A restart of a master that stands firm opens what stood, and no more: nothing that was in memory alone is left. Where it isn't opened and no
 /// disk has failed, its disks wait and tell what stood; and a restart of disks that wait opens what they tell.
-fn a_restart_opens_what_stood<D>()
+pub fn a_restart_opens_what_stood<D>()
     ensures opened { RestartsOpenWhatStood D }
     ensures waits { RefusedRestartsWait D }
     ensures again { WaitingDisksAreOpened D }

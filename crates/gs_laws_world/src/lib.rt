@@ -4,3 +4,6 @@
 
 mod lasting;
 mod steady;
+
+pub use lasting::a_restart_opens_what_stood;
+pub use steady::a_master_lasts_through_failures;

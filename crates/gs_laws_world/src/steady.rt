@@ -58,7 +58,7 @@ fn a_master_asked_within_its_types_stays_steady<D>()
 /// wait, they tell something on which a restarted master is steady, whatever log it has. The disks tell one thing, and that is what is durable where no
 /// disk has failed. At a step it stays, or a master of which no disk had failed makes a turn of which so many records stand behind it, perhaps all, and
 /// the others never were. So behind any run a restart opens what stood, or the disks wait, and tell what they told.
-fn a_master_lasts_through_failures<D>()
+pub fn a_master_lasts_through_failures<D>()
     ensures begun { NewStoresLastThrough D }
     ensures kept { RunsLastThrough D }
     ensures unarmed { UnarmedRunsLastThrough D }
