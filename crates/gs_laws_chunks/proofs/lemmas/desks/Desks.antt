@@ -47,13 +47,13 @@ module _ {D : Type 0} (seen : D → List ℕ) (failures : D → ℕ) where
   pub desk_lasts : (config : Config) (disks : D × D) (desk : Desk D) (r : IsReachedWithin seen failures config disks desk) → standing (seen disks.0) (seen disks.1) ≡ fresh
       → RunsQuietly seen failures unarmed r.reached.steps r.reached.begun (history r.sent (way_of desk.wire)) → LastsSteady seen desk.wire.nodes.master
   desk_lasts config disks desk r none quiet =
-      lasts_unarmed unarmed r.reached.steps r.reached.begun (history r.sent (way_of desk.wire)) (λ disk call place. refl) quiet r.within
+      lasts_unarmed seen failures unarmed r.reached.steps r.reached.begun (history r.sent (way_of desk.wire)) (λ disk call place. refl) quiet r.within
       (begins_keeping seen failures unarmed config 1 disks r.reached.begun one_client r.reached.begins)
       (begins_steady seen failures unarmed config 1 disks r.reached.begun none r.reached.begins)
 
   pub desk_for_memory : (config : Config) (disks : D × D) (desk : Desk D) (r : IsReachedWithin seen failures config disks desk) → standing (seen disks.0) (seen disks.1) ≡ fresh
       → (runs : RunsQuietly seen failures unarmed r.reached.steps r.reached.begun (history r.sent (way_of desk.wire))) → RunsForMemory seen failures unarmed r.reached.steps r.reached.begun (history r.sent (way_of desk.wire)) runs
   desk_for_memory config disks desk r none runs =
-      run_for_memory unarmed (λ steps old new runs within keeps h. lasts_unarmed unarmed steps old new (λ disk call place. refl) runs within keeps h) r.reached.steps r.reached.begun (history r.sent (way_of desk.wire)) runs r.within
+      run_for_memory seen failures unarmed (λ steps old new runs within keeps h. lasts_unarmed seen failures unarmed steps old new (λ disk call place. refl) runs within keeps h) r.reached.steps r.reached.begun (history r.sent (way_of desk.wire)) runs r.within
       (begins_keeping seen failures unarmed config 1 disks r.reached.begun one_client r.reached.begins)
       (begins_steady seen failures unarmed config 1 disks r.reached.begun none r.reached.begins)
