@@ -1,4 +1,5 @@
 pub mod answers
+pub mod explained
 pub mod lists
 pub mod plain
 pub mod reads

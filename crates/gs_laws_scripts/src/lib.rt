@@ -1,8 +1,10 @@
 //! The theorems about scripts. What a script answers is a function of its input; scripts of the tree and of upgrades are answered as by
 //! the plain machine; and `ls`, `read` and `digest` answer right after a rollback what they answered right after its prepare.
+//! A plain machine says what each line may be answered; what follows from that is proved, and that a store answers so isn't yet.
 #![tactic(auto)]
 
 mod answers;
+mod explained;
 mod lists;
 mod plain;
 mod reads;
@@ -10,6 +12,7 @@ mod runs;
 mod stops;
 
 pub use answers::a_script_answers_its_input;
+pub use explained::{dialogues_are_explained, looks_come_back, plain_answers_are_a_function};
 pub use lists::what_a_script_lists_behind_a_rollback_is_what_it_listed_behind_its_prepare;
 pub use plain::scripts_are_answered_as_by_the_plain_machine;
 pub use reads::what_a_script_reads_behind_a_rollback_is_what_it_read_behind_its_prepare;

@@ -1,0 +1,5 @@
+pub mod Following
+pub mod Lines
+pub mod Machine
+pub mod Rows
+pub mod Told
