@@ -12,7 +12,6 @@ mod runs;
 mod stops;
 
 pub use answers::a_script_answers_its_input;
-pub use explained::{dialogues_are_explained, looks_come_back, plain_answers_are_a_function};
 pub use lists::what_a_script_lists_behind_a_rollback_is_what_it_listed_behind_its_prepare;
 pub use plain::scripts_are_answered_as_by_the_plain_machine;
 pub use reads::what_a_script_reads_behind_a_rollback_is_what_it_read_behind_its_prepare;
