@@ -8,7 +8,6 @@ use gs_cluster::{Caller, Cluster, Opened, Whole};
 use gs_cluster_node::{Open, Plan};
 use gs_journal::MemoryDisk;
 use gs_nodes::{Nodes, empty_disks};
-use gs_path::Path;
 use gs_shell_desk::{Desk as OneThread, Wire};
 use gs_shell_script::Answering;
 use gs_shell_threads::Desk;
@@ -23,10 +22,6 @@ use std::time::Clock;
 
 /// How many writes each caller makes.
 const WRITES: u64 = 50;
-
-/// A path of 64 elements, the most that one has that is read.
-const DEEPEST: &'static str =
-    "/d/d/d/d/d/d/d/d/d/d/d/d/d/d/d/d/d/d/d/d/d/d/d/d/d/d/d/d/d/d/d/d/d/d/d/d/d/d/d/d/d/d/d/d/d/d/d/d/d/d/d/d/d/d/d/d/d/d/d/d/d/d/d/d";
 
 /// What a caller was answered: how many lines were accepted, how many were unsure, and whether a read gave all that was written in the end.
 #[derive(Drop)]
@@ -269,52 +264,6 @@ fn four_callers_write_at_once(rt: HostRuntime) -> Result<(), Fail> {
     let came = delivered(alloc, &sent, &events)?;
     assert!(rt; came.saturating_mul(4) >= many_sent(&sent).saturating_mul(3));
     assert!(rt; sends_the_same(alloc, config, &sent, events)?);
-    Ok(())
-}
-
-/// Whether a call that names a path of 65 elements is refused for that, and one that names a path of 64 is taken.
-fn takes_64<N: Plan, T: Wait + Clock + Drop>(
-    alloc: Global,
-    config: Config,
-    link: &mut Caller<N, MemoryDisk, T>,
-) -> Result<bool, Refusal> {
-    let mut caller = gs_shell_calls::Caller::new(alloc, ClientId(1), config);
-    let path = Path::parse(alloc, DEEPEST)?;
-    let Some(name) = path.name() else {
-        return Ok(false);
-    };
-    let deep = path.join(alloc, name)?;
-    let refused = caller.client.mkdirs(link, deep);
-    let taken = caller.client.mkdirs(link, path);
-    Ok(matches!(refused, Err(Refusal::BadPath)) && taken.is_ok())
-}
-
-/// The same of the one caller of a cluster, which is finished behind it.
-fn cluster_takes_64<
-    N: Plan + Send + Sync + 'static,
-    T: Threads + Wait + Clock + Copy + Drop + Send + Sync + 'static,
->(rt: &T, alloc: Global, opened: Opened<MemoryDisk>) -> Result<bool, Refusal>
-    requires names { N.names ≡ names_of N.setting.config.servers opened.seeds.items }
-    requires config { opened.config ≡ N.setting.config }
-    requires new { IsNew bytes_of times_failed N.setting opened.seeds.items }
-{
-    let config = opened.config;
-    let (cluster, callers) = Cluster::<N, MemoryDisk>::start(rt, alloc, Open, opened)?;
-    let mut callers = callers;
-    let Some(link) = callers.first_mut() else {
-        return Err(Refusal::Stray);
-    };
-    let takes = takes_64(alloc, config, link)?;
-    let _nodes = cluster.finish(rt, callers)?;
-    Ok(takes)
-}
-
-#[test]
-fn a_path_of_65_elements_is_refused(rt: HostRuntime) -> Result<(), Fail> {
-    let alloc = rt.alloc();
-    let config = Config::new(1, 1, 1, 4, 16)?;
-    let opened = Opened::new(alloc, config, 1, empty_disks(alloc))?;
-    assert!(rt; cluster_takes_64::<Brand, HostRuntime>(&rt, alloc, opened)?);
     Ok(())
 }
 
