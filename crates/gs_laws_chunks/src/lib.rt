@@ -17,11 +17,11 @@ pub use accounts::{
     all_chunks_are_seen_whatever_disks_fail, an_accepted_rollback_gives_the_names_back,
     blocks_that_stand_are_all_blocks, copies_inherit, done_edits_stay,
     each_chunk_of_a_store_is_a_run_of_its_machine, each_edit_was_asked_for,
-    each_rollback_is_of_a_prepare, epochs_never_fall, locations_were_looked_up,
-    no_rollback_is_done_unnamed, one_survivor_is_enough, quiet_chunks_are_still, reads_are_legal,
-    replicas_stand_for_beginnings_of_lists, runs_have_accounts, runs_stay_sound,
-    survivors_keep_what_stood_at_the_prepare, what_accounts_have_as_machines_stays,
-    what_the_records_tell_is_what_the_master_has,
+    each_rollback_is_of_a_prepare, each_world_has_an_account, epochs_never_fall,
+    locations_were_looked_up, no_rollback_is_done_unnamed, one_survivor_is_enough,
+    quiet_chunks_are_still, reads_are_legal, replicas_stand_for_beginnings_of_lists,
+    runs_have_accounts, runs_stay_sound, survivors_keep_what_stood_at_the_prepare,
+    what_accounts_have_as_machines_stays, what_the_records_tell_is_what_the_master_has,
 };
 pub use answers::{
     an_answer_is_made_for_its_call, names_stand_while_a_client_looks,

@@ -2,6 +2,7 @@
 #![tactic(auto)]
 
 mod answers;
+mod bytes;
 mod lists;
 mod plain;
 mod reads;
@@ -9,6 +10,7 @@ mod runs;
 mod stops;
 
 pub use answers::a_script_answers_its_input;
+pub use bytes::{run_by_a_function, run_listing, run_plainly, run_twice};
 pub use lists::{
     what_a_script_lists_behind_a_rollback_is_what_it_listed_behind_its_prepare,
     what_is_listed_twice_by_lines_is_the_same,
