@@ -4,3 +4,6 @@
 
 mod lasting;
 mod steady;
+mod worlds;
+
+pub use worlds::{each_world_is_reached, new_world, run_world};
