@@ -1,5 +1,5 @@
-//! The program: a store's shell over standard input and standard output. It reads the command line, then runs `gs_shell::run`, or with
-//! `--threads` `run_threads` of `gs_shell_threads`. The status is 0 at the end of the input, 2 if the words are refused, and 1 if the
+//! The program: a store's shell over standard input and standard output. It reads the command line, then runs `gs_shell::run_telling`,
+//! or with `--threads` `run_threads` of `gs_shell_threads`. The status is 0 at the end of the input, 2 if the words are refused, and 1 if the
 //! run can't begin, doesn't end well, or a read or a write fails.
 #![tactic(auto)]
 
@@ -16,7 +16,7 @@ use std::time::Clock;
 /// Says on standard error what went wrong within the store.
 fn tell(rt: &impl Eprint, trouble: &Trouble) {
     if trouble.was_short {
-        let _ = eprintln!(rt; "chunkstore: memory was wanting within the store");
+        let _ = eprintln!(rt; "chunkstore: no memory was left for something within the store");
     }
     if trouble.has_disk_failed {
         let _ = eprintln!(rt; "chunkstore: a disk of the store has failed");

@@ -2,6 +2,7 @@ pub mod Accepting
 pub mod Accounts
 pub mod Acknowledged
 pub mod Agreeing
+pub mod Among
 pub mod Asked
 pub mod Back
 pub mod Copying
@@ -24,4 +25,3 @@ pub mod SeenReads
 pub mod SeenThrough
 pub mod Standing
 pub mod Upgrading
-pub mod Among

@@ -8,14 +8,14 @@ use Rattle.gs_shell_script.specs.Run.{lines_of, memory_text, unlines}
 use Rattle.gs_shell_script.specs.declared.RunFault.{RunFault}
 use Rattle.gs_shell_script.specs.declared.RunFault.TheVariants as fault
 
--- Nothing went wrong within the store, and no answer is that memory was wanting.
+-- Nothing went wrong within the store, and no answer is that there was no memory left.
 pub record IsUntroubled (trouble : Trouble) (texts : List (List ℕ)) : Type 0 where
   pub enough : trouble.was_short ≡ false
   pub sound : trouble.has_disk_failed ≡ false
   pub answered : AllByRecursion (λ text. text ≢ memory_text) texts
 
--- For what is to hold of lines, each with its end, and the texts that answer them, each without. Where as many line ends are written as lines are answered,
--- the texts are what stands between these.
+-- For what is to hold of lines, each with its end, and of the texts that answer them, each without. If as many line ends are written as lines are answered, the texts
+-- are what stands between these.
 module _ (P : List (List ℕ) → List (List ℕ) → Type 0) where
   -- All lines of the input are answered, each by one text, and this holds of them.
   pub record AnswersAll (input : List ℕ) (old new : Option (List ℕ)) : Type 0 where

@@ -18,7 +18,7 @@ abbrev pub has_failed_in : {D : Type 0} → Option (Watched D × Watched D) → 
 has_failed_in None = false
 has_failed_in (Some disks) = if disks.0.has_failed then true else disks.1.has_failed
 
--- It is told whether the desk has noted that memory was wanting, and whether a disk of the master's journal has failed.
+-- It is told whether the desk has noted that no memory was left for something, and whether a disk of the master's journal has failed.
 pub record IsTold {D : Type 0} (trouble : Trouble) (desk : Desk (Watched D)) : Type 0 where
   pub short : trouble.was_short ≡ desk.wire.is_short
   pub failed : trouble.has_disk_failed ≡ has_failed_in (disks_of desk.wire.nodes.master)

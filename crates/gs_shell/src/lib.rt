@@ -29,8 +29,8 @@ pub use watched::Watched;
 /// then. Where the disks can't be opened or memory is lacking for the nodes, the fault is `Refused`, and nothing is read or
 /// written. A read or a write that fails ends the run as [`gs_shell_script::run`] says.
 ///
-/// Beside how the run ended it tells what went wrong within the store: whether memory was wanting there, which answers need not show,
-/// and whether a disk has failed. Of a store that doesn't begin it tells that nothing did.
+/// With how the run ended it tells what went wrong within the store: whether no memory was left for something there, which answers
+/// need not show, and whether a disk has failed. Of a store that doesn't begin it tells that nothing did.
 pub fn run_over<D: Disk + Drop, R: BufRead, W: Write>(
     alloc: Global,
     config: Config,
@@ -64,7 +64,7 @@ pub fn run_telling<R: BufRead, W: Write>(
     run_over(alloc, config, disks, reader, writer)
 }
 
-/// Begins a new store, and answers the lines of the reader, as [`run_telling`] does, which it tells nothing of.
+/// Begins a new store, and answers the lines of the reader, as [`run_telling`] does. It doesn't tell what went wrong.
 /// What it writes is a function of what it reads (`a_script_answers_its_input` of `gs_laws_scripts`), and what it leaves is a store behind a
 /// run (`each_script_is_reached` of `gs_laws_scripts`), so what holds over every run holds of it. Lines of the tree and of upgrades are
 /// answered as by the plain machine (`scripts_are_answered_as_by_the_plain_machine` of `gs_laws_scripts`). What `ls`, `read` and `digest` are

@@ -12,7 +12,7 @@ use std::mem;
 /// What went wrong within a store.
 #[derive(Clone, Copy, Debug)]
 pub struct Trouble {
-    /// Memory was wanting for a message, or for what a node or the client was to do.
+    /// No memory was left for a message, or for what a node or the client was to do.
     pub was_short: bool,
     /// A disk of the master's journal has failed.
     pub has_disk_failed: bool,

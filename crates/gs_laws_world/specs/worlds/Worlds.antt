@@ -38,7 +38,7 @@ IsWithin event = IsStepWithin (Comes event)
 
 -- For what is seen of a disk, how often one has failed, and how failures are arranged; and with what a store begins.
 module _ {D : Type 0} (seen : D → List ℕ) (failures : D → ℕ) (armed : DiskId → ℕ → MasterPlace D → MasterPlace D) (config : Config) (clients : ℕ) (disks : D × D) where
-  -- a store that has begun over these disks, behind steps each of which is within its types
+  -- a store that has begun over these disks, after steps each of which is within its types
   pub record IsReachedSo (now : History D) : Type 0 where
     pub reached : IsReached seen failures armed config clients disks now
     pub within : AllByRecursion IsStepWithin reached.steps
@@ -49,11 +49,11 @@ module _ {D : Type 0} (seen : D → List ℕ) (failures : D → ℕ) (armed : Di
   abbrev pub BeginsSo : Type 0
   BeginsSo = (new : History D) → Begins seen failures armed config clients disks new → IsReachedSo new
 
-  -- and one behind events of which this is told, each within its types
+  -- and one after events of which this is told, each within its types
   abbrev pub GoesOnSo : Type 0
   GoesOnSo = (events : List Event) (outcomes : List Outcome) (old new : History D) → IsReachedSo old → AreOutcomes seen failures armed events outcomes old new → AllByRecursion IsWithin events → IsReachedSo new
 
-  -- and behind one
+  -- and after one
   abbrev pub StepsSo : Type 0
   StepsSo = (event : Event) (outcome : Outcome) (old new : History D) → IsReachedSo old → IsOutcome seen failures armed event old outcome new → IsWithin event → IsReachedSo new
 
