@@ -22,6 +22,7 @@ ghost use Rattle.gs_laws_chunks.specs.accounts.Seeing.{EachIsSeen, EachSeesOn, S
 ghost use Rattle.gs_laws_chunks.specs.accounts.Accepting.{CommitsAreDecided, CommitsDoOneThing, MembersHaveNamed, NoneGoesBackUnnamed, OneSurvivorIsEnough, SurvivorsAreAccepted};
 ghost use Rattle.gs_laws_chunks.specs.accounts.Back.{EachIsOfAPrepare, GivesBytesBack, GivesNamesBack, GivesNamesTold, GivesNoOtherBack, GivesReplicasBack, GivesSettledBack, KeepsBytes, NoOtherText, ToldBytesBack, ToldKeepsBytes, ToldNamesBack};
 ghost use Rattle.gs_block.specs.Written.{HasBlocks};
+ghost use Rattle.gs_laws_chunks.specs.accounts.Reaching.{EachWorldHasAnAccount};
 
 use gs_block::promises::configurations_have_sizes;
 use gs_laws_server::{a_message_edits_a_replica_by_what_it_says, an_event_calls_what_it_says};
@@ -37,6 +38,12 @@ pub fn runs_have_accounts<D>()
 /// Behind each run in which no disk may fail the master stands firm, or its disks wait and tell one; all that was sent keeps to its types; and in each step none fails.
 fn runs_stay_sound<D>()
     ensures { (x : Setup D) → ReachedStaySound x }
+{}
+
+/// A store of `World` that is reached by events within their types, over disks that said nothing, is reached by a run in which disks may fail (`each_world_is_reached` of `gs_laws_world` says which are reached so). So what holds of each
+/// store that is reached holds of it, where different blocks that its servers ever had have different digests.
+pub fn each_world_has_an_account<D>()
+    ensures { EachWorldHasAnAccount D }
 {}
 
 /// Where the empty block is among some, and each block of a text up to its end, so is whatever is cut out at any place of a block.

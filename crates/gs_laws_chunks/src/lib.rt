@@ -15,8 +15,9 @@ pub use accounts::{
     a_commit_is_decided_by_what_was_named, a_rollback_gives_back_names_and_bytes,
     a_rollback_gives_back_what_was_settled, an_accepted_rollback_gives_the_names_back,
     copies_inherit, done_edits_stay, each_edit_was_asked_for, each_rollback_is_of_a_prepare,
-    epochs_never_fall, no_rollback_is_done_unnamed, one_survivor_is_enough, quiet_chunks_are_still,
-    reads_are_legal, replicas_stand_for_beginnings_of_lists, runs_have_accounts,
+    each_world_has_an_account, epochs_never_fall, no_rollback_is_done_unnamed,
+    one_survivor_is_enough, quiet_chunks_are_still, reads_are_legal,
+    replicas_stand_for_beginnings_of_lists, runs_have_accounts,
     survivors_keep_what_stood_at_the_prepare,
 };
 pub use desks::each_script_asks_within_its_types;

@@ -1,2 +1,3 @@
 pub mod lasting
 pub mod steady
+pub mod worlds

@@ -4,6 +4,8 @@
 
 mod lasting;
 mod steady;
+mod worlds;
 
 pub use lasting::a_restart_opens_what_stood;
 pub use steady::a_master_lasts_through_failures;
+pub use worlds::{each_world_is_reached, new_world, run_world};

@@ -1,1 +1,4 @@
+pub mod Answering
 pub mod Serving
+pub mod Telling
+pub mod Watching

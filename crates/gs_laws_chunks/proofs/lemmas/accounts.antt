@@ -68,3 +68,4 @@ pub mod MasterSays
 pub mod Cutting
 pub mod ToldBack
 pub mod Rising
+pub mod Reaching

@@ -2,3 +2,4 @@ pub mod Dialogues
 pub mod Lines
 pub mod Texts
 pub mod Scripts
+pub mod Listing

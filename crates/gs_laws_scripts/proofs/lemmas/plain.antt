@@ -8,3 +8,4 @@ pub mod Upgrades
 pub mod Beginning
 pub mod Answering
 pub mod Stopping
+pub mod Untroubled

@@ -194,7 +194,7 @@ module _ {D : Type 0} (seen : D → List ℕ) (failures : D → ℕ) where
 
 module _ {D : Type 0} (law : (seen : D → List ℕ) (failures : D → ℕ) (config : Config) (disks : D × D) → ListTheSame seen failures config disks) where
   -- lines that are answered one after the other from a store's beginning on
-  from_start : (seen : D → List ℕ) (failures : D → ℕ) (config : Config) (disks : D × D) → standing (seen disks.0) (seen disks.1) ≡ fresh → (begun ended : Desk D) → Starts seen failures config disks begun → (all texts : List (List ℕ)) → Lines_run seen failures begun all texts ended
+  pub from_start : (seen : D → List ℕ) (failures : D → ℕ) (config : Config) (disks : D × D) → standing (seen disks.0) (seen disks.1) ≡ fresh → (begun ended : Desk D) → Starts seen failures config disks begun → (all texts : List (List ℕ)) → Lines_run seen failures begun all texts ended
       → scripts.ListTheSame all texts
   from_start seen failures config disks standing_new begun ended starts all texts runs path epoch had has q =
       same_texts seen failures config disks (law seen failures config disks) standing_new begun ended (start_reaches seen failures config disks begun starts) all texts path epoch had has q runs

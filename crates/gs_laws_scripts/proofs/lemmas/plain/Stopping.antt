@@ -52,7 +52,7 @@ module _ {D : Type 0} (seen : D → List ℕ) (failures : D → ℕ) (config : C
       scripts_are_plain seen failures config disks input None None (record { begun = begun; ended = desk; starts = starts; writes = record { texts = texts; runs = runs; whole = tt } }) well
 
   -- lines at the beginning of an input are all lines of a shorter one
-  first_lines : (begun desk : Desk D) → Starts seen failures config disks begun → (input : List ℕ) (lines more texts : List (List ℕ)) → lines_of input ≡ lines ++ more → Runs (AnswersText seen failures) begun lines texts desk → WentWell seen failures disks texts desk → ArePlain lines texts
+  pub first_lines : (begun desk : Desk D) → Starts seen failures config disks begun → (input : List ℕ) (lines more texts : List (List ℕ)) → lines_of input ≡ lines ++ more → Runs (AnswersText seen failures) begun lines texts desk → WentWell seen failures disks texts desk → ArePlain lines texts
   first_lines begun desk starts input lines more texts parts runs well =
       let is : lines_of (front (length lines) input) ≡ lines = lines_of_front (length lines) input ∙ ap (take (length lines)) parts ∙ take_front lines more in
       subst (λ ls. ArePlain ls texts) is (whole_input begun desk starts (front (length lines) input) texts (subst (λ ls. Runs (AnswersText seen failures) begun ls texts desk) (sym is) runs) well)

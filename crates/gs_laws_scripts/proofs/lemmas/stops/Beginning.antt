@@ -26,6 +26,12 @@ module _ {D : Type 0} (seen : D → List ℕ) (failures : D → ℕ) (config : C
   whole_input begun desk starts input texts runs well =
       (script_is_answered seen failures config disks well.empty.0 well.empty.1 input None None (record { begun = begun; ended = desk; starts = starts; writes = record { texts = texts; runs = runs; whole = tt } }) well).0
 
+  -- lines at the beginning of an input are answered by the function, whatever comes after them
+  pub by_the_function : (begun desk : Desk D) → Starts seen failures config disks begun → (input : List ℕ) (lines more texts : List (List ℕ)) → lines_of input ≡ lines ++ more → Runs (AnswersText seen failures) begun lines texts desk → WentWell seen failures disks texts desk → texts ≡ (answers_all lines (begins config)).0
+  by_the_function begun desk starts input lines more texts parts runs well =
+      let is : lines_of (front (length lines) input) ≡ lines = lines_of_front (length lines) input ∙ ap (take (length lines)) parts ∙ take_front lines more in
+      whole_input begun desk starts (front (length lines) input) texts (subst (λ ls. Runs (AnswersText seen failures) begun ls texts desk) (sym is) runs) well ∙ ap (λ ls. (answers_all ls (begins config)).0) is
+
   -- lines at the beginning of an input are all lines of a shorter one
   first_lines : (begun desk : Desk D) → Starts seen failures config disks begun → (input : List ℕ) (lines more texts : List (List ℕ)) → lines_of input ≡ lines ++ more → Runs (AnswersText seen failures) begun lines texts desk → WentWell seen failures disks texts desk → AnswerBeginning config input lines texts
   first_lines begun desk starts input lines more texts parts runs well =
