@@ -37,7 +37,7 @@ use Rattle.gs_msg.specs.declared.message.Message.{Message}
 use Rattle.gs_master_record.specs.Plain.{PlainEntry, Edited, Said, Propose, Settle, Prepare, Finalize, RollbackBegin, RollbackCommit, Whole, Holder, Rename}
 use Rattle.gs_view.specs.Choice.{Chooses}
 use Rattle.gs_view.specs.declared.poll.Poll.{Poll}
-use Rattle.gs_master_spec.specs.Calls.{found_chunk, is_always_taken, is_locked, is_work, refused_before, renames}
+use Rattle.gs_master_spec.specs.Calls.{found_chunk, is_always_taken, is_any_deep, is_locked, is_work, refused_before, renames}
 use Rattle.gs_master_spec.specs.Applied.{applied, held_by, replayed, is_fresh, is_prepared_on, is_since, is_visible, is_whole_entry, with_reply}
 use Rattle.gs_master_spec.specs.Chunks.{Chunk, view_by, may_settle}
 use Rattle.gs_master_spec.specs.Durable.{Durable, Settled, start, is_given, is_ordinary, is_rolling, upgrade_epoch, has_its_primary, prepared_view, is_listed}
@@ -335,9 +335,9 @@ NothingAtTicks = (s : State) (moment : Moment) → is_rolling s.durable.phase �
 
 -- ---- locks
 
--- what comes before locks doesn't refuse the call: a disk that has failed, a rollback, a prepare
+-- what comes before locks doesn't refuse the call: a disk that has failed, a rollback, a prepare, a path of more than 64 elements
 abbrev pub comes_to_locks : State → Call → Bool
-comes_to_locks s call = not (is_failed s.fault) && (not (is_rolling s.durable.phase && not (is_always_taken call)) && not (s.volatile.is_preparing && is_work call))
+comes_to_locks s call = not (is_failed s.fault) && (not (is_rolling s.durable.phase && not (is_always_taken call)) && (not (s.volatile.is_preparing && is_work call) && not (is_any_deep call)))
 
 -- A new call is refused for its locks exactly where it comes to them, and one of a call that waits is in the way.
 abbrev pub LockedExactly : Type 0

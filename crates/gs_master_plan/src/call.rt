@@ -143,7 +143,8 @@ impl<'a> Standing<'a> {
     pub fn refused_before(&self, req: ReqId, call: &Call) -> Result<Option<Refusal>, AllocError>
         ensures { IfOk result (λ refusal. refusal ≡ refused_before (state_of self.entry.now) req call.now) }
     {
-        let is_locked = self.is_locked(req, call)?;
+        // (a deep path is refused whatever is locked, and to look for its locks takes the square of its length)
+        let is_locked = !is_any_deep(call) && self.is_locked(req, call)?;
         Ok(self.refused_where(call, is_locked))
     }
 
@@ -181,11 +182,11 @@ impl<'a> Standing<'a> {
         if self.memory.is_preparing() && is_work(call) {
             return Some(Refusal::Preparing);
         }
-        if is_locked {
-            return Some(Refusal::Locked);
-        }
         if is_any_deep(call) {
             return Some(Refusal::BadPath);
+        }
+        if is_locked {
+            return Some(Refusal::Locked);
         }
         if is_any_hidden(call) {
             return Some(Refusal::HiddenName);

@@ -149,7 +149,7 @@ is_work call = false
 
 abbrev pub ordered : Bool → Bool → Bool → Bool → Call → List (Bool × Refusal)
 ordered failed rolling preparing locked call =
-    (failed, refusals.Device) ∷ (rolling && not (is_always_taken call), refusals.RollingBack) ∷ (preparing && is_work call, refusals.Preparing) ∷ (locked, refusals.Locked) ∷ (is_any_deep call, refusals.BadPath) ∷ (is_any_hidden call, refusals.HiddenName) ∷ []
+    (failed, refusals.Device) ∷ (rolling && not (is_always_taken call), refusals.RollingBack) ∷ (preparing && is_work call, refusals.Preparing) ∷ (is_any_deep call, refusals.BadPath) ∷ (locked, refusals.Locked) ∷ (is_any_hidden call, refusals.HiddenName) ∷ []
 
 abbrev pub refused_before : State → ReqId → Call → Option Refusal
 refused_before s req call = first_of (ordered (is_failed s.fault) (is_rolling s.durable.phase) s.volatile.is_preparing (is_locked s req call) call)
@@ -265,18 +265,15 @@ then_rolling_back = refl
 then_preparing : first_of (ordered false false true true (calls.Create f)) ≡ Some refusals.Preparing
 then_preparing = refl
 
-then_locked : first_of (ordered false false false true (calls.Create f)) ≡ Some refusals.Locked
-then_locked = refl
-
 -- of so many elements
 abbrev deep : ℕ → Path
 deep count = replicate count (codes "f")
 
-then_deep : first_of (ordered false false false false (calls.Create (codes ".deleted.x" ∷ deep 64))) ≡ Some refusals.BadPath
+then_deep : first_of (ordered false false false true (calls.Create (codes ".deleted.x" ∷ deep 64))) ≡ Some refusals.BadPath
 then_deep = refl
 
-a_lock_before_a_deep_path : first_of (ordered false false false true (calls.Create (deep 65))) ≡ Some refusals.Locked
-a_lock_before_a_deep_path = refl
+then_locked : first_of (ordered false false false true (calls.Create (codes ".deleted.x" ∷ []))) ≡ Some refusals.Locked
+then_locked = refl
 
 of_64_it_is_taken : first_of (ordered false false false false (calls.Create (deep 64))) ≡ None
 of_64_it_is_taken = refl

@@ -133,10 +133,7 @@ impl Recorded {
 fn take_back(alloc: Global, names: &mut Names, listed: &ListedInverse) -> Result<(), Refusal>
     ensures { TakesBackOne (plain_inverse listed.now) names.old result names.new }
 {
-    let inverse = match listed.inverse(alloc) {
-        Ok(inverse) => inverse,
-        Err(refusal) => return Err(refusal),
-    };
+    let inverse = listed.inverse(alloc)?;
     names.undo(&inverse)
 }
 
@@ -258,10 +255,7 @@ impl Recorded {
         if !self.may_commit(epoch) {
             return Err(Refusal::BadLine);
         }
-        let names = match self.given_back(back) {
-            Ok(names) => names,
-            Err(refusal) => return Err(refusal),
-        };
+        let names = self.given_back(back)?;
         let listed = names.refs().entries(self.alloc)?;
         if !self.are_answers(&listed, answered) {
             return Err(Refusal::BadLine);

@@ -50,15 +50,15 @@ pub record Passes (s : State) (call : Call) : Type 0 where
 pub passes : (s : State) (req : ReqId) (call : Call) → refused_before s req call ≡ None → Passes s call
 passes s req call e =
     let hidden = (is_any_hidden call, refusals.HiddenName) ∷ [] in
-    let deep = (is_any_deep call, refusals.BadPath) ∷ hidden in
-    let locked = (is_locked s req call, refusals.Locked) ∷ deep in
-    let preparing = (s.volatile.is_preparing && is_work call, refusals.Preparing) ∷ locked in
+    let locked = (is_locked s req call, refusals.Locked) ∷ hidden in
+    let deep = (is_any_deep call, refusals.BadPath) ∷ locked in
+    let preparing = (s.volatile.is_preparing && is_work call, refusals.Preparing) ∷ deep in
     let rolling = (is_rolling s.durable.phase && not (is_always_taken call), refusals.RollingBack) ∷ preparing in
     let one = first_test (is_failed s.fault) refusals.Device rolling e in
     let two = first_test (is_rolling s.durable.phase && not (is_always_taken call)) refusals.RollingBack preparing one.1 in
-    let three = first_test (s.volatile.is_preparing && is_work call) refusals.Preparing locked two.1 in
-    let four = first_test (is_locked s req call) refusals.Locked deep three.1 in
-    let five = first_test (is_any_deep call) refusals.BadPath hidden four.1 in
+    let three = first_test (s.volatile.is_preparing && is_work call) refusals.Preparing deep two.1 in
+    let four = first_test (is_any_deep call) refusals.BadPath locked three.1 in
+    let five = first_test (is_locked s req call) refusals.Locked hidden four.1 in
     record { rolling = two.0; preparing = three.0; hidden = (first_test (is_any_hidden call) refusals.HiddenName [] five.1).0 }
 
 pub left_false : (b : Bool) → (b && true) ≡ false → b ≡ false

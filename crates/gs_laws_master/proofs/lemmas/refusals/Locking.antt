@@ -11,31 +11,32 @@ use Rattle.gs_master_spec.specs.State.{first_of, is_failed}
 use Rattle.gs_laws_master.specs.Promises.{LockedExactly, RefusedAtLocks}
 
 abbrev first : Bool → Bool → Bool → Bool → Bool → Bool → Option Refusal
-first failed rolling preparing locked deep hidden =
-    first_of ((failed, refusals.Device) ∷ (rolling, refusals.RollingBack) ∷ (preparing, refusals.Preparing) ∷ (locked, refusals.Locked) ∷ (deep, refusals.BadPath) ∷ (hidden, refusals.HiddenName) ∷ [])
+first failed rolling preparing deep locked hidden =
+    first_of ((failed, refusals.Device) ∷ (rolling, refusals.RollingBack) ∷ (preparing, refusals.Preparing) ∷ (deep, refusals.BadPath) ∷ (locked, refusals.Locked) ∷ (hidden, refusals.HiddenName) ∷ [])
 
-first_locked : (a b c l d h : Bool) → first a b c l d h ≡ Some refusals.Locked → ((not a && (not b && not c)) ≡ true) × (l ≡ true)
-first_locked true b c l d h e = absurd cc
-first_locked false true c l d h e = absurd cc
-first_locked false false true l d h e = absurd cc
-first_locked false false false true d h e = (refl, refl)
-first_locked false false false false true h e = absurd cc
+first_locked : (a b c d l h : Bool) → first a b c d l h ≡ Some refusals.Locked → ((not a && (not b && (not c && not d))) ≡ true) × (l ≡ true)
+first_locked true b c d l h e = absurd cc
+first_locked false true c d l h e = absurd cc
+first_locked false false true d l h e = absurd cc
+first_locked false false false true l h e = absurd cc
+first_locked false false false false true h e = (refl, refl)
 first_locked false false false false false true e = absurd cc
 first_locked false false false false false false e = absurd (false≢true (ap is_some e))
 
-locked_first : (a b c l d h : Bool) → (not a && (not b && not c)) ≡ true → l ≡ true → first a b c l d h ≡ Some refusals.Locked
-locked_first true b c l d h none is = absurd (false≢true none)
-locked_first false true c l d h none is = absurd (false≢true none)
-locked_first false false true l d h none is = absurd (false≢true none)
-locked_first false false false true d h none is = refl
-locked_first false false false false d h none is = absurd (false≢true is)
+locked_first : (a b c d l h : Bool) → (not a && (not b && (not c && not d))) ≡ true → l ≡ true → first a b c d l h ≡ Some refusals.Locked
+locked_first true b c d l h none is = absurd (false≢true none)
+locked_first false true c d l h none is = absurd (false≢true none)
+locked_first false false true d l h none is = absurd (false≢true none)
+locked_first false false false true l h none is = absurd (false≢true none)
+locked_first false false false false true h none is = refl
+locked_first false false false false false h none is = absurd (false≢true is)
 
 pub locked_exactly : LockedExactly
 locked_exactly s req call =
     let rolling = is_rolling s.durable.phase && not (is_always_taken call) in
     let preparing = s.volatile.is_preparing && is_work call in (
-      first_locked (is_failed s.fault) rolling preparing (is_locked s req call) (is_any_deep call) (is_any_hidden call),
-      λ h. locked_first (is_failed s.fault) rolling preparing (is_locked s req call) (is_any_deep call) (is_any_hidden call) h.0 h.1,
+      first_locked (is_failed s.fault) rolling preparing (is_any_deep call) (is_locked s req call) (is_any_hidden call),
+      λ h. locked_first (is_failed s.fault) rolling preparing (is_any_deep call) (is_locked s req call) (is_any_hidden call) h.0 h.1,
     )
 
 pub refused_at_locks : RefusedAtLocks

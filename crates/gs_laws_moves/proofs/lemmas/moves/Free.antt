@@ -38,14 +38,16 @@ use Rattle.gs_laws_moves.specs.moves.Guards.{IsFree, waits_for_copy, waits_to_co
 
 not_locked : (s : State) (req : ReqId) (call : Call) → refused_before s req call ≡ None → is_locked s req call ≡ false
 not_locked s req call e =
-    let further = (is_any_deep call, refusals.BadPath) ∷ (is_any_hidden call, refusals.HiddenName) ∷ [] in
-    let locked = (is_locked s req call, refusals.Locked) ∷ further in
-    let preparing = (s.volatile.is_preparing && is_work call, refusals.Preparing) ∷ locked in
+    let hidden = (is_any_hidden call, refusals.HiddenName) ∷ [] in
+    let locked = (is_locked s req call, refusals.Locked) ∷ hidden in
+    let deep = (is_any_deep call, refusals.BadPath) ∷ locked in
+    let preparing = (s.volatile.is_preparing && is_work call, refusals.Preparing) ∷ deep in
     let rolling = (is_rolling s.durable.phase && not (is_always_taken call), refusals.RollingBack) ∷ preparing in
     let one = first_test (is_failed s.fault) refusals.Device rolling e in
     let two = first_test (is_rolling s.durable.phase && not (is_always_taken call)) refusals.RollingBack preparing one.1 in
-    let three = first_test (s.volatile.is_preparing && is_work call) refusals.Preparing locked two.1 in
-    (first_test (is_locked s req call) refusals.Locked further three.1).0
+    let three = first_test (s.volatile.is_preparing && is_work call) refusals.Preparing deep two.1 in
+    let four = first_test (is_any_deep call) refusals.BadPath locked three.1 in
+    (first_test (is_locked s req call) refusals.Locked hidden four.1).0
 
 pub free_of : (s : State) (req : ReqId) (call : Call) → is_pending s.volatile.pending req ≡ false → refused_before s req call ≡ None → IsFree s req (reads_of_call call) (writes_of_call s.durable.names call)
 free_of s req call new passed = record { new = new; free = not_locked s req call passed }

@@ -87,8 +87,8 @@ tests_left rolling preparing deep hidden = first_of ((rolling, refusals.RollingB
 
 pub refused_so : (s : State) (req : ReqId) (call : Call) → IsStill s → refused_before s req call ≡ tests_left (is_rolling s.durable.phase && not (is_always_taken call)) (s.volatile.is_preparing && is_work call) (is_any_deep call) (is_any_hidden call)
 refused_so s req call still =
-    ap (λ (f : Fault). first_of ((is_failed f, refusals.Device) ∷ (rolling, refusals.RollingBack) ∷ (preparing, refusals.Preparing) ∷ (is_locked s req call, refusals.Locked) ∷ (is_any_deep call, refusals.BadPath) ∷ (is_any_hidden call, refusals.HiddenName) ∷ [])) still.sound
-    ∙ ap (λ (b : Bool). first_of ((rolling, refusals.RollingBack) ∷ (preparing, refusals.Preparing) ∷ (b, refusals.Locked) ∷ (is_any_deep call, refusals.BadPath) ∷ (is_any_hidden call, refusals.HiddenName) ∷ [])) unlocked
+    ap (λ (f : Fault). first_of ((is_failed f, refusals.Device) ∷ (rolling, refusals.RollingBack) ∷ (preparing, refusals.Preparing) ∷ (is_any_deep call, refusals.BadPath) ∷ (is_locked s req call, refusals.Locked) ∷ (is_any_hidden call, refusals.HiddenName) ∷ [])) still.sound
+    ∙ ap (λ (b : Bool). first_of ((rolling, refusals.RollingBack) ∷ (preparing, refusals.Preparing) ∷ (is_any_deep call, refusals.BadPath) ∷ (b, refusals.Locked) ∷ (is_any_hidden call, refusals.HiddenName) ∷ [])) unlocked
   where
     rolling : Bool
     rolling = is_rolling s.durable.phase && not (is_always_taken call)

@@ -51,14 +51,14 @@ as_plain : (s : State) (req : ReqId) (e : Refusal) → RepliesPlainly req (refus
 as_plain s req e = record { result = Err e; sent = refl; plainly = inr refl }
 
 -- the tests that come before a call's own
-tested : (config : Config) (s : State) (req : ReqId) (moment : Moment) (call : Call) (result : Result Answer Refusal) (failed rolling preparing locked deep hidden : Bool) → RepliesPlainly req (called config s req moment call) result →
-    RepliesPlainly req (called_unless config s req moment call (first_of ((failed, refusals.Device) ∷ (rolling, refusals.RollingBack) ∷ (preparing, refusals.Preparing) ∷ (locked, refusals.Locked) ∷ (deep, refusals.BadPath) ∷ (hidden, refusals.HiddenName) ∷ [])))
+tested : (config : Config) (s : State) (req : ReqId) (moment : Moment) (call : Call) (result : Result Answer Refusal) (failed rolling preparing deep locked hidden : Bool) → RepliesPlainly req (called config s req moment call) result →
+    RepliesPlainly req (called_unless config s req moment call (first_of ((failed, refusals.Device) ∷ (rolling, refusals.RollingBack) ∷ (preparing, refusals.Preparing) ∷ (deep, refusals.BadPath) ∷ (locked, refusals.Locked) ∷ (hidden, refusals.HiddenName) ∷ [])))
     (if deep then Err refusals.BadPath else if hidden then Err refusals.HiddenName else result)
-tested config s req moment call result true rolling preparing locked deep hidden own = of_store s req refusals.Device _ refl
-tested config s req moment call result false true preparing locked deep hidden own = of_store s req refusals.RollingBack _ refl
-tested config s req moment call result false false true locked deep hidden own = of_store s req refusals.Preparing _ refl
-tested config s req moment call result false false false true deep hidden own = of_store s req refusals.Locked _ refl
-tested config s req moment call result false false false false true hidden own = as_plain s req refusals.BadPath
+tested config s req moment call result true rolling preparing deep locked hidden own = of_store s req refusals.Device _ refl
+tested config s req moment call result false true preparing deep locked hidden own = of_store s req refusals.RollingBack _ refl
+tested config s req moment call result false false true deep locked hidden own = of_store s req refusals.Preparing _ refl
+tested config s req moment call result false false false true locked hidden own = as_plain s req refusals.BadPath
+tested config s req moment call result false false false false true hidden own = of_store s req refusals.Locked _ refl
 tested config s req moment call result false false false false false true own = as_plain s req refusals.HiddenName
 tested config s req moment call result false false false false false false own = own
 
@@ -226,5 +226,5 @@ calls_answer config s req moment call text plain has once is = each (tree_answer
     each None tree h = absurd (cc)
     each (Some result) tree h =
         subst (RepliesPlainly req (new_call config s req moment call)) (same_result h)
-        (tested config s req moment call result (is_failed s.fault) (is_rolling s.durable.phase && not (is_always_taken call)) (s.volatile.is_preparing && is_work call) (is_locked s req call) (is_any_deep call) (is_any_hidden call)
+        (tested config s req moment call result (is_failed s.fault) (is_rolling s.durable.phase && not (is_always_taken call)) (s.volatile.is_preparing && is_work call) (is_any_deep call) (is_locked s req call) (is_any_hidden call)
         (tree_replies config s req moment call text result has once tree))

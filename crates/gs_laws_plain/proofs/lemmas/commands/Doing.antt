@@ -97,17 +97,17 @@ called_does config s req moment call tree once = absurd (false≢true tree)
 -- behind the tests that come before its own
 pub calls_do : NewCallsDoAsAnswered
 calls_do config s req moment call tree once =
-    each (is_failed s.fault) (is_rolling s.durable.phase && not (is_always_taken call)) (s.volatile.is_preparing && is_work call) (is_locked s req call) (is_any_deep call) (is_any_hidden call)
+    each (is_failed s.fault) (is_rolling s.durable.phase && not (is_always_taken call)) (s.volatile.is_preparing && is_work call) (is_any_deep call) (is_locked s req call) (is_any_hidden call)
   where
     done : Answer → List Command
     done = done_by s moment call
 
-    each : (failed rolling preparing locked deep hidden : Bool) → DoesAsAnswered req (done_by s moment call)
-        (called_unless config s req moment call (first_of ((failed, refusals.Device) ∷ (rolling, refusals.RollingBack) ∷ (preparing, refusals.Preparing) ∷ (locked, refusals.Locked) ∷ (deep, refusals.BadPath) ∷ (hidden, refusals.HiddenName) ∷ [])))
-    each true rolling preparing locked deep hidden = refused_does s req refusals.Device (done_by s moment call)
-    each false true preparing locked deep hidden = refused_does s req refusals.RollingBack (done_by s moment call)
-    each false false true locked deep hidden = refused_does s req refusals.Preparing (done_by s moment call)
-    each false false false true deep hidden = refused_does s req refusals.Locked (done_by s moment call)
-    each false false false false true hidden = refused_does s req refusals.BadPath (done_by s moment call)
+    each : (failed rolling preparing deep locked hidden : Bool) → DoesAsAnswered req (done_by s moment call)
+        (called_unless config s req moment call (first_of ((failed, refusals.Device) ∷ (rolling, refusals.RollingBack) ∷ (preparing, refusals.Preparing) ∷ (deep, refusals.BadPath) ∷ (locked, refusals.Locked) ∷ (hidden, refusals.HiddenName) ∷ [])))
+    each true rolling preparing deep locked hidden = refused_does s req refusals.Device (done_by s moment call)
+    each false true preparing deep locked hidden = refused_does s req refusals.RollingBack (done_by s moment call)
+    each false false true deep locked hidden = refused_does s req refusals.Preparing (done_by s moment call)
+    each false false false true locked hidden = refused_does s req refusals.BadPath (done_by s moment call)
+    each false false false false true hidden = refused_does s req refusals.Locked (done_by s moment call)
     each false false false false false true = refused_does s req refusals.HiddenName (done_by s moment call)
     each false false false false false false = called_does config s req moment call tree once

@@ -149,15 +149,15 @@ module _ (config : Config) (s : State) (req : ReqId) (moment : Moment) (from to 
 
   unquiet_each : (chunk : ℕ) (many : List ℕ) → unquiet s from ≡ chunk ∷ many → Each (new_call config s req moment its_call)
   unfolding edited_names
-  unquiet_each chunk many still = tested (is_failed s.fault) (is_rolling s.durable.phase && not (is_always_taken its_call)) (s.volatile.is_preparing && is_work its_call) (is_locked s req its_call) (is_any_deep its_call) (is_any_hidden its_call) refl refl
+  unquiet_each chunk many still = tested (is_failed s.fault) (is_rolling s.durable.phase && not (is_always_taken its_call)) (s.volatile.is_preparing && is_work its_call) (is_any_deep its_call) (is_locked s req its_call) (is_any_hidden its_call) refl refl
     where
-      tested : (failed rolling preparing locked deep hidden : Bool) → is_any_deep its_call ≡ deep → is_any_hidden its_call ≡ hidden →
-          Each (called_unless config s req moment its_call (first_of ((failed, refusals.Device) ∷ (rolling, refusals.RollingBack) ∷ (preparing, refusals.Preparing) ∷ (locked, refusals.Locked) ∷ (deep, refusals.BadPath) ∷ (hidden, refusals.HiddenName) ∷ [])))
-      tested true rolling preparing locked deep hidden is seen = of_store refusals.Device refl
-      tested false true preparing locked deep hidden is seen = of_store refusals.RollingBack refl
-      tested false false true locked deep hidden is seen = of_store refusals.Preparing refl
-      tested false false false true deep hidden is seen = of_store refusals.Locked refl
-      tested false false false false true hidden is seen = deep_each is
+      tested : (failed rolling preparing deep locked hidden : Bool) → is_any_deep its_call ≡ deep → is_any_hidden its_call ≡ hidden →
+          Each (called_unless config s req moment its_call (first_of ((failed, refusals.Device) ∷ (rolling, refusals.RollingBack) ∷ (preparing, refusals.Preparing) ∷ (deep, refusals.BadPath) ∷ (locked, refusals.Locked) ∷ (hidden, refusals.HiddenName) ∷ [])))
+      tested true rolling preparing deep locked hidden is seen = of_store refusals.Device refl
+      tested false true preparing deep locked hidden is seen = of_store refusals.RollingBack refl
+      tested false false true deep locked hidden is seen = of_store refusals.Preparing refl
+      tested false false false true locked hidden is seen = deep_each is
+      tested false false false false true hidden is seen = of_store refusals.Locked refl
       tested false false false false false true is seen = hidden_each is seen
       tested false false false false false false is seen = snapshot_each chunk many still is seen (edited (edits.Snapshot from to) (fin.entries s.durable.names.tree)) refl
 

@@ -85,14 +85,14 @@ module _ (s : State) (req : ReqId) where
 
 -- behind the tests that come before its own
 pub calls_own : (config : Config) (s : State) (req : ReqId) (moment : Moment) (call : Call) → is_of_tree call ≡ true → IsAtOnce s call → Own s req (new_call config s req moment call)
-calls_own config s req moment call tree once = each (is_failed s.fault) (is_rolling s.durable.phase && not (is_always_taken call)) (s.volatile.is_preparing && is_work call) (is_locked s req call) (is_any_deep call) (is_any_hidden call)
+calls_own config s req moment call tree once = each (is_failed s.fault) (is_rolling s.durable.phase && not (is_always_taken call)) (s.volatile.is_preparing && is_work call) (is_any_deep call) (is_locked s req call) (is_any_hidden call)
   where
-    each : (failed rolling preparing locked deep hidden : Bool) →
-        Own s req (called_unless config s req moment call (first_of ((failed, refusals.Device) ∷ (rolling, refusals.RollingBack) ∷ (preparing, refusals.Preparing) ∷ (locked, refusals.Locked) ∷ (deep, refusals.BadPath) ∷ (hidden, refusals.HiddenName) ∷ [])))
-    each true rolling preparing locked deep hidden = refused_own s req refusals.Device
-    each false true preparing locked deep hidden = refused_own s req refusals.RollingBack
-    each false false true locked deep hidden = refused_own s req refusals.Preparing
-    each false false false true deep hidden = refused_own s req refusals.Locked
-    each false false false false true hidden = refused_own s req refusals.BadPath
+    each : (failed rolling preparing deep locked hidden : Bool) →
+        Own s req (called_unless config s req moment call (first_of ((failed, refusals.Device) ∷ (rolling, refusals.RollingBack) ∷ (preparing, refusals.Preparing) ∷ (deep, refusals.BadPath) ∷ (locked, refusals.Locked) ∷ (hidden, refusals.HiddenName) ∷ [])))
+    each true rolling preparing deep locked hidden = refused_own s req refusals.Device
+    each false true preparing deep locked hidden = refused_own s req refusals.RollingBack
+    each false false true deep locked hidden = refused_own s req refusals.Preparing
+    each false false false true locked hidden = refused_own s req refusals.BadPath
+    each false false false false true hidden = refused_own s req refusals.Locked
     each false false false false false true = refused_own s req refusals.HiddenName
     each false false false false false false = called_own s req config moment call tree once

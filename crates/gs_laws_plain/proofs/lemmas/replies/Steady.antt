@@ -163,7 +163,7 @@ module _ (config : Config) (s : State) (moment : Moment) (failed : is_failed s.f
     device = meek_reply s req call (Err refusals.Device) (inl refl)
 
     new_meek : Meek (new_call config s req moment call)
-    new_meek = subst (λ b. Meek (called_unless config s req moment call (first_of ((b, refusals.Device) ∷ (is_rolling s.durable.phase && not (is_always_taken call), refusals.RollingBack) ∷ (s.volatile.is_preparing && is_work call, refusals.Preparing) ∷ (is_locked s req call, refusals.Locked) ∷ (is_any_deep call, refusals.BadPath) ∷ (is_any_hidden call, refusals.HiddenName) ∷ [])))) (sym failed) (record { none = refl; sent = ((call, refl, inl refl), tt) })
+    new_meek = subst (λ b. Meek (called_unless config s req moment call (first_of ((b, refusals.Device) ∷ (is_rolling s.durable.phase && not (is_always_taken call), refusals.RollingBack) ∷ (s.volatile.is_preparing && is_work call, refusals.Preparing) ∷ (is_any_deep call, refusals.BadPath) ∷ (is_locked s req call, refusals.Locked) ∷ (is_any_hidden call, refusals.HiddenName) ∷ [])))) (sym failed) (record { none = refl; sent = ((call, refl, inl refl), tt) })
 
     taken_meek : (how : Numbered) → numbered (last_reply s req.client) req.number ≡ how → Meek (taken_as config s req moment call how)
     taken_meek New is = new_meek
