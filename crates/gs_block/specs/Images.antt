@@ -1,10 +1,11 @@
 -- First images: what takes a chunk back to where it was sealed, whatever edits came since.
-use Rattle.std.specs.Prelude.{◌≡◌, ◌≤◌, ◌<◌, ℕ, ◌+◌, ◌-◌, ◌*◌, ◌/◌, ◌%◌, ◌&&◌, ◌||◌, cond, nat_lt, nat_le, min, is_some, Bool, true, false, List, [], ◌∷◌, length, take, drop, map, replicate, slice_index_or, Option, Some, None, Result, Ok, Err, refl, zero, suc}
+use Rattle.std.specs.Prelude.{◌≡◌, ◌≤◌, ◌<◌, ℕ, ◌+◌, ◌-◌, ◌*◌, ◌/◌, ◌%◌, ◌&&◌, ◌||◌, cond, nat_lt, nat_le, min, is_some, Bool, true, false, List, [], ◌∷◌, length, take, drop, map, replicate, slice_index_or, Option, Some, None, Result, Ok, Err, IsTrue, refl, zero, suc}
 use Rattle.std.specs.List.{range_with_len}
 use Rattle.gs_base.specs.declared.refusal.Refusal.{Refusal}
 use Rattle.gs_block.specs.Stored.{Stored, count_of}
 use Rattle.gs_block.specs.Edits as edits
-use Rattle.gs_block.specs.Inverses.{Inverse, fits}
+use Rattle.gs_block.specs.Inverses.{Inverse, fits, inverse_of, undo}
+use Rattle.gs_block.specs.Kept.{Outside}
 
 -- the length and the digests as sealed, and for each sealed block its bytes as sealed where an edit has touched it since
 pub record Images : Type 0 where
@@ -99,6 +100,27 @@ missing i s at end = record {
   first = at / s.block;
   copies = copies_from s.block i.long i.blocks s.bytes (at / s.block) (count_of s.block (min end i.long) - at / s.block);
 }
+
+-- ---- copies that are taken as images
+-- These say what holds of the images when copies are taken that were missing before an edit of the bytes between two places.
+-- What undoing gives stays, since the edit left the bytes outside its span.
+abbrev pub UndoesTheSame : Images → Missing → Images → Type 0
+UndoesTheSame old copies kept = (s new : Stored) → (start end : ℕ) → AreFirst old s → copies ≡ missing old s start end → Outside start end s new
+    → undone kept new ≡ undone old s
+
+-- The blocks of that span are touched too.
+abbrev pub TouchesItsSpan : Images → Missing → Images → Type 0
+TouchesItsSpan old copies kept = (s : Stored) → (start end : ℕ) → AreFirst old s → copies ≡ missing old s start end
+    → touched kept ≡ touch (start / s.block) (count_of s.block end) (touched old)
+
+-- The images cover the inverse of that edit.
+abbrev pub CoversItsInverse : Images → Missing → Images → Type 0
+CoversItsInverse old copies kept = (s new : Stored) → (start end : ℕ) → AreFirst old s → copies ≡ missing old s start end → Outside start end s new
+    → start ≤ length s.bytes → start ≤ end → undo (inverse_of s start end) new ≡ Ok s → covers kept.long (touched kept) (inverse_of s start end) new ≡ true
+
+-- Where a test says that an inverse is covered, what undoing gives stays when the inverse is taken back, and so do the images.
+abbrev pub StaysWhenUndone : Images → Inverse → Stored → Bool → Type 0
+StaysWhenUndone i inverse s is = (new : Stored) → IsTrue is → undo inverse s ≡ Ok new → AreFirst i s → (undone i new ≡ undone i s) × AreFirst i new
 
 -- a chunk of 6 bytes in blocks of 4, sealed; then its first 5 bytes are overwritten
 abbrev sealed_chunk : Stored

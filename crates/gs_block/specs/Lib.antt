@@ -5,4 +5,5 @@ pub mod Inverses
 pub mod Kept
 pub mod Images
 pub mod Written
+pub mod Promises
 pub mod Inside

@@ -1,9 +1,8 @@
-ghost use Rattle.std.specs.Prelude.{true, [], ◌≡◌, ◌≤◌, ◌<◌, ◌+◌, ◌-◌, ◌*◌, ◌/◌, List, ℕ, IfOk, IsTrue, length, map, min, not, replicate, is_some, Option, Some, None, Ok, slice_index_or};
+ghost use Rattle.std.specs.Prelude.{true, [], ◌≡◌, ◌≤◌, ◌<◌, ◌+◌, ◌-◌, ◌*◌, List, ℕ, IfOk, length, map, min, not, replicate, is_some, Option, Some, None, slice_index_or};
 ghost use Rattle.gs_block.specs.Stored.{Stored, count_of, is_intact, first_damaged};
 ghost use Rattle.sha2.specs.Sha256.{sha256};
-ghost use Rattle.gs_block.specs.Inverses as inverses;
 ghost use Rattle.gs_block.specs.Kept.{Outside};
-ghost use Rattle.gs_block.specs.Images.{Images, Missing, AreFirst, IsImage, undone, touched, touch, all_touched, covers, bytes_before, block_before, missing_of, copies_from, image_bytes, missing};
+ghost use Rattle.gs_block.specs.Images.{Images, Missing, AreFirst, IsImage, touched, all_touched, covers, bytes_before, block_before, missing_of, copies_from, image_bytes, missing, UndoesTheSame, TouchesItsSpan, CoversItsInverse, StaysWhenUndone};
 ghost use Rattle.gs_block.specs.Inside.{image_or, put_image, or_else, kept_images};
 
 use crate::blocks::Blocks;
@@ -84,10 +83,10 @@ impl Images {
     /// outside its span. It takes no memory.
     pub fn keep(&mut self, copies: Missing)
         requires { length copies.copies ≤ length self.old.blocks - copies.first }
-        ensures undone { (s new : Stored) → (start end : ℕ) → AreFirst self.old s → copies ≡ missing self.old s start end → Outside start end s new → undone self.new new ≡ undone self.old s }
+        ensures undone { UndoesTheSame self.old copies self.new }
         ensures first { (s new : Stored) → (start end : ℕ) → AreFirst self.old s → copies ≡ missing self.old s start end → Outside start end s new → AreFirst self.new new }
-        ensures touched { (s : Stored) → (start end : ℕ) → AreFirst self.old s → copies ≡ missing self.old s start end → touched self.new ≡ touch (start / s.block) (count_of s.block end) (touched self.old) }
-        ensures covers { (s new : Stored) → (start end : ℕ) → AreFirst self.old s → copies ≡ missing self.old s start end → Outside start end s new → start ≤ length s.bytes → start ≤ end → inverses.undo (inverses.inverse_of s start end) new ≡ Ok s → covers self.new.long (touched self.new) (inverses.inverse_of s start end) new ≡ true }
+        ensures touched { TouchesItsSpan self.old copies self.new }
+        ensures covers { CoversItsInverse self.old copies self.new }
     {
         keep_copies(&mut self.blocks, copies.first, copies.copies);
     }
@@ -105,7 +104,7 @@ impl Images {
     /// gives stays when it is taken back.
     pub fn covers(&self, blocks: &Blocks, inverse: &BlockInverse) -> bool
         ensures test { result ≡ covers self.now.long (touched self.now) inverse.now blocks.now }
-        ensures keeps { (new : Stored) → IsTrue result → inverses.undo inverse.now blocks.now ≡ Ok new → AreFirst self.now blocks.now → (undone self.now new ≡ undone self.now blocks.now) × AreFirst self.now new }
+        ensures keeps { StaysWhenUndone self.now inverse.now blocks.now result }
     {
         if !blocks.fits(inverse) {
             return false;

@@ -1,8 +1,9 @@
 ghost use Rattle.std.specs.Prelude.{◌≡◌, ◌≤◌, ◌<◌, ◌+◌, ◌-◌, ◌*◌, ◌/◌, ◌%◌, ◌++◌, length, take, drop, replicate, if◌then◌else◌, is_ok, min, IfOk};
 ghost use Rattle.sha2.specs.Hashers.{Holds256};
 ghost use Rattle.gs_block.specs.Chunk.{written};
-ghost use Rattle.gs_block.specs.Stored.{count_of, digests_from};
+ghost use Rattle.gs_block.specs.Stored.{count_of};
 ghost use Rattle.gs_block.specs.Inverses.{replaced};
+ghost use Rattle.gs_block.specs.Inside.{digests_anew};
 
 use crate::digests::{Digest, count_of, digest_anew};
 use sha2::Sha256;
@@ -69,7 +70,7 @@ pub(crate) fn write_anew(
     requires each { length digests.old.items ≡ count_of size (length bytes.old.items) }
     requires hasher { Holds256 hasher (take (min offset (length bytes.old.items) % size) (drop (min offset (length bytes.old.items) / size * size) bytes.old.items)) }
     ensures bytes { bytes.new.items ≡ (if is_ok result then written offset piece.now bytes.old.items else bytes.old.items) }
-    ensures digests { digests.new.items ≡ (if is_ok result then take (min offset (length bytes.old.items) / size) digests.old.items ++ (digests_from size (written offset piece.now bytes.old.items) (min offset (length bytes.old.items) / size) (count_of size (offset + length piece.now) - min offset (length bytes.old.items) / size) ++ drop (count_of size (offset + length piece.now)) digests.old.items) else digests.old.items) }
+    ensures digests { digests.new.items ≡ (if is_ok result then digests_anew size offset piece.now bytes.old.items digests.old.items else digests.old.items) }
     ensures each { length digests.new.items ≡ count_of size (length bytes.new.items) }
 {
     let at = offset.min(bytes.len());

@@ -1,12 +1,13 @@
 //! What holds of each chunk that was written with some bytes, whatever was damaged since.
 
-ghost use Rattle.std.specs.Prelude.{◌≡◌, ◌≤◌, ◌<◌, ℕ, List, [], Bool, Ok, None, length, take, drop, true};
+ghost use Rattle.std.specs.Prelude.{◌≡◌, ◌≤◌, ℕ, List, [], Bool, Ok, true};
 ghost use Rattle.gs_base.specs.Configs.{is_config};
-ghost use Rattle.gs_block.specs.Chunk.{written, appended, padded};
-ghost use Rattle.gs_block.specs.Stored.{Stored, empty, block_at, is_intact, first_damaged};
-ghost use Rattle.gs_block.specs.Edits.{write, append, pad, read, damage};
+ghost use Rattle.gs_block.specs.Chunk.{appended, padded};
+ghost use Rattle.gs_block.specs.Stored.{Stored, empty};
+ghost use Rattle.gs_block.specs.Edits.{append, pad, damage};
 ghost use Rattle.gs_block.specs.Kept.{Others};
 ghost use Rattle.gs_block.specs.Written.{WasWritten, ToldApart, TellsApart, HasBlocks};
+ghost use Rattle.gs_block.specs.Promises.{WritesGoOn, IntactBlocksHold, ReadsGiveWhatWasWritten, UndamagedChunksHold};
 
 /// The sizes of each configuration are those of chunks.
 pub fn configurations_have_sizes()
@@ -17,7 +18,7 @@ pub fn configurations_have_sizes()
 /// digests bytes anew has for a premise that digests tell the stored blocks from those that were written, where they differ.
 pub fn chunks_were_written()
     ensures new { (block chunk : ℕ) → 1 ≤ block → block ≤ 65536 → chunk ≤ 67108864 → WasWritten (empty block chunk) [] }
-    ensures write { (s s2 : Stored) (bytes piece : List ℕ) (offset : ℕ) → WasWritten s bytes → ToldApart s.block s.bytes bytes → write s offset piece ≡ Ok s2 → WasWritten s2 (written offset piece bytes) }
+    ensures write { WritesGoOn }
     ensures append { (s s2 : Stored) (bytes piece : List ℕ) → WasWritten s bytes → ToldApart s.block s.bytes bytes → append s piece ≡ Ok s2 → WasWritten s2 (appended piece bytes) }
     ensures pad { (s s2 : Stored) (bytes : List ℕ) → WasWritten s bytes → ToldApart s.block s.bytes bytes → pad s ≡ Ok s2 → WasWritten s2 (padded s.chunk bytes) }
     ensures damage { (s s2 : Stored) (bytes : List ℕ) (index : ℕ) → WasWritten s bytes → damage s index ≡ Ok s2 → WasWritten s2 bytes }
@@ -26,9 +27,9 @@ pub fn chunks_were_written()
 /// A block with its digest holds what was written, under the same premise; so does what a read gives, and the whole chunk where
 /// no block is damaged.
 pub fn intact_blocks_hold_what_was_written()
-    ensures block { (s : Stored) (bytes : List ℕ) (i : ℕ) → WasWritten s bytes → ToldApart s.block s.bytes bytes → i < length s.digests → is_intact s.block s.bytes s.digests i ≡ true → block_at s.block i s.bytes ≡ block_at s.block i bytes }
-    ensures read { (s : Stored) (bytes part : List ℕ) (offset many : ℕ) → WasWritten s bytes → ToldApart s.block s.bytes bytes → read s offset many ≡ Ok part → part ≡ take many (drop offset bytes) }
-    ensures whole { (s : Stored) (bytes : List ℕ) → WasWritten s bytes → ToldApart s.block s.bytes bytes → first_damaged s.block s.bytes s.digests 0 (length s.digests) ≡ None → s.bytes ≡ bytes }
+    ensures block { IntactBlocksHold }
+    ensures read { ReadsGiveWhatWasWritten }
+    ensures whole { UndamagedChunksHold }
 {}
 
 /// Where different blocks among some have different digests, and all blocks of two texts are among them, digests tell the two

@@ -19,6 +19,10 @@ abbrev pub needs_more : ℕ → Need → Need → Bool
 needs_more replicas need other =
     precedes (shortfall replicas other) (shortfall replicas need) (rank need.is_visible) (rank other.is_visible) need.handle other.handle
 
+-- no chunk of the list is needy
+abbrev pub NoneIsNeedy : ℕ → List Need → Type 0
+NoneIsNeedy replicas needs = (need : Need) → Contains needs need → is_needy replicas need ≡ false
+
 -- a needy chunk of the list such that no other of the list needs more
 pub record IsMostNeeded (replicas : ℕ) (needs : List Need) (handle : Handle) : Type 0 where
   pub need : Need
@@ -29,7 +33,7 @@ pub record IsMostNeeded (replicas : ℕ) (needs : List Need) (handle : Handle) :
 
 -- the needy chunk of the list that needs most, and none exactly where none is needy
 abbrev pub IsMost : ℕ → List Need → Option Need → Type 0
-IsMost replicas needs None = (other : Need) → Contains needs other → is_needy replicas other ≡ false
+IsMost replicas needs None = NoneIsNeedy replicas needs
 IsMost replicas needs (Some most) =
     Contains needs most × (is_needy replicas most ≡ true) × ((other : Need) → Contains needs other → is_needy replicas other ≡ true → needs_more replicas other most ≡ false)
 

@@ -1,8 +1,10 @@
 -- On which servers replicas are put. Servers that are taken, as members or as targets picked before, are no
 -- candidates, and their racks are used.
-use Rattle.std.specs.Prelude.{◌≡◌, ◌≢◌, ℕ, ◌%◌, ◌==◌, ◌<◌, ◌&&◌, not, Bool, true, false, cond, List, [], ◌∷◌, Option, Some, None, nat_lt, slice_index, length, filter, find, refl, zero, suc}
+use Rattle.std.specs.Prelude.{◌≡◌, ◌≢◌, ℕ, ◌%◌, ◌==◌, ◌<◌, ◌&&◌, not, Bool, true, false, cond, List, [], ◌∷◌, Option, Some, None, nat_lt, slice_index, length, filter, find, Result, MatchResult, refl, zero, suc}
 use Rattle.std.specs.List.{list_any, list_all}
 use Rattle.std.specs.Option.{option_and_then}
+use Rattle.gs_base.specs.declared.refusal.Refusal.{Refusal}
+use Rattle.gs_base.specs.declared.refusal.Refusal.TheVariants.{NoServer}
 use Rattle.gs_base.specs.Members.{count_from, servers_where, is_member, with_member}
 use Rattle.gs_place.specs.Order.{precedes, rank}
 
@@ -68,6 +70,12 @@ picked_from servers racks replicas taken targets (suc wanted) =
 
 abbrev pub targets_of : ℕ → ℕ → List ℕ → List ℕ → ℕ → Option (List ℕ)
 targets_of servers racks replicas present wanted = picked_from servers racks replicas present [] wanted
+
+-- the targets, and NoServer exactly where there are none
+abbrev pub GivesTargets : ℕ → ℕ → List ℕ → List ℕ → ℕ → Result (List ℕ) Refusal → Type 0
+GivesTargets servers racks replicas present wanted result =
+    MatchResult result (λ t. targets_of servers racks replicas present wanted ≡ Some t)
+    (λ e. (targets_of servers racks replicas present wanted ≡ None) × (e ≡ NoServer))
 
 -- the first of a candidate and a server, which is none where it is taken
 abbrev pub earlier : ℕ → List ℕ → List ℕ → Option ℕ → ℕ → Option ℕ

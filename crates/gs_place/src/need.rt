@@ -1,5 +1,5 @@
-ghost use Rattle.std.specs.Prelude.{◌≡◌, ◌++◌, ◌∷◌, [], ℕ, List, MatchOption, Contains, false};
-ghost use Rattle.gs_place.specs.Needs.{shortfall, is_needy, needs_more, needier, most_needed_of, IsMostNeeded};
+ghost use Rattle.std.specs.Prelude.{◌≡◌, ◌++◌, ◌∷◌, [], ℕ, List, MatchOption};
+ghost use Rattle.gs_place.specs.Needs.{shortfall, is_needy, needs_more, needier, most_needed_of, NoneIsNeedy, IsMostNeeded};
 
 use gs_base::{Config, Handle};
 
@@ -20,7 +20,7 @@ pub struct Need {
 /// chunks are ordered by how far they are from their goal, and those of live files come first.
 pub fn most_needed(config: &Config, needs: &[Need]) -> Option<Handle>
     ensures function { result ≡ most_needed_of config.now.replicas needs.now }
-    ensures most { MatchOption result ((need : Need) → Contains needs.now need → is_needy config.now.replicas need ≡ false) (IsMostNeeded config.now.replicas needs.now) }
+    ensures most { MatchOption result (NoneIsNeedy config.now.replicas needs.now) (IsMostNeeded config.now.replicas needs.now) }
 {
     let mut needed = Needed::new(config);
     for need in needs {
@@ -59,7 +59,7 @@ impl Needed {
     /// The chunk that needs a new replica most of all that were offered.
     pub fn handle(&self) -> Option<Handle>
         ensures function { (replicas : ℕ) (needs : List Need) → IsNeeded replicas needs self.now → result ≡ most_needed_of replicas needs }
-        ensures most { (replicas : ℕ) (needs : List Need) → IsNeeded replicas needs self.now → MatchOption result ((need : Need) → Contains needs need → is_needy replicas need ≡ false) (IsMostNeeded replicas needs) }
+        ensures most { (replicas : ℕ) (needs : List Need) → IsNeeded replicas needs self.now → MatchOption result (NoneIsNeedy replicas needs) (IsMostNeeded replicas needs) }
     {
         let need = self.most?;
         Some(need.handle)

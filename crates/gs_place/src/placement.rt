@@ -1,5 +1,5 @@
-ghost use Rattle.std.specs.Prelude.{◌≡◌, ◌<◌, ℕ, Some, None, false, IfSome, IfNone, IfOk, OnErr, MatchResult};
-ghost use Rattle.gs_place.specs.Targets.{is_rack_used, is_candidate, comes_before, earlier, first_candidate, targets_of, IsFirst, AreTargets, RunsOut};
+ghost use Rattle.std.specs.Prelude.{◌≡◌, ◌<◌, ℕ, false, IfSome, IfNone, IfOk, OnErr};
+ghost use Rattle.gs_place.specs.Targets.{is_rack_used, is_candidate, comes_before, earlier, first_candidate, GivesTargets, IsFirst, AreTargets, RunsOut};
 
 use gs_base::{Config, Members, Refusal, ServerId};
 
@@ -13,7 +13,7 @@ pub fn targets(
     present: Members,
     wanted: u64,
 ) -> Result<Members, Refusal>
-    ensures targets { MatchResult result (λ t. targets_of config.now.servers config.now.racks replicas.now present wanted ≡ Some t) (λ e. (targets_of config.now.servers config.now.racks replicas.now present wanted ≡ None) × (e ≡ Refusal.NoServer)) }
+    ensures targets { GivesTargets config.now.servers config.now.racks replicas.now present wanted result }
     ensures first { IfOk result (AreTargets config.now.servers config.now.racks replicas.now present wanted) }
     ensures none { OnErr result (RunsOut config.now.servers config.now.racks replicas.now present wanted) }
 {

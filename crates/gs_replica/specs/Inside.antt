@@ -1,7 +1,10 @@
 -- What the bodies of this crate speak of among themselves: no public contract rests on it.
-use Rattle.std.specs.Prelude.{◌≡◌, ℕ, true, Some, is_some}
+use Rattle.std.specs.Prelude.{◌≡◌, ℕ, true, Some, is_some, Result, OnOk}
 use Rattle.std.specs.FinMap as fin
 use Rattle.std.specs.Ordering.{nat_cmp}
+use Rattle.gs_base.specs.declared.refusal.Refusal.{Refusal}
+use Rattle.gs_block.specs.Images.{Images, AreFirst, undone, touched, damage_before}
+use Rattle.gs_block.specs.Stored.{Stored}
 use Rattle.gs_replica.specs.declared.op.Done.{Done}
 use Rattle.gs_replica.specs.Held.{Held}
 use Rattle.gs_replica.specs.First.{First}
@@ -10,6 +13,12 @@ use Rattle.gs_replica.specs.Copies.{SealedImage, image_of}
 -- each client that had a request when the replica was sealed has one
 abbrev pub HasSealed : First → fin.FinMap nat_cmp Done → Type 0
 HasSealed first done = (client : ℕ) (sealed : Done) → fin.get first client ≡ Some (Some sealed) → is_some (fin.get done client) ≡ true
+
+-- Damage of a block that isn't refused reaches what undoing gives where an edit hasn't touched the block, and leaves the images
+-- those of the chunk.
+abbrev pub DamagesTheSealed : {B : Type 0} → Result B Refusal → ℕ → Stored → Stored → Type 0
+DamagesTheSealed result block old new =
+    (i : Images) → AreFirst i old → OnOk result ((undone i new ≡ damage_before block (touched i) (undone i old)) × AreFirst i new)
 
 -- what stands as a sealed image carries it
 abbrev pub carried_of : Held → SealedImage

@@ -8,4 +8,5 @@ pub mod Whole
 pub mod View
 pub mod Stands
 pub mod Calls
+pub mod Promises
 pub mod Inside

@@ -6,14 +6,14 @@ ghost use Rattle.gs_block.specs.Edits.{unless_damaged};
 ghost use Rattle.gs_block.specs.Inverses as inverses;
 ghost use Rattle.gs_block.specs.Kept.{KeepsIntact, KeepsOutside, KeepsOthers};
 ghost use Rattle.gs_base.specs.Calls.{Follows, Does, Foretells, Judges, Answers, Makes, Refuses, HandsBack, MakesOf};
-ghost use Rattle.gs_block.specs.Images.{Images, AreFirst, undone, touched, damage_before};
+ghost use Rattle.gs_block.specs.Images.{AreFirst, undone};
 ghost use Rattle.gs_replica.specs.Held.{Held};
 ghost use Rattle.gs_replica.specs.Edits.{fresh, promise, apply, judged, foreseen, is_outside, is_old, edited, outcome_of, with_edit, damage, held_of, copied, start_of, end_of, done_by};
 ghost use Rattle.gs_base.specs.declared.numbers.Stamp.{Stamp};
 ghost use Rattle.gs_base.specs.Stamps.{is_same};
 ghost use Rattle.gs_replica.specs.Undo.{undo, inverse_of};
 ghost use Rattle.gs_replica.specs.First.{done_before};
-ghost use Rattle.gs_replica.specs.Inside.{HasSealed, carried_of};
+ghost use Rattle.gs_replica.specs.Inside.{HasSealed, DamagesTheSealed, carried_of};
 ghost use Rattle.gs_replica.specs.Seals.{lowest_damaged};
 ghost use Rattle.gs_replica.specs.Copies.{SealedImage, image_of};
 
@@ -465,7 +465,7 @@ impl Live {
         ensures damage { Does (damage block self.old) result self.old self.new }
         ensures others { KeepsOthers result block self.old.chunk self.new.chunk }
         ensures done { self.new.done ≡ self.old.done }
-        ensures images { (i : Images) → AreFirst i self.old.chunk → OnOk result ((undone i self.new.chunk ≡ damage_before block (touched i) (undone i self.old.chunk)) × AreFirst i self.new.chunk) }
+        ensures images { DamagesTheSealed result block self.old.chunk self.new.chunk }
     {
         self.blocks.damage(block)
     }

@@ -1,28 +1,23 @@
 //! What holds of each replica and its copies, whatever was done to them.
 
-ghost use Rattle.std.specs.Prelude.{◌≡◌, ◌≢◌, ◌≤◌, ◌<◌, ℕ, length, true, List, [], ◌∷◌, ◌++◌, take, drop, ◌+◌, is_ok, Ok, Some, None};
+ghost use Rattle.std.specs.Prelude.{◌≡◌, ◌≤◌, ℕ, length, List, [], ◌++◌, ◌+◌, Ok, Some, None};
 ghost use Rattle.std.specs.FinMap as fin;
 ghost use Rattle.std.specs.Result.{result_err};
 ghost use Rattle.gs_base.specs.declared.numbers.Stamp.{Stamp};
-ghost use Rattle.gs_base.specs.declared.numbers.ReqId.{ReqId};
-ghost use Rattle.gs_replica.specs.declared.op.Op.{Op};
 ghost use Rattle.gs_replica.specs.declared.op.Done.{Done};
 ghost use Rattle.gs_replica.specs.declared.live.ReplicaInverse.{ReplicaInverse};
-ghost use Rattle.gs_block.specs.Edits as blocks;
-ghost use Rattle.gs_block.specs.Kept.{BlocksOf};
-ghost use Rattle.gs_block.specs.Stored.{block_at, digests_of, is_intact};
-ghost use Rattle.gs_replica.specs.Edits.{fresh, copied, is_old};
+ghost use Rattle.gs_replica.specs.Edits.{fresh, copied};
 ghost use Rattle.gs_replica.specs.Held.{Held};
-ghost use Rattle.gs_replica.specs.Seals.{State, with_seal, seal, unseal, apply, undo, damage, promise, lowest_damaged, roll_back, sealed_at};
-ghost use Rattle.gs_replica.specs.Copies.{Image, SealedImage, image_of, image, sealed_image, of_image, of_sealed, and_then, under};
+ghost use Rattle.gs_replica.specs.Seals.{State, with_seal, seal, unseal, undo, damage, promise, lowest_damaged, roll_back};
+ghost use Rattle.gs_replica.specs.Copies.{SealedImage, image, sealed_image, of_image, of_sealed, and_then, under};
 ghost use Rattle.gs_replica.specs.Whole.{IsWhole};
-ghost use Rattle.gs_replica.specs.Calls.{Call, LeadsTo, LeadsSparing};
-ghost use Rattle.gs_replica.specs.Stands.{Edit, Listed, after, StandsFor, HoldsBlock, IsToldFrom, IsTaken, SealedAt, SealToldFrom, IsTouched, replica_of};
+ghost use Rattle.gs_replica.specs.Stands.{Edit, Listed, after, StandsFor, HoldsBlock, IsTaken, SealedAt, IsTouched, replica_of};
+ghost use Rattle.gs_replica.specs.Promises.{CarriedSealsRollBack, EditsAreListed, PromisesLeaveTheList, IntactBlocksAreOfTheList, ReadsAreOfTheList, EditsLeaveBlocksHeld, PromisesLeaveBlocksHeld, DamageLeavesOtherBlocksHeld, ImagesHoldTheirBlocks, HeldBlocksAreIntact, UndamagedBlocksAreHeld, EditedBlocksAreOfTheText, BlocksOfTheTextAreEdited, UndamagedTakeWhatIsTaken, EditsLeaveUndamaged, CopiesStandForTheList, ImagesAreWhatTheListGives, ReplicasOfImagesStand, EditsLeaveTheSeal, RollbacksStandForTheSealed, RollbacksGiveTheSealed, SealedImagesCarryTheSealed, ReplicasOfSealedImagesStand, EditsLeaveRollbacks, RequestsStandOnce, RunsGoBack, RunsCarryTheSealed, SparingRunsGoBackExactly};
 
 /// A replica that is made of a sealed image rolls back to what its source would have rolled back to. A source gives an image
 /// exactly where it could roll back, and is refused as that would be. What is made gives the same image again.
 pub fn carried_seals_roll_back()
-    ensures same { (r : State) (i : SealedImage) (start : Stamp) → IsWhole r → sealed_image r ≡ Ok i → and_then (of_sealed r.held.chunk.block r.held.chunk.chunk i) (roll_back start) ≡ roll_back start r }
+    ensures same { CarriedSealsRollBack }
     ensures refused { (r : State) (start : Stamp) → result_err (sealed_image r) ≡ result_err (roll_back start r) }
     ensures again { (r : State) (i : SealedImage) → IsWhole r → sealed_image r ≡ Ok i → and_then (of_sealed r.held.chunk.block r.held.chunk.chunk i) sealed_image ≡ Ok i }
 {}
@@ -37,11 +32,11 @@ pub fn images_stand_as_their_source()
 /// what they are, has for a premise that digests tell the replica's blocks from those of the list, where they differ.
 pub fn replicas_stand_for_their_edits()
     ensures new { (block chunk : ℕ) (stamp : Stamp) → 1 ≤ block → block ≤ 65536 → chunk ≤ 67108864 → StandsFor block chunk (fresh block chunk stamp) [] }
-    ensures apply { (block chunk : ℕ) (r r2 : State) (edits : List Edit) (stamp : Stamp) (number : ℕ) (req : ReqId) (op : Op) (bytes : List ℕ) → StandsFor block chunk r.held edits → IsToldFrom block chunk r.held edits → apply stamp number req op bytes r ≡ Ok r2 → StandsFor block chunk r2.held (edits ++ (record { req = req; op = op; bytes = bytes }) ∷ []) }
-    ensures promise { (block chunk : ℕ) (r r2 : State) (edits : List Edit) (stamp : Stamp) → StandsFor block chunk r.held edits → promise stamp r ≡ Ok r2 → StandsFor block chunk r2.held edits }
+    ensures apply { EditsAreListed }
+    ensures promise { PromisesLeaveTheList }
     ensures damage { (block chunk : ℕ) (r r2 : State) (edits : List Edit) (index : ℕ) → StandsFor block chunk r.held edits → damage index r ≡ Ok r2 → StandsFor block chunk r2.held edits }
-    ensures intact { (block chunk : ℕ) (r : Held) (edits : List Edit) (i : ℕ) → StandsFor block chunk r edits → IsToldFrom block chunk r edits → i < length r.chunk.digests → is_intact block r.chunk.bytes r.chunk.digests i ≡ true → block_at block i r.chunk.bytes ≡ block_at block i (replica_of chunk edits).bytes }
-    ensures read { (block chunk : ℕ) (r : State) (edits : List Edit) (offset many : ℕ) (part : List ℕ) → StandsFor block chunk r.held edits → IsToldFrom block chunk r.held edits → blocks.read r.held.chunk offset many ≡ Ok part → part ≡ take many (drop offset (replica_of chunk edits).bytes) }
+    ensures intact { IntactBlocksAreOfTheList }
+    ensures read { ReadsAreOfTheList }
 {}
 
 /// Block by block, whatever other blocks are damaged: a block that holds what the replica's list gives of it holds it still behind
@@ -49,56 +44,56 @@ pub fn replicas_stand_for_their_edits()
 /// That needs no premise on digests.
 pub fn blocks_hold_what_their_edits_give()
     ensures new { (block chunk k : ℕ) (stamp : Stamp) → HoldsBlock block chunk (fresh block chunk stamp) [] k }
-    ensures apply { (block chunk k : ℕ) (r r2 : State) (edits : List Edit) (stamp : Stamp) (number : ℕ) (req : ReqId) (op : Op) (bytes : List ℕ) → StandsFor block chunk r.held edits → HoldsBlock block chunk r.held edits k → apply stamp number req op bytes r ≡ Ok r2 → HoldsBlock block chunk r2.held (edits ++ (record { req = req; op = op; bytes = bytes }) ∷ []) k }
-    ensures promise { (block chunk k : ℕ) (r r2 : State) (edits : List Edit) (stamp : Stamp) → HoldsBlock block chunk r.held edits k → promise stamp r ≡ Ok r2 → HoldsBlock block chunk r2.held edits k }
-    ensures damage { (block chunk k index : ℕ) (r r2 : State) (edits : List Edit) → k ≢ index → StandsFor block chunk r.held edits → HoldsBlock block chunk r.held edits k → damage index r ≡ Ok r2 → HoldsBlock block chunk r2.held edits k }
+    ensures apply { EditsLeaveBlocksHeld }
+    ensures promise { PromisesLeaveBlocksHeld }
+    ensures damage { DamageLeavesOtherBlocksHeld }
     ensures copy { (block chunk k : ℕ) (r h : Held) (edits : List Edit) (stamp : Stamp) → HoldsBlock block chunk r edits k → copied stamp r ≡ Ok h → HoldsBlock block chunk h edits k }
-    ensures of_image { (block chunk k : ℕ) (r : State) (edits : List Edit) (stamp : Stamp) → of_image block chunk stamp (replica_of chunk edits) ≡ Ok r → HoldsBlock block chunk r.held edits k }
-    ensures intact { (block chunk k : ℕ) (r : Held) (edits : List Edit) → StandsFor block chunk r edits → k < length r.chunk.digests → HoldsBlock block chunk r edits k → is_intact block r.chunk.bytes r.chunk.digests k ≡ true }
-    ensures told { (block chunk k : ℕ) (r : Held) (edits : List Edit) → StandsFor block chunk r edits → IsToldFrom block chunk r edits → lowest_damaged r.chunk ≡ None → HoldsBlock block chunk r edits k }
+    ensures of_image { ImagesHoldTheirBlocks }
+    ensures intact { HeldBlocksAreIntact }
+    ensures told { UndamagedBlocksAreHeld }
 {}
 
 /// Each block of an edited replica is one of the replica before, or one of the text that the list gives with the edit. And each
 /// block of that text is one of the edited replica, or one of the text before: so where all blocks that replicas have are among
 /// some, those of texts that lists give are.
 pub fn edits_bring_blocks_of_their_text()
-    ensures held { (block chunk : ℕ) (r r2 : State) (edits : List Edit) (stamp : Stamp) (number : ℕ) (req : ReqId) (op : Op) (bytes : List ℕ) → StandsFor block chunk r.held edits → IsToldFrom block chunk r.held edits → apply stamp number req op bytes r ≡ Ok r2 → BlocksOf block r2.held.chunk.bytes r.held.chunk.bytes (replica_of chunk (edits ++ (record { req = req; op = op; bytes = bytes }) ∷ [])).bytes }
-    ensures listed { (block chunk : ℕ) (r r2 : State) (edits : List Edit) (stamp : Stamp) (number : ℕ) (req : ReqId) (op : Op) (bytes : List ℕ) → StandsFor block chunk r.held edits → IsToldFrom block chunk r.held edits → apply stamp number req op bytes r ≡ Ok r2 → BlocksOf block (replica_of chunk (edits ++ (record { req = req; op = op; bytes = bytes }) ∷ [])).bytes r2.held.chunk.bytes (replica_of chunk edits).bytes }
+    ensures held { EditedBlocksAreOfTheText }
+    ensures listed { BlocksOfTheTextAreEdited }
 {}
 
 /// An undamaged replica takes the next edit of each list that is taken, under its promise and as the next number. Then it is
 /// undamaged.
 pub fn undamaged_replicas_take_what_is_taken()
-    ensures takes { (block chunk : ℕ) (r : State) (edits : List Edit) (e : Edit) → StandsFor block chunk r.held edits → lowest_damaged r.held.chunk ≡ None → IsTaken chunk (edits ++ e ∷ []) → is_ok (apply r.held.promise (length edits + 1) e.req e.op e.bytes r) ≡ true }
-    ensures stays { (block chunk : ℕ) (r r2 : State) (edits : List Edit) (stamp : Stamp) (number : ℕ) (req : ReqId) (op : Op) (bytes : List ℕ) → StandsFor block chunk r.held edits → lowest_damaged r.held.chunk ≡ None → apply stamp number req op bytes r ≡ Ok r2 → lowest_damaged r2.held.chunk ≡ None }
+    ensures takes { UndamagedTakeWhatIsTaken }
+    ensures stays { EditsLeaveUndamaged }
 {}
 
 /// Copies of a replica stand for the same list, and have no damaged block. An image is what the list gives.
 pub fn copies_stand_for_the_same_edits()
-    ensures copy { (block chunk : ℕ) (r : State) (h : Held) (edits : List Edit) (stamp : Stamp) → StandsFor block chunk r.held edits → copied stamp r.held ≡ Ok h → StandsFor block chunk h edits × (lowest_damaged h.chunk ≡ None) }
-    ensures image { (block chunk : ℕ) (r : State) (i : Image) (edits : List Edit) → StandsFor block chunk r.held edits → IsToldFrom block chunk r.held edits → image r ≡ Ok i → i ≡ replica_of chunk edits }
-    ensures of_image { (block chunk : ℕ) (r : State) (edits : List Edit) (stamp : Stamp) → 1 ≤ block → block ≤ 65536 → chunk ≤ 67108864 → IsTaken chunk edits → of_image block chunk stamp (replica_of chunk edits) ≡ Ok r → StandsFor block chunk r.held edits × (lowest_damaged r.held.chunk ≡ None) }
+    ensures copy { CopiesStandForTheList }
+    ensures image { ImagesAreWhatTheListGives }
+    ensures of_image { ReplicasOfImagesStand }
 {}
 
 /// A replica that was sealed while it stood for a list of edits gives what that list gives, whatever was done to it since. A
 /// rollback that is not refused leaves it without a damaged block; a sealed image that is not refused carries it.
 pub fn seals_give_what_was_sealed()
     ensures seal { (block chunk : ℕ) (r : State) (edits : List Edit) → StandsFor block chunk r.held edits → SealedAt block chunk (seal r) edits }
-    ensures apply { (block chunk : ℕ) (r r2 : State) (edits : List Edit) (stamp : Stamp) (number : ℕ) (req : ReqId) (op : Op) (bytes : List ℕ) → SealedAt block chunk r edits → apply stamp number req op bytes r ≡ Ok r2 → SealedAt block chunk r2 edits }
+    ensures apply { EditsLeaveTheSeal }
     ensures undo { (block chunk : ℕ) (r r2 : State) (edits : List Edit) (i : ReplicaInverse) → SealedAt block chunk r edits → undo i r ≡ Ok r2 → SealedAt block chunk r2 edits }
     ensures promise { (block chunk : ℕ) (r r2 : State) (edits : List Edit) (stamp : Stamp) → SealedAt block chunk r edits → promise stamp r ≡ Ok r2 → SealedAt block chunk r2 edits }
     ensures damage { (block chunk : ℕ) (r r2 : State) (edits : List Edit) (index : ℕ) → SealedAt block chunk r edits → damage index r ≡ Ok r2 → SealedAt block chunk r2 edits }
-    ensures roll_back { (block chunk : ℕ) (r r2 : State) (edits : List Edit) (start : Stamp) → SealedAt block chunk r edits → roll_back start r ≡ Ok r2 → StandsFor block chunk r2.held edits × (lowest_damaged r2.held.chunk ≡ None) × (r2.sealed ≡ None) × (r2.held.promise ≡ start) }
-    ensures rolled_back { (block chunk : ℕ) (r r2 : State) (edits : List Edit) (start : Stamp) → SealedAt block chunk r edits → roll_back start r ≡ Ok r2 → IsToldFrom block chunk r2.held edits → image_of r2.held ≡ replica_of chunk edits }
-    ensures sealed_image { (block chunk : ℕ) (r : State) (i : SealedImage) (edits : List Edit) → SealedAt block chunk r edits → SealToldFrom block chunk r.sealed edits → sealed_image r ≡ Ok i → (i.image ≡ replica_of chunk edits) × (i.digests ≡ digests_of block (replica_of chunk edits).bytes) × (sealed_at r ≡ Some i.stamp) }
-    ensures of_sealed { (block chunk : ℕ) (r : State) (i : SealedImage) (edits : List Edit) → 1 ≤ block → block ≤ 65536 → chunk ≤ 67108864 → IsTaken chunk edits → i.image ≡ replica_of chunk edits → i.digests ≡ digests_of block (replica_of chunk edits).bytes → of_sealed block chunk i ≡ Ok r → StandsFor block chunk r.held edits × (lowest_damaged r.held.chunk ≡ None) × SealedAt block chunk r edits }
+    ensures roll_back { RollbacksStandForTheSealed }
+    ensures rolled_back { RollbacksGiveTheSealed }
+    ensures sealed_image { SealedImagesCarryTheSealed }
+    ensures of_sealed { ReplicasOfSealedImagesStand }
 {}
 
 /// What a rollback gives stays what it was at the seal, through every call: edits, edits that are undone, promises, and damage
 /// of blocks that were touched. It is refused no more than it was.
 pub fn rollbacks_stay()
     ensures seal { (r : State) (start : Stamp) → lowest_damaged r.held.chunk ≡ None → roll_back start (seal r) ≡ under start (Ok (unseal r)) }
-    ensures apply { (r r2 : State) (start stamp : Stamp) (number : ℕ) (req : ReqId) (op : Op) (bytes : List ℕ) → apply stamp number req op bytes r ≡ Ok r2 → roll_back start r2 ≡ roll_back start r }
+    ensures apply { EditsLeaveRollbacks }
     ensures undo { (r r2 : State) (start : Stamp) (i : ReplicaInverse) → undo i r ≡ Ok r2 → roll_back start r2 ≡ roll_back start r }
     ensures promise { (r r2 : State) (start stamp : Stamp) → promise stamp r ≡ Ok r2 → roll_back start r2 ≡ roll_back start r }
     ensures damage { (r r2 : State) (start : Stamp) (index : ℕ) → IsTouched r.sealed index → damage index r ≡ Ok r2 → roll_back start r2 ≡ roll_back start r }
@@ -110,7 +105,7 @@ pub fn lists_are_taken_once()
     ensures count { (chunk : ℕ) (edits : List Edit) → (replica_of chunk edits).count ≡ length edits }
     ensures more { (chunk : ℕ) (edits more : List Edit) → replica_of chunk (edits ++ more) ≡ after chunk (replica_of chunk edits) more }
     ensures beginning { (chunk : ℕ) (edits more : List Edit) → IsTaken chunk (edits ++ more) → IsTaken chunk edits }
-    ensures once { (chunk : ℕ) (before behind : List Edit) (e : Edit) → IsTaken chunk (before ++ e ∷ behind) → is_old e.req.number (fin.get (replica_of chunk (before ++ e ∷ behind)).done e.req.client.0) ≡ true }
+    ensures once { RequestsStandOnce }
     ensures listed { (chunk : ℕ) (edits : List Edit) (client : ℕ) (d : Done) → fin.get (replica_of chunk edits).done client ≡ Some d → Listed chunk edits client d }
 {}
 
@@ -118,7 +113,7 @@ pub fn lists_are_taken_once()
 /// undamaged one that stands for that list and holds exactly what it gives. Where it was undamaged and no block was damaged but
 /// touched ones, it is not refused.
 pub fn sealed_replicas_go_back()
-    ensures stands { (block chunk : ℕ) (r end r2 : State) (edits : List Edit) (calls : List Call) (start : Stamp) → StandsFor block chunk r.held edits → LeadsTo (seal r) calls end → roll_back start end ≡ Ok r2 → StandsFor block chunk r2.held edits × (lowest_damaged r2.held.chunk ≡ None) × (IsToldFrom block chunk r2.held edits → image_of r2.held ≡ replica_of chunk edits) }
-    ensures carries { (block chunk : ℕ) (r end : State) (i : SealedImage) (edits : List Edit) (calls : List Call) → StandsFor block chunk r.held edits → LeadsTo (seal r) calls end → SealToldFrom block chunk end.sealed edits → sealed_image end ≡ Ok i → i.image ≡ replica_of chunk edits }
-    ensures same { (r end : State) (calls : List Call) (start : Stamp) → lowest_damaged r.held.chunk ≡ None → LeadsSparing (seal r) calls end → roll_back start end ≡ under start (Ok (unseal r)) }
+    ensures stands { RunsGoBack }
+    ensures carries { RunsCarryTheSealed }
+    ensures same { SparingRunsGoBackExactly }
 {}
