@@ -14,5 +14,6 @@ pub mod Build
 pub mod Lists
 pub mod Commands
 pub mod Counting
+pub mod Laws
 pub mod Small
 pub mod inner

@@ -4,6 +4,7 @@ use Rattle.gs_base.specs.declared.refusal.Refusal.{Refusal}
 use Rattle.gs_path.specs.Path.{Path, begins}
 use Rattle.gs_tree.specs.Plain.{Plain, Same, rooted, part_at, without}
 use Rattle.gs_tree.specs.Edits.{moved, same_path}
+use Rattle.gs_tree.specs.Follows.{FollowsPlain}
 use Rattle.gs_tree.specs.declared.inverse.TreeInverse.{TreeInverse}
 use Rattle.gs_tree.specs.declared.inverse.TreeInverse.TheVariants.{Made, Moved, Removed, Added, Changed, Copied}
 
@@ -29,6 +30,10 @@ place_given_up (Copied path) m = m
 abbrev pub given_up : Result TreeInverse Refusal → Plain ℕ → Plain ℕ
 given_up (Ok i) m = place_given_up i m
 given_up (Err e) m = m
+
+-- the tree follows what is to be done, but for the place that is to be given up
+abbrev pub FollowsButPlace : Result (Plain ℕ) Refusal → Result TreeInverse Refusal → Plain ℕ → Plain ℕ → Type 0
+FollowsButPlace wanted result old new = FollowsPlain wanted result old (given_up result new)
 
 -- all but what stands at and under a path that isn't the root
 abbrev pub without_place : Path → Plain ℕ → Plain ℕ

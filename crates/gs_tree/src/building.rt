@@ -84,10 +84,7 @@ fn add_level(
 {
     for entry in entries {
         if is_next(entry.path(), most) {
-            match add_entry(root, alloc, first.path(), entry) {
-                Ok(()) => {}
-                Err(refusal) => return Err(refusal),
-            }
+            add_entry(root, alloc, first.path(), entry)?;
         }
     }
     Ok(())
@@ -110,10 +107,7 @@ pub(crate) fn built(
     }
     let mut root = first.node(alloc)?;
     for most in least..longest(least, entries) {
-        match add_level(&mut root, alloc, first, entries, most) {
-            Ok(()) => {}
-            Err(refusal) => return Err(refusal),
-        }
+        add_level(&mut root, alloc, first, entries, most)?;
     }
     Ok(root)
 }

@@ -70,10 +70,7 @@ impl TreeInverse {
         let [first, rest @ ..] = entries else {
             return Err(Refusal::BadLine);
         };
-        let node = match built(alloc, first, rest) {
-            Ok(node) => node,
-            Err(refusal) => return Err(refusal),
-        };
+        let node = built(alloc, first, rest)?;
         Ok(TreeInverse::Removed(first.path().copy(alloc)?, node))
     }
 }

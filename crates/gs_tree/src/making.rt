@@ -38,10 +38,7 @@ pub(crate) fn mkdirs_in(root: &mut Node, alloc: Global, path: &Path) -> Result<T
     ensures inverse { IfOk result (λ i. LeavesChunks i) }
     ensures kind { IfOk result (λ i. IsMade i) }
 {
-    let made = match make(root, alloc, path, Leaf::Dir) {
-        Ok(made) => made,
-        Err(refusal) => return Err(refusal),
-    };
+    let made = make(root, alloc, path, Leaf::Dir)?;
     match made {
         Some(inverse) => Ok(inverse),
         None => found(root, alloc, path),

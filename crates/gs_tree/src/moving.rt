@@ -1,14 +1,14 @@
 //! What is moved: renamed, hidden, and taken out of hiding.
-ghost use Rattle.std.specs.Prelude.{◌≡◌, ◌≢◌, ◌⊎◌, ◌-◌, [], Bool, true, false, ℕ, Result, is_some, IfOk, OnOk, IfErr};
+ghost use Rattle.std.specs.Prelude.{◌≡◌, ◌≢◌, ◌⊎◌, ◌-◌, [], true, false, ℕ, is_some, IfOk, OnOk, IfErr};
 ghost use Rattle.gs_path.specs.Path.{begins};
-ghost use Rattle.gs_tree.specs.Find.{at, DirsAbove, IsDepthTest};
+ghost use Rattle.gs_tree.specs.Find.{at, DirsAbove};
 ghost use Rattle.gs_tree.specs.Places.{KeepsPlace, given_up, returned, without_place};
 ghost use Rattle.gs_tree.specs.Plain.{Plain, Same, part_at, rooted, with_at};
-ghost use Rattle.gs_tree.specs.Edits.{rename, hide, unhide, beside, renamed_beside, old_name, move_to, target_of};
+ghost use Rattle.gs_tree.specs.Edits.{hide, unhide, beside, renamed_beside, old_name, target_of};
 ghost use Rattle.gs_tree.specs.Inverses.{TakesBack, LeavesChunks, IsMoved};
 ghost use Rattle.gs_tree.specs.Follows.{FollowsPlain, Moves};
 ghost use Rattle.gs_tree.specs.inner.Sort.{sort_of};
-ghost use Rattle.gs_tree.specs.inner.Steps.{TestsPlace, TestsApart, TestsParent, TestsTarget, IsElsewhere, IsKnown, IsAim, Aims};
+ghost use Rattle.gs_tree.specs.inner.Steps.{TestsPlace, TestsApart, TestsParent, TestsTarget, IsElsewhere, IsKnown, IsAim, FollowsAim, AimsAtTarget, FollowsRename};
 
 use crate::inverse::TreeInverse;
 use crate::node::{Leaf, Node, Sort};
@@ -21,10 +21,7 @@ use std::alloc::{AllocError, Global};
 pub(crate) fn test_place(root: &Node, from: &Path, target: &Path) -> Result<(), Refusal>
     ensures { TestsPlace (at root.now) from.now target.now result }
 {
-    match test_apart(from, target) {
-        Ok(()) => {}
-        Err(refusal) => return Err(refusal),
-    }
+    test_apart(from, target)?;
     match root.sort_at(target.elements()) {
         Sort::Missing => test_parent(root, target),
         Sort::Dir | Sort::File => Err(Refusal::Exists),
@@ -63,10 +60,7 @@ fn test_parent(root: &Node, target: &Path) -> Result<(), Refusal>
 fn test_target(root: &Node, from: &Path, target: &Path, found: Sort) -> Result<(), Refusal>
     ensures { (m : Plain ℕ) → IsElsewhere from.now m (at root.now) → IsKnown m target.now found → TestsTarget m from.now target.now result }
 {
-    match test_apart(from, target) {
-        Ok(()) => {}
-        Err(refusal) => return Err(refusal),
-    }
+    test_apart(from, target)?;
     match found {
         Sort::Missing => test_parent(root, target),
         Sort::File => Err(Refusal::Exists),
@@ -121,7 +115,7 @@ fn settle(
     requires node { is_some (at node []) ≡ true }
     requires above { DirsAbove (with_at path.now (at node) (at root.old)) path.now }
     requires aim { IfOk aim (λ a. IsAim (with_at path.now (at node) (at root.old)) path.now a.source a.target a.name) }
-    ensures edit { (wanted : Result (Plain ℕ) Refusal) → Aims (with_at path.now (at node) (at root.old)) path.now wanted aim (λ a. a.target) → FollowsPlain wanted result (with_at path.now (at node) (at root.old)) (given_up result (at root.new)) }
+    ensures edit { FollowsAim (with_at path.now (at node) (at root.old)) path.now aim (λ a. a.target) result (given_up result (at root.new)) }
     ensures undo { IfOk result (λ i. TakesBack i (with_at path.now (at node) (at root.old)) (given_up result (at root.new))) }
     ensures place { IfOk result (λ i. KeepsPlace i (at root.new)) }
     ensures inverse { IfOk result (λ i. LeavesChunks i) }
@@ -176,13 +170,10 @@ fn aim_at(
     requires root { from.now ≢ [] }
     requires found { found ≡ sort_of (with_at from.now (at node.now) (at root.now) to.now) }
     ensures aim { IfOk result (λ a. IsAim (with_at from.now (at node.now) (at root.now)) from.now a.source a.target a.name) }
-    ensures edit { (deep : Bool) → IsDepthTest deep (with_at from.now (at node.now) (at root.now)) from.now (target_of (with_at from.now (at node.now) (at root.now)) from.now to.now) → Aims (with_at from.now (at node.now) (at root.now)) from.now (move_to deep (with_at from.now (at node.now) (at root.now)) from.now (target_of (with_at from.now (at node.now) (at root.now)) from.now to.now)) result (λ a. a.target) }
+    ensures edit { AimsAtTarget (with_at from.now (at node.now) (at root.now)) from.now to.now result (λ a. a.target) }
 {
     let target = target_of(alloc, from, to, found)?;
-    match test_target(root, from, &target, found) {
-        Ok(()) => {}
-        Err(refusal) => return Err(refusal),
-    }
+    test_target(root, from, &target, found)?;
     let Some((name, _)) = target.elements().split_last() else {
         return Err(Refusal::Exists);
     };
@@ -208,7 +199,7 @@ pub(crate) fn rename_in(
     from: &Path,
     to: &Path,
 ) -> Result<TreeInverse, Refusal>
-    ensures edit { (deep : Bool) → IsDepthTest deep (at root.old) from.now (target_of (at root.old) from.now to.now) → FollowsPlain (rename (λ _. deep) (at root.old) from.now to.now) result (at root.old) (given_up result (at root.new)) }
+    ensures edit { FollowsRename from.now to.now result (at root.old) (given_up result (at root.new)) }
     ensures undo { IfOk result (λ i. TakesBack i (at root.old) (given_up result (at root.new))) }
     ensures place { IfOk result (λ i. KeepsPlace i (at root.new)) }
     ensures inverse { IfOk result (λ i. LeavesChunks i) }

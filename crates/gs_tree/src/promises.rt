@@ -1,25 +1,17 @@
 //! What holds of each tree, whatever was done to it.
 
-ghost use Rattle.std.specs.Prelude.{◌≡◌, ◌+◌, ℕ, Bool, true, false, [], List, Result, Ok, IfOk, IfErr};
-ghost use Rattle.std.specs.List.{list_all};
+ghost use Rattle.std.specs.Prelude.{◌≡◌, ℕ, Bool, true, false, List, Ok};
 ghost use Rattle.std.specs.List.Sorted.{IsPermutation};
-ghost use Rattle.std.specs.FinMap.{FinMap, get, entries as rows_of_map};
-ghost use Rattle.gs_base.specs.declared.refusal.Refusal.{Refusal};
-ghost use Rattle.gs_base.specs.declared.refusal.Refusal.TheVariants.{Memory};
-ghost use Rattle.gs_path.specs.Path.{Path, path_cmp, begins};
-ghost use Rattle.gs_tree.specs.Entry.{Entry};
+ghost use Rattle.gs_path.specs.Path.{Path, begins};
 ghost use Rattle.gs_tree.specs.Plain.{Plain, Same};
 ghost use Rattle.gs_tree.specs.Find.{Rows, at, IsWithin, most_elements};
 ghost use Rattle.gs_tree.specs.Edits.{mkdirs, create, rename, hide, unhide, remove, add_chunk, set_chunk, snapshot};
 ghost use Rattle.gs_tree.specs.Mapped.{mapped, mapped_result};
-ghost use Rattle.gs_tree.specs.Build.{rooted_rows, is_short, is_tree, Builds, IsSound};
-ghost use Rattle.gs_tree.specs.Lists.{made_paths, is_made, made_inverse, is_removed, PutsBack, IsSameInverse, IsPartList, top_path};
+ghost use Rattle.gs_tree.specs.Build.{rooted_rows, is_short, is_tree};
+ghost use Rattle.gs_tree.specs.Lists.{made_paths, is_made, made_inverse, IsSameInverse};
 ghost use Rattle.gs_tree.specs.declared.inverse.TreeInverse.TheVariants as inverses;
-ghost use Rattle.gs_tree.specs.Inverses.{Fits, TakesBack, after_undo};
-ghost use Rattle.gs_tree.specs.Chunks.{all_chunks};
-ghost use Rattle.gs_tree.specs.Counting.{IsAdditive, dropped_by, put_back_by};
-ghost use Rattle.gs_tree.specs.declared.inverse.TreeInverse.{TreeInverse};
-ghost use Rattle.gs_tree.specs.Commands.{Command, done, touched, made_path, TestsDepth, IsClosed};
+ghost use Rattle.gs_tree.specs.Commands.{Command, done, made_path, TestsDepth, IsClosed};
+ghost use Rattle.gs_tree.specs.Laws.{SnapshotsFollowChunks, EditsLeaveTheOtherSide, EntriesBuildAgain, RemovedListsUndoTheSame, RemovedListsAreWhole, UndoesBalanceTheChunks, EditsBalanceTheChunks};
 
 /// Each command gives the same in a tree whose files hold the texts of the chunks: it looks at no chunk.
 pub fn texts_follow_chunks()
@@ -31,20 +23,20 @@ pub fn texts_follow_chunks()
     ensures remove { (text : ℕ → List ℕ) (m : Plain ℕ) (p : Path) → remove (mapped text m) p ≡ mapped_result text (remove m p) }
     ensures add_chunk { (text : ℕ → List ℕ) (m : Plain ℕ) (p : Path) (chunk : ℕ) → add_chunk (mapped text m) p (text chunk) ≡ mapped_result text (add_chunk m p chunk) }
     ensures set_chunk { (text : ℕ → List ℕ) (m : Plain ℕ) (p : Path) (index chunk : ℕ) → set_chunk (mapped text m) p index (text chunk) ≡ mapped_result text (set_chunk m p index chunk) }
-    ensures snapshot { (text : ℕ → List ℕ) (is_deep : Path → Bool) (m : Plain ℕ) (from to : Path) → snapshot is_deep (mapped text m) from to ≡ mapped_result text (snapshot is_deep m from to) }
+    ensures snapshot { SnapshotsFollowChunks }
 {}
 
 /// The two sides of a snapshot are apart: neither path begins with the other, and an edit of which each path is at or under
 /// the one leaves what stands at and under the other.
 pub fn snapshots_stay_apart()
     ensures apart { (is_deep : Path → Bool) (m n : Plain ℕ) (from to : Path) → IsClosed m → snapshot is_deep m from to ≡ Ok n → (begins from to ≡ false) × (begins to from ≡ false) }
-    ensures stay { (c : Command ℕ) (m n : Plain ℕ) (one other q : Path) → begins one other ≡ false → begins other one ≡ false → list_all (begins one) (touched c m) ≡ true → done c m ≡ Ok n → begins other q ≡ true → n q ≡ m q }
+    ensures stay { EditsLeaveTheOtherSide }
 {}
 
 /// The entries of a tree build it again, memory aside. They do so in any order: whether they are a tree's, and what they have
 /// at a path then, doesn't depend on it.
 pub fn entries_build_their_tree()
-    ensures again { (tree : FinMap path_cmp (Entry ℕ)) (rows : Rows ℕ) (built : Result (FinMap path_cmp (Entry ℕ)) Refusal) → Same (at (rooted_rows rows)) (get tree) → is_tree rows ≡ true → Builds rows built → IfOk built (λ t. t ≡ tree) × IfErr built (λ e. e ≡ Memory) }
+    ensures again { EntriesBuildAgain }
     ensures order { (rows other : Rows ℕ) → IsPermutation rows other → is_tree rows ≡ true → (is_tree other ≡ true) × Same (at (rooted_rows other)) (at (rooted_rows rows)) }
 {}
 
@@ -52,15 +44,15 @@ pub fn entries_build_their_tree()
 /// were made, always; of what was removed, where no path has more than 64 elements.
 pub fn lists_undo_the_same()
     ensures made { (path : Path) (above : ℕ) → (is_made (made_paths path above) ≡ true) × IsSameInverse (inverses.Made path above) (made_inverse (made_paths path above)) }
-    ensures removed { (path : Path) (node rows : Rows ℕ) (i : TreeInverse) → IsSound node → top_path node ≡ [] → IsPartList path node rows → PutsBack rows i → IsSameInverse (inverses.Removed path node) i }
-    ensures whole { (path : Path) (node rows : Rows ℕ) → IsSound node → top_path node ≡ [] → IsPartList path node rows → list_all (λ r. is_short r.0) rows ≡ true → is_removed rows ≡ true }
+    ensures removed { RemovedListsUndoTheSame }
+    ensures whole { RemovedListsAreWhole }
 {}
 
 /// The chunks of a tree before and after an inverse is undone, however they are counted: those that go and those that come
 /// make the difference. So too of an edit, whose inverse leads from the new tree to the old.
 pub fn inverses_balance_the_chunks()
-    ensures undo { (count : List ℕ → ℕ) (i : TreeInverse) (old new : FinMap path_cmp (Entry ℕ)) → IsAdditive count → Fits i (get old) → Same (get new) (after_undo i (get old)) → count (all_chunks (rows_of_map new)) + count (dropped_by i old) ≡ count (all_chunks (rows_of_map old)) + count (put_back_by i) }
-    ensures edit { (count : List ℕ → ℕ) (i : TreeInverse) (old new : FinMap path_cmp (Entry ℕ)) → IsAdditive count → TakesBack i (get old) (get new) → count (all_chunks (rows_of_map old)) + count (dropped_by i new) ≡ count (all_chunks (rows_of_map new)) + count (put_back_by i) }
+    ensures undo { UndoesBalanceTheChunks }
+    ensures edit { EditsBalanceTheChunks }
 {}
 
 /// No path of a tree gets more than 64 elements: an accepted command leaves none longer, if none was, and the path that it

@@ -1,12 +1,12 @@
 //! What is copied.
-ghost use Rattle.std.specs.Prelude.{◌≡◌, [], Bool, false, true, is_some, IfOk, IfErr, Some, Ok, Err, if◌then◌else◌};
+ghost use Rattle.std.specs.Prelude.{◌≡◌, [], false, true, is_some, IfOk, IfErr, Some};
 ghost use Rattle.gs_path.specs.Path.{begins};
-ghost use Rattle.gs_tree.specs.Find.{at, IsDepthTest};
-ghost use Rattle.gs_tree.specs.Plain.{Same, IsFree, with_at, part_at};
+ghost use Rattle.gs_tree.specs.Find.{at};
+ghost use Rattle.gs_tree.specs.Plain.{Same, IsFree, part_at};
 ghost use Rattle.gs_tree.specs.Entry.{Dir};
-ghost use Rattle.gs_tree.specs.Edits.{snapshot, visible, parent};
+ghost use Rattle.gs_tree.specs.Edits.{visible, parent};
 ghost use Rattle.gs_tree.specs.Inverses.{TakesBack};
-ghost use Rattle.gs_tree.specs.Follows.{FollowsPlain};
+ghost use Rattle.gs_tree.specs.inner.Steps.{FollowsSnapshot, PutsCopy};
 
 use crate::inverse::TreeInverse;
 use crate::moving::test_place;
@@ -35,7 +35,7 @@ pub(crate) fn snapshot_in(
     from: &Path,
     to: &Path,
 ) -> Result<TreeInverse, Refusal>
-    ensures edit { (deep : Bool) → IsDepthTest deep (visible (part_at from.now (at root.old))) [] to.now → FollowsPlain (snapshot (λ _. deep) (at root.old) from.now to.now) result (at root.old) (at root.new) }
+    ensures edit { FollowsSnapshot from.now to.now result (at root.old) (at root.new) }
     ensures undo { IfOk result (λ i. TakesBack i (at root.old) (at root.new)) }
     ensures inverse { IfOk result (λ i. i ≡ TreeInverse.Copied to.now) }
     ensures apart { IfOk result (λ _. (begins from.now to.now ≡ false) × (begins to.now from.now ≡ false)) }
@@ -47,14 +47,8 @@ pub(crate) fn snapshot_in(
         Sort::Missing => return Err(Refusal::NotFound),
         Sort::Dir | Sort::File => {}
     }
-    match test_place(root, from, to) {
-        Ok(()) => {}
-        Err(refusal) => return Err(refusal),
-    }
-    let copy = match visible_at(root, alloc, from) {
-        Ok(copy) => copy,
-        Err(refusal) => return Err(refusal),
-    };
+    test_place(root, from, to)?;
+    let copy = visible_at(root, alloc, from)?;
     put_copy(root, alloc, to, copy)
 }
 
@@ -63,7 +57,7 @@ fn put_copy(root: &mut Node, alloc: Global, to: &Path, copy: Node) -> Result<Tre
     requires free { IsFree (at root.old) to.now }
     requires dir { at root.old (parent to.now) ≡ Some Dir }
     requires stands { is_some (at copy []) ≡ true }
-    ensures edit { (deep : Bool) → IsDepthTest deep (at copy) [] to.now → FollowsPlain (if deep then Err Refusal.BadPath else Ok (with_at to.now (at copy) (at root.old))) result (at root.old) (at root.new) }
+    ensures edit { PutsCopy (at copy) to.now result (at root.old) (at root.new) }
     ensures undo { IfOk result (λ i. TakesBack i (at root.old) (at root.new)) }
     ensures inverse { IfOk result (λ i. i ≡ TreeInverse.Copied to.now) }
 {

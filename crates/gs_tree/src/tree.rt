@@ -2,7 +2,7 @@ ghost use Rattle.std.specs.Prelude.{◌≡◌, [], false, IfOk, IfErr, MatchBool
 ghost use Rattle.std.specs.FinMap as fin_map;
 ghost use Rattle.gs_path.specs.Path.{begins};
 ghost use Rattle.gs_tree.specs.Find.{at, is_too_deep, is_copied_too_deep};
-ghost use Rattle.gs_tree.specs.Places.{KeepsPlace, given_up, returned, without_place};
+ghost use Rattle.gs_tree.specs.Places.{KeepsPlace, FollowsButPlace, given_up, returned, without_place};
 ghost use Rattle.gs_tree.specs.Plain.{Same, part_at, rooted};
 ghost use Rattle.gs_tree.specs.Entry.{Dir};
 ghost use Rattle.gs_tree.specs.Edits.{mkdirs, create, rename, hide, unhide, remove, add_chunk, set_chunk, snapshot};
@@ -119,7 +119,7 @@ impl Tree {
     /// The same, but where it is made an empty directory keeps the source's place, until `give_up_place` takes it out or
     /// `return_to_place` takes the move back. Neither takes memory.
     pub fn rename_keeping_place(&mut self, from: &Path, to: &Path) -> Result<TreeInverse, Refusal>
-        ensures edit { FollowsPlain (rename (is_too_deep (fin_map.entries self.old) from.now) (fin_map.get self.old) from.now to.now) result (fin_map.get self.old) (given_up result (fin_map.get self.new)) }
+        ensures edit { FollowsButPlace (rename (is_too_deep (fin_map.entries self.old) from.now) (fin_map.get self.old) from.now to.now) result (fin_map.get self.old) (fin_map.get self.new) }
         ensures undo { IfOk result (λ i. TakesBack i (fin_map.get self.old) (given_up result (fin_map.get self.new))) }
         ensures place { IfOk result (λ i. KeepsPlace i (fin_map.get self.new)) }
         ensures inverse { IfOk result (λ i. LeavesChunks i) }

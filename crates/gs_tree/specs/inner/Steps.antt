@@ -1,17 +1,18 @@
 -- What the steps of the edits say of one another's work: making an entry, testing a place, putting a chunk.
-use Rattle.std.specs.Prelude.{◌≡◌, ◌⊎◌, ◌<◌, ◌+◌, Result, Ok, Err, Option, Some, None, ℕ, zero, suc, Bool, true, false, cond, is_none, is_some, length, nat_lt, slice_get, slice_set, [], ◌∷◌, ◌++◌}
+use Rattle.std.specs.Prelude.{◌≡◌, ◌⊎◌, ◌<◌, ◌+◌, Result, Ok, Err, Option, Some, None, ℕ, zero, suc, Bool, true, false, cond, if◌then◌else◌, is_none, is_some, length, nat_lt, slice_get, slice_set, [], ◌∷◌, ◌++◌}
 use Rattle.std.specs.declared.alloc.AllocError.{AllocError}
 use Rattle.gs_base.specs.declared.refusal.Refusal.{Refusal}
 use Rattle.gs_base.specs.declared.refusal.Refusal.TheVariants.{Memory, Exists, NotADirectory, BadPath, Range}
 use Rattle.gs_path.specs.Path.{Name, Path, begins}
 use Rattle.gs_tree.specs.Entry.{Entry, Dir}
-use Rattle.gs_tree.specs.Plain.{Plain, Same, IsFree, with_at}
+use Rattle.gs_tree.specs.Plain.{Plain, Same, IsFree, with_at, part_at}
+use Rattle.gs_tree.specs.Find.{IsDepthTest}
 use Rattle.gs_tree.specs.Inverses.{first_made, TakesBack, IsMade, LeavesChunks}
 use Rattle.gs_tree.specs.Follows.{FollowsPlain}
 use Rattle.gs_tree.specs.declared.inverse.TreeInverse.{TreeInverse}
 use Rattle.gs_tree.specs.declared.node.Sort.{Sort}
 use Rattle.gs_tree.specs.declared.node.Sort.TheVariants as sorts
-use Rattle.gs_tree.specs.Edits.{with_entry, with_dirs, with_chunks, chunks_in, file_above, stood, made, placed, moved, parent, same_path}
+use Rattle.gs_tree.specs.Edits.{with_entry, with_dirs, with_chunks, chunks_in, file_above, stood, made, placed, moved, move_to, target_of, rename, snapshot, visible, parent, same_path}
 
 -- an entry was made where nothing stood, with the directories above it that were missing: so many paths in all
 pub record IsSown {A : Type 0} (m : Plain A) (path : Path) (e : Entry A) (made : ℕ) (left : Plain A) : Type 0 where
@@ -107,3 +108,23 @@ SwapsChunk path index chunk old (Ok had) new =
     (nat_lt index (length (chunks_in (old path))) ≡ true) × (slice_set (slice_set (chunks_in (old path)) index chunk) index had ≡ chunks_in (old path))
     × Same new (with_chunks path (slice_set (chunks_in (old path)) index chunk) old) × (slice_get (chunks_in (old path)) index ≡ Some had)
 SwapsChunk path index chunk old (Err e) new = (e ≡ Range) × (nat_lt index (length (chunks_in (old path))) ≡ false) × Same new old
+
+-- the tree follows what is to be done of such a move, whatever that is
+abbrev pub FollowsAim : {T I : Type 0} → Plain ℕ → Path → Result T Refusal → (T → Path) → Result I Refusal → Plain ℕ → Type 0
+FollowsAim m from aim target result left = (wanted : Result (Plain ℕ) Refusal) → Aims m from wanted aim target → FollowsPlain wanted result m left
+
+-- what is answered is the move to a target, or what refuses it, whichever test on the depth says how deep it leads
+abbrev pub AimsAtTarget : {T : Type 0} → Plain ℕ → Path → Path → Result T Refusal → (T → Path) → Type 0
+AimsAtTarget m from to result target = (deep : Bool) → IsDepthTest deep m from (target_of m from to) → Aims m from (move_to deep m from (target_of m from to)) result target
+
+-- the tree follows a rename, whichever test on the depth says how deep it leads
+abbrev pub FollowsRename : {I : Type 0} → Path → Path → Result I Refusal → Plain ℕ → Plain ℕ → Type 0
+FollowsRename from to result old left = (deep : Bool) → IsDepthTest deep old from (target_of old from to) → FollowsPlain (rename (λ _. deep) old from to) result old left
+
+-- so of a snapshot
+abbrev pub FollowsSnapshot : {I : Type 0} → Path → Path → Result I Refusal → Plain ℕ → Plain ℕ → Type 0
+FollowsSnapshot from to result old new = (deep : Bool) → IsDepthTest deep (visible (part_at from old)) [] to → FollowsPlain (snapshot (λ _. deep) old from to) result old new
+
+-- a copy is put to a free place, unless it leads too deep there
+abbrev pub PutsCopy : {I : Type 0} → Plain ℕ → Path → Result I Refusal → Plain ℕ → Plain ℕ → Type 0
+PutsCopy copy to result old new = (deep : Bool) → IsDepthTest deep copy [] to → FollowsPlain (if deep then Err BadPath else Ok (with_at to copy old)) result old new

@@ -1,4 +1,4 @@
-use Rattle.std.proofs.Common.{◌≡◌, ◌<◌, ◌∷◌, ℕ, Bool, true, length, refl, sym, ap, ◌∙◌, subst, inl, inr, arith}
+use Rattle.std.proofs.Common.{◌≡◌, ◌<◌, ◌∷◌, ℕ, Bool, true, length, refl, sym, ap, ◌∙◌, subst, inl, inr, Err, arith, rules}
 use Rattle.std.proofs.lemmas.Bool.{leb-true, le-leb}
 use Rattle.std.proofs.lemmas.Result.{err_from_is_err_and}
 use Rattle.std.specs.List.{list_all}
@@ -54,11 +54,12 @@ returns-in_err-root c =
     let p = err_from_is_err_and c.from_residual.result c.from_residual.ensures.1 in
     rw (p.1, p.2) (inl (refl, deeper))
 
-pub returns-in-Err : goal.returns-in-Err
-returns-in-Err c =
+pub returns-in_err-add_level : goal.returns-in_err-add_level
+returns-in_err-add_level c =
     let few = c.if-least-ge-TOO_MANY_ELEMENTS.false in
     let deeper = judged (row_of_entry c.args.first.now) (rows_of_entries c.args.entries.now) (length c.elements-least.result.now) c.are_inside.result (ap length (c.elements-least.ensures ∙ c.path.ensures)) (omega arith) c.are_inside.ensures c.if-not-are_inside.false in
-    elim c.in-Err.ensures [
+    let e : c.from_residual-in_err-add_level.result ≡ Err c.in_err-add_level.field-0.0 = search rules in
+    rw e (elim c.in_err-add_level.ensures [
       | inl memory ↦ inl (memory, deeper)
       | inr bad ↦ inr bad
-    ]
+    ])

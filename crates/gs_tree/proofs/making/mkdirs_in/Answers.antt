@@ -19,4 +19,4 @@ made_follows m left path made i is h =
     subst (λ (r : Result (Plain ℕ) Refusal). FollowsPlain r (Ok i) m left) (mkdirs_missing m path some.0) some.1
 
 pub returns-in-Some-clause-edit : goal.returns-in-Some-clause-edit
-returns-in-Some-clause-edit c = made_follows (at c.args.root.now) (at c.make.new.root) c.args.path.now c.in-Ok.made c.in-Some.inverse c.in-Some.is c.in-Ok.ensures
+returns-in-Some-clause-edit c = made_follows (at c.args.root.now) (at c.make.new.root) c.args.path.now c.in_ok-made.made c.in-Some.inverse c.in-Some.is c.in_ok-made.ensures

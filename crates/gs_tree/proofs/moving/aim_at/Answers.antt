@@ -13,8 +13,8 @@ use Rattle.gs_tree.proofs.Laws.{elsewhere, with_at-append}
 use Rattle.gs_tree.proofs.Moves.{known_of, depth_of, deep_false, deep_true, parent-append, none_is, stands_is}
 use Rattle.gs_tree.proofs.moving.aim_at.Goals as goal
 
-pub returns-in-Err-clause-edit : goal.returns-in-Err-clause-edit
-returns-in-Err-clause-edit c deep test =
+pub returns-in_err-test_target-clause-edit : goal.returns-in_err-test_target-clause-edit
+returns-in_err-test_target-clause-edit c deep test =
     let from = c.args.from.now in
     let root = at c.args.root.now in
     let m = with_at from (at c.args.node.now) root in
@@ -22,7 +22,8 @@ returns-in-Err-clause-edit c deep test =
     let is : target ≡ target_of m from c.args.to.now = c.in_ok-target.ensures m c.requires.found in
     let others : IsElsewhere from m root = λ q r apart. sym (elsewhere root (at c.args.node.now) m from q r (λ p. refl) apart) in
     let known : IsKnown m target c.args.found = subst (λ (t : Path). IsKnown m t c.args.found) (sym is) (known_of m from c.args.to.now c.args.found c.requires.root c.requires.found) in
-    inr (subst (λ (t : Path). move_to deep m from t ≡ Err c.in-Err.refusal) is (c.in-Err.ensures m others known deep (moved from target m)))
+    let e : c.from_residual-in_err-test_target.result ≡ Err c.in_err-test_target.field-0.0 = search rules in
+    rw e (inr (subst (λ (t : Path). move_to deep m from t ≡ Err c.in_err-test_target.field-0.0) is (c.in_err-test_target.ensures m others known deep (moved from target m))))
 
 pub returns-in_default-clause-edit : goal.returns-in_default-clause-edit
 returns-in_default-clause-edit c deep test =
@@ -33,7 +34,7 @@ returns-in_default-clause-edit c deep test =
     let is : target ≡ target_of m from c.args.to.now = c.in_ok-target.ensures m c.requires.found in
     let others : IsElsewhere from m root = λ q r apart. sym (elsewhere root (at c.args.node.now) m from q r (λ p. refl) apart) in
     let known : IsKnown m target c.args.found = subst (λ (t : Path). IsKnown m t c.args.found) (sym is) (known_of m from c.args.to.now c.args.found c.requires.root c.requires.found) in
-    let aimed : IsTarget m from target = c.in-Ok.ensures m others known in
+    let aimed : IsTarget m from target = c.in_ok-test_target.ensures m others known in
     let root_is : target ≡ [] = sym c.elements.ensures ∙ empty_path c.elements.result.now (let z = c.in_default.ensures.cases in omega arith) in
     let stands : m target ≡ Some Dir = ap m (root_is ∙ sym (ap parent root_is)) ∙ aimed.dir in
     inr (subst (λ (t : Path). move_to deep m from t ≡ Err Exists) is (aimed.answer deep (moved from target m) ∙ ap (λ v. cond (is_some v) (Err Exists) (cond deep (Err BadPath) (Ok (moved from target m)))) stands))
@@ -47,7 +48,7 @@ returns-in-Missing-clause-edit c deep test =
     let is : target ≡ target_of m from c.args.to.now = c.in_ok-target.ensures m c.requires.found in
     let others : IsElsewhere from m root = λ q r apart. sym (elsewhere root (at c.args.node.now) m from q r (λ p. refl) apart) in
     let known : IsKnown m target c.args.found = subst (λ (t : Path). IsKnown m t c.args.found) (sym is) (known_of m from c.args.to.now c.args.found c.requires.root c.requires.found) in
-    let aimed : IsTarget m from target = c.in-Ok.ensures m others known in
+    let aimed : IsTarget m from target = c.in_ok-test_target.ensures m others known in
     let tested = subst (λ (t : Path). IsDepthTest deep m from t) (sym is) test in
     let depth = depth_of c.is_below.result c.saturating_sub.result (length target) m (at c.args.node.now) from (c.saturating_sub.ensures ∙ ap (λ (p : Path). 65 - length p) c.elements-2.ensures) (λ q. with_at-append from (at c.args.node.now) root q) c.is_below.ensures in
     let seen : root c.elements-then-not-is_below.result.now ≡ m target = ap root c.elements-then-not-is_below.ensures ∙ others target [] (ap (begins from) (append-nil target) ∙ aimed.apart) in
@@ -68,7 +69,7 @@ returns-in-Dir-clause-edit c deep test =
     let is : target ≡ target_of m from c.args.to.now = c.in_ok-target.ensures m c.requires.found in
     let others : IsElsewhere from m root = λ q r apart. sym (elsewhere root (at c.args.node.now) m from q r (λ p. refl) apart) in
     let known : IsKnown m target c.args.found = subst (λ (t : Path). IsKnown m t c.args.found) (sym is) (known_of m from c.args.to.now c.args.found c.requires.root c.requires.found) in
-    let aimed : IsTarget m from target = c.in-Ok.ensures m others known in
+    let aimed : IsTarget m from target = c.in_ok-test_target.ensures m others known in
     let seen : root c.elements-then-not-is_below.result.now ≡ m target = ap root c.elements-then-not-is_below.ensures ∙ others target [] (ap (begins from) (append-nil target) ∙ aimed.apart) in
     let sort = c.sort_at.ensures.sort ∙ ap sort_of seen in
     let taken = stands_is (m target) (λ e. let k = sort ∙ sym e in elim c.in-Dir.is [ inl d ↦ cc (d, k) | inr f ↦ cc (f, k) ]) in
@@ -83,7 +84,7 @@ returns-clause-aim c =
     let is : target ≡ target_of m from c.args.to.now = c.in_ok-target.ensures m c.requires.found in
     let others : IsElsewhere from m root = λ q r apart. sym (elsewhere root (at c.args.node.now) m from q r (λ p. refl) apart) in
     let known : IsKnown m target c.args.found = subst (λ (t : Path). IsKnown m t c.args.found) (sym is) (known_of m from c.args.to.now c.args.found c.requires.root c.requires.found) in
-    let aimed : IsTarget m from target = c.in-Ok.ensures m others known in
+    let aimed : IsTarget m from target = c.in_ok-test_target.ensures m others known in
     let split = sym c.elements.ensures ∙ c.in-Some.ensures.cases.0 in
     let up : parent target ≡ c.in-Some.field-0-1.now = ap parent split ∙ parent-append c.in-Some.field-0-1.now c.in-Some.name.now in record {
       same = c.in_ok-source.ensures;
@@ -101,7 +102,7 @@ returns-clause-edit c deep test =
     let is : target ≡ target_of m from c.args.to.now = c.in_ok-target.ensures m c.requires.found in
     let others : IsElsewhere from m root = λ q r apart. sym (elsewhere root (at c.args.node.now) m from q r (λ p. refl) apart) in
     let known : IsKnown m target c.args.found = subst (λ (t : Path). IsKnown m t c.args.found) (sym is) (known_of m from c.args.to.now c.args.found c.requires.root c.requires.found) in
-    let aimed : IsTarget m from target = c.in-Ok.ensures m others known in
+    let aimed : IsTarget m from target = c.in_ok-test_target.ensures m others known in
     let tested = subst (λ (t : Path). IsDepthTest deep m from t) (sym is) test in
     let depth = depth_of c.is_below.result c.saturating_sub.result (length target) m (at c.args.node.now) from (c.saturating_sub.ensures ∙ ap (λ (p : Path). 65 - length p) c.elements-2.ensures) (λ q. with_at-append from (at c.args.node.now) root q) c.is_below.ensures in
     let fits : c.is_below.result ≡ true = search rules in

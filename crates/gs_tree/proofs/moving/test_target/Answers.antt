@@ -6,4 +6,4 @@ use Rattle.gs_tree.proofs.moving.test_target.Goals as goal
 
 pub returns-in-Missing : goal.returns-in-Missing
 returns-in-Missing c m same known =
-    parent_target c.test_parent.result m (at c.args.root.now) c.args.from.now c.args.target.now same c.in-Ok.ensures.0 c.in-Ok.ensures.1 (subst (IsKnown m c.args.target.now) c.in-Missing.is known) c.test_parent.ensures
+    parent_target c.test_parent.result m (at c.args.root.now) c.args.from.now c.args.target.now same c.in_ok-test_apart.ensures.0 c.in_ok-test_apart.ensures.1 (subst (IsKnown m c.args.target.now) c.in-Missing.is known) c.test_parent.ensures

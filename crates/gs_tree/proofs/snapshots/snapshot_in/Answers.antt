@@ -1,4 +1,4 @@
-use Rattle.std.proofs.Common.{◌≡◌, ap, sym, ◌∙◌, subst, inl, inr, ℕ, [], cond}
+use Rattle.std.proofs.Common.{◌≡◌, ap, sym, ◌∙◌, subst, inl, inr, ℕ, [], cond, rules}
 use Rattle.std.specs.Prelude.{Ok, Err, Result}
 use Rattle.gs_base.specs.declared.refusal.Refusal.{Refusal}
 use Rattle.gs_base.specs.declared.refusal.Refusal.TheVariants.{NotFound, BadPath}
@@ -18,17 +18,19 @@ returns-in-Missing-clause-edit c deep test =
     let none = none_is (at c.args.root.now c.args.from.now) (c.in-Missing.ensures.sort ∙ ap (λ p. sort_of (at c.args.root.now p)) c.elements-2.ensures) in
     refused TreeInverse NotFound (at c.args.root.now) (snapshot-missing deep (at c.args.root.now) c.args.from.now c.args.to.now (not_empty c.args.from.now c.elements.result.now c.is_empty.result c.elements.ensures c.is_empty.ensures c.if-is_empty.false) none)
 
-pub returns-in-Err : goal.returns-in-Err
-returns-in-Err c =
+pub returns-in_err-test_place : goal.returns-in_err-test_place
+returns-in_err-test_place c =
     let stands : sorts.Missing ≡ sort_of (at c.args.root.now c.args.from.now) → ⊥ =
     λ e. let m = c.sort_at.ensures.sort ∙ ap (λ p. sort_of (at c.args.root.now p)) c.elements-2.ensures ∙ sym e in elim c.in-Dir.is [ inl d ↦ cc (d, m) | inr f ↦ cc (f, m) ] in
     let some = stands_is (at c.args.root.now c.args.from.now) stands in
-    let ne = not_empty c.args.from.now c.elements.result.now c.is_empty.result c.elements.ensures c.is_empty.ensures c.if-is_empty.false in record {
-      edit = λ deep test. refused TreeInverse c.in-Err.refusal (at c.args.root.now) (snapshot-is deep (at c.args.root.now) c.args.from.now c.args.to.now ne some ∙ c.in-Err.ensures deep (copied c.args.from.now c.args.to.now (at c.args.root.now)));
+    let ne = not_empty c.args.from.now c.elements.result.now c.is_empty.result c.elements.ensures c.is_empty.ensures c.if-is_empty.false in
+    let e : c.from_residual.result ≡ Err c.in_err-test_place.field-0.0 = search rules in
+    rw e (record {
+      edit = λ deep test. refused TreeInverse c.in_err-test_place.field-0.0 (at c.args.root.now) (snapshot-is deep (at c.args.root.now) c.args.from.now c.args.to.now ne some ∙ c.in_err-test_place.ensures deep (copied c.args.from.now c.args.to.now (at c.args.root.now)));
       undo = tt;
       inverse = tt;
       apart = tt;
-    }
+    })
 
 pub returns : goal.returns
 returns c =
@@ -36,13 +38,13 @@ returns c =
     λ e. let m = c.sort_at.ensures.sort ∙ ap (λ p. sort_of (at c.args.root.now p)) c.elements-2.ensures ∙ sym e in elim c.in-Dir.is [ inl d ↦ cc (d, m) | inr f ↦ cc (f, m) ] in
     let some = stands_is (at c.args.root.now c.args.from.now) stands in
     let ne = not_empty c.args.from.now c.elements.result.now c.is_empty.result c.elements.ensures c.is_empty.ensures c.if-is_empty.false in
-    let part : at c.in-Ok-visible_at.copy ≡ visible (part_at c.args.from.now (at c.args.root.now)) = λ i q. c.in-Ok-visible_at.ensures.same q i in record {
+    let part : at c.in_ok-copy.copy ≡ visible (part_at c.args.from.now (at c.args.root.now)) = λ i q. c.in_ok-copy.ensures.same q i in record {
       edit = λ deep test.
-          let is = snapshot-is deep (at c.args.root.now) c.args.from.now c.args.to.now ne some ∙ c.in-Ok.ensures.answer deep (copied c.args.from.now c.args.to.now (at c.args.root.now)) in
+          let is = snapshot-is deep (at c.args.root.now) c.args.from.now c.args.to.now ne some ∙ c.in_ok-test_place.ensures.answer deep (copied c.args.from.now c.args.to.now (at c.args.root.now)) in
           let step = c.put_copy.ensures.edit deep (subst (λ (k : Plain ℕ). IsDepthTest deep k [] c.args.to.now) (sym part) test) in
           let same = subst (λ (k : Plain ℕ). FollowsPlain (cond deep (Err BadPath) (Ok (with_at c.args.to.now k (at c.args.root.now)))) c.put_copy.result (at c.args.root.now) (at c.put_copy.new.root)) part step in
           subst (λ (r : Result (Plain ℕ) Refusal). FollowsPlain r c.put_copy.result (at c.args.root.now) (at c.put_copy.new.root)) (sym is) same;
       undo = c.put_copy.ensures.undo;
       inverse = c.put_copy.ensures.inverse;
-      apart = if_ok c.put_copy.result (c.in-Ok.ensures.apart, not_front (at c.args.root.now) c.args.to.now c.args.from.now c.in-Ok.ensures.free some);
+      apart = if_ok c.put_copy.result (c.in_ok-test_place.ensures.apart, not_front (at c.args.root.now) c.args.to.now c.args.from.now c.in_ok-test_place.ensures.free some);
     }

@@ -13,6 +13,6 @@ returns-in_err-copy c =
     let more : 0 < length entries = omega arith in
     let rest = take (length entries - 1) (drop 1 entries) in
     let whole : entries ≡ first ∷ rest = drop_more entries 0 first more ∙ ap (λ x. x ∷ drop 1 entries) (sym c.first-item.is) ∙ ap (λ l. first ∷ l) (sym (take_all (length entries - 1) (drop 1 entries) (omega (arith, length-drop 1 entries)))) in
-    let deeper : goes_deeper (rows_of_entries entries) ≡ true = ap (λ l. goes_deeper (rows_of_entries l)) whole ∙ part_goes_deeper (row_of_entry first) (rows_of_entries rest) (c.in-Ok.ensures.0) in
-    let p = err_from_is_err_and c.from_residual.result c.from_residual.ensures.1 in
+    let deeper : goes_deeper (rows_of_entries entries) ≡ true = ap (λ l. goes_deeper (rows_of_entries l)) whole ∙ part_goes_deeper (row_of_entry first) (rows_of_entries rest) (c.in_ok-node.ensures.0) in
+    let p = err_from_is_err_and c.from_residual-in_err-copy.result c.from_residual-in_err-copy.ensures.1 in
     rw (p.1, p.2) (inl (refl, deeper))

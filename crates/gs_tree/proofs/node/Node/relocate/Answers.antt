@@ -1,4 +1,3 @@
-use Rattle.std.proofs.Common.{false}
 use Rattle.gs_tree.specs.Find.{at}
 use Rattle.gs_tree.proofs.Laws.{landed}
 use Rattle.gs_tree.proofs.Moves.{put_there}
