@@ -1,4 +1,5 @@
 mod Counting
+mod Deep
 pub mod Granting
 mod HeldUp
 mod Quieting

@@ -140,12 +140,16 @@ impl<'a> Standing<'a> {
     }
 
     /// Why a call is refused before its own tests.
+    #[tactic(auto, using(crate::proofs::Deep::whatever_is_locked))]
     pub fn refused_before(&self, req: ReqId, call: &Call) -> Result<Option<Refusal>, AllocError>
         ensures { IfOk result (λ refusal. refusal ≡ refused_before (state_of self.entry.now) req call.now) }
     {
-        // (a deep path is refused whatever is locked, and to look for its locks takes the square of its length)
-        let is_locked = !is_any_deep(call) && self.is_locked(req, call)?;
-        Ok(self.refused_where(call, is_locked))
+        // A deep path is refused whatever is locked, and to look for its locks takes the square of its length.
+        if !is_any_deep(call) {
+            let is_locked = self.is_locked(req, call)?;
+            return Ok(self.refused_where(call, is_locked));
+        }
+        Ok(self.refused_where(call, false))
     }
 
     /// Whether a lock of another call is in the way of one that writes these paths.
