@@ -9,4 +9,5 @@ pub mod Machine
 pub mod Scan
 pub mod Listed
 pub mod Sweep
+pub mod Laws
 pub mod Small

@@ -1,11 +1,14 @@
 -- A move whose place is kept by an empty directory, until it stands or is taken back.
-use Rattle.std.specs.Prelude.{◌≡◌, Bool, true, false, Result}
+use Rattle.std.specs.Prelude.{◌≡◌, ℕ, Bool, true, false, Result}
 use Rattle.std.specs.FinMap as fin
 use Rattle.gs_base.specs.declared.refusal.Refusal.{Refusal}
+use Rattle.gs_path.specs.Path.{path_cmp}
 use Rattle.gs_tree.specs.Plain.{Same}
 use Rattle.gs_tree.specs.Places.{given_up}
+use Rattle.gs_tree.specs.Entry.{Entry}
 use Rattle.gs_tree.specs.declared.inverse.TreeInverse.{TreeInverse}
 use Rattle.gs_edit.specs.View.{NamesView}
+use Rattle.gs_edit.specs.Edits.{AppliesRows}
 use Rattle.gs_edit.specs.declared.edit.Edit.{Edit}
 use Rattle.gs_edit.specs.declared.edit.Edit.TheVariants as edits
 
@@ -25,3 +28,8 @@ is_move (edits.Forget chunks) = false
 -- names that are those of a move, once the place that it kept is given up
 abbrev pub IsClosed : Result TreeInverse Refusal → NamesView → NamesView → Type 0
 IsClosed made now after = Same (fin.get after.tree) (given_up made (fin.get now.tree)) × (after.refs ≡ now.refs)
+
+-- a move is made in the rows of a tree, once the place that it kept is given up
+abbrev pub AppliesMove : Edit → fin.FinMap path_cmp (Entry ℕ) → Result TreeInverse Refusal → fin.FinMap path_cmp (Entry ℕ) → Type 0
+AppliesMove edit old made now = is_move edit ≡ true → (after : fin.FinMap path_cmp (Entry ℕ)) → Same (fin.get after) (given_up made (fin.get now))
+    → AppliesRows edit (fin.entries old) made (fin.entries after)

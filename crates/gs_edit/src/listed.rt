@@ -1,11 +1,8 @@
 //! Inverses of edits as plain lists.
 ghost use Rattle.std.specs.Prelude.{◌≡◌, true};
 ghost use Rattle.gs_tree.specs.declared.inverse.TreeInverse.TheVariants as changes;
-ghost use Rattle.std.specs.FinMap.{get};
-ghost use Rattle.gs_tree.specs.Find.{IsWithin, most_elements};
-ghost use Rattle.gs_edit.specs.View.{NamesView};
-ghost use Rattle.gs_edit.specs.Names.{NamesTakenBack};
 ghost use Rattle.gs_edit.specs.Listed.{kind_of, kind_of_list, is_listed, has_short_paths, ListsAs, GivesInverse, IsListOf, IsMadeOfList, DoesTheSame};
+ghost use Rattle.gs_edit.specs.Laws.{ListsOfShortNamesAreShort};
 
 use crate::edit::{Edit, Inverse};
 use crate::names::kept;
@@ -252,6 +249,6 @@ impl ListedInverse {
 /// inverse, if no path that it removed has more than 64 elements; where the names had none before the edit, it hasn't.
 pub fn listed_inverses_undo_the_same()
     ensures list { (i : Inverse) (list : ListedInverse) → IsListOf i list → has_short_paths list ≡ true → is_listed list ≡ true }
-    ensures short { (i : Inverse) (list : ListedInverse) (old new : NamesView) → NamesTakenBack i old new → IsWithin most_elements (get old.tree) → IsListOf i list → has_short_paths list ≡ true }
+    ensures short { ListsOfShortNamesAreShort }
     ensures same { (i j : Inverse) (list : ListedInverse) → IsListOf i list → IsMadeOfList list j → DoesTheSame i j }
 {}

@@ -8,12 +8,10 @@ ghost use Rattle.gs_edit.specs.View.{names_of};
 ghost use Rattle.gs_edit.specs.Listed.{kind_of, is_of_kind};
 ghost use Rattle.gs_edit.specs.declared.listed.EditKind.TheVariants as kinds;
 ghost use Rattle.gs_edit.specs.Scan.{Scans};
-ghost use Rattle.gs_edit.specs.Places.{IsClosed, is_move};
+ghost use Rattle.gs_edit.specs.Places.{AppliesMove, IsClosed, is_move};
 ghost use Rattle.gs_tree.specs.Inverses.{IsMoved, TakesBack};
 ghost use Rattle.gs_tree.specs.Places.{KeepsPlace, given_up, returned, without_place};
 ghost use Rattle.gs_tree.specs.Plain.{Same};
-ghost use Rattle.gs_tree.specs.Entry.{Entry};
-ghost use Rattle.gs_path.specs.Path.{path_cmp};
 ghost use Rattle.gs_edit.specs.View.{NamesView};
 
 use crate::edit::{Edit, Inverse};
@@ -62,7 +60,7 @@ fn apply_in(
 
 /// Makes a move, and keeps its place.
 fn move_in(tree: &mut Tree, edit: &Edit) -> Result<TreeInverse, Refusal>
-    ensures edit { is_move edit.now ≡ true → (after : fin_map.FinMap path_cmp (Entry ℕ)) → Same (fin_map.get after) (given_up result (fin_map.get tree.new)) → AppliesRows edit.now (fin_map.entries tree.old) result (fin_map.entries after) }
+    ensures edit { AppliesMove edit.now tree.old result tree.new }
     ensures undo { IfOk result (λ i. TakesBack i (fin_map.get tree.old) (given_up result (fin_map.get tree.new))) }
     ensures place { IfOk result (λ i. KeepsPlace i (fin_map.get tree.new)) }
     ensures kind { IfOk result (λ i. IsMoved i) }
@@ -96,10 +94,7 @@ fn add_chunk(
     if refs.count(chunk).is_some() {
         return Err(Refusal::BadLine);
     }
-    match refs.raise(chunk) {
-        Ok(()) => {}
-        Err(refusal) => return Err(refusal),
-    }
+    refs.raise(chunk)?;
     match tree.add_chunk(path, chunk) {
         Ok(inverse) => Ok(Inverse::Tree(inverse)),
         Err(refusal) => {
@@ -125,10 +120,7 @@ fn change_chunk(
     if !may_change(tree, refs, path, index, old, new) {
         return Err(Refusal::BadLine);
     }
-    match refs.raise(new) {
-        Ok(()) => {}
-        Err(refusal) => return Err(refusal),
-    }
+    refs.raise(new)?;
     match tree.set_chunk(path, index, new) {
         Ok(inverse) => {
             let _ = refs.lower(old);
@@ -174,10 +166,7 @@ fn snapshot(
     ensures kind { IfOk result (λ i. is_of_kind kinds.Snapshot i ≡ true) }
 {
     let chunks = tree.visible_chunks_under(alloc, from)?;
-    let inverse = match tree.snapshot(from, to) {
-        Ok(inverse) => inverse,
-        Err(refusal) => return Err(refusal),
-    };
+    let inverse = tree.snapshot(from, to)?;
     match refs.raise_each(&chunks) {
         Ok(()) => Ok(Inverse::Tree(inverse)),
         Err(refusal) => {

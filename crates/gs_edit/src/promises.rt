@@ -1,27 +1,21 @@
 //! What holds of all names, whatever edits are made of them.
 
-ghost use Rattle.std.specs.Prelude.{◌≡◌, ◌&&◌, ◌==◌, ◌++◌, ◌∷◌, ℕ, List, [], false, true, is_some, Result, Ok, Err, IfErr};
+ghost use Rattle.std.specs.Prelude.{◌≡◌, ℕ, false, true, is_some, Result, Err};
 ghost use Rattle.std.specs.List.{list_any};
-ghost use Rattle.std.specs.Ordering.{eq_by_cmp, nat_cmp};
-ghost use Rattle.std.specs.FinMap.{get, entries};
+ghost use Rattle.std.specs.FinMap.{entries};
 ghost use Rattle.gs_base.specs.declared.refusal.Refusal.{Refusal};
 ghost use Rattle.gs_base.specs.declared.refusal.Refusal.TheVariants.{Memory};
 ghost use Rattle.gs_path.specs.Path.{Path};
-ghost use Rattle.gs_refs.specs.Counts.{Counts, occurrences};
 ghost use Rattle.gs_tree.specs.Find.{Rows, at, is_too_deep, is_copied_too_deep};
 ghost use Rattle.gs_tree.specs.Edits.{mkdirs, create, rename, hide, unhide, remove, add_chunk, set_chunk, snapshot};
-ghost use Rattle.gs_tree.specs.Chunks.{all_chunks};
 ghost use Rattle.gs_tree.specs.Commands.{IsClosed};
 ghost use Rattle.gs_edit.specs.View.{NamesView};
 ghost use Rattle.gs_edit.specs.Names.{NamesTakenBack, Undoes, IsCounted, blank};
 ghost use Rattle.gs_edit.specs.Plain.{mkdirs_rows, create_rows, rename_rows, hide_rows, unhide_rows, remove_rows, add_chunk_rows, set_chunk_rows, snapshot_rows};
 ghost use Rattle.gs_edit.specs.Mapped.{Tables, mapped_rows, mapped_edit};
 ghost use Rattle.gs_edit.specs.Scan.{is_over, left, Scans, removal_cmp, length_then_text_cmp, is_without_slashes};
-ghost use Rattle.gs_edit.specs.Sweep.{named_each, edits_of, Sweeps, IsSwept};
-ghost use Rattle.gs_edit.specs.Edits.{Applies};
-ghost use Rattle.gs_edit.specs.declared.edit.Edit.{Edit};
 ghost use Rattle.gs_edit.specs.declared.edit.Inverse.{Inverse};
-ghost use Rattle.gs_edit.specs.declared.scan.Scan.{Scan};
+ghost use Rattle.gs_edit.specs.Laws.{ScansSweep, EditsOfScansAreAccepted, ForgottenChunksStandNowhere, SweptNamesHaveNothingToGo, ChangedChunksFollowTexts};
 
 /// Each chunk's count is how often it stands in the tree's files: in new names, and where it is so, after every edit that has
 /// an inverse, and after every inverse that is undone or refused.
@@ -37,11 +31,11 @@ pub fn counts_stay_true()
 /// nothing. The chunks that are forgotten are the listed ones that stand in none of the files that are left. Where something
 /// stands above all that stands, no element of a path that is left is over.
 pub fn scans_take_out_what_goes()
-    ensures accepted { (moment : ℕ) (names : NamesView) (scan : Scan) → IsCounted names → Scans moment (entries names.tree) names.refs (Ok scan) → Sweeps moment (entries names.tree) (named_each (edits_of scan) (entries names.tree) names.refs) }
-    ensures turn { (moment : ℕ) (names mid new : NamesView) (scan : Scan) (front : List Edit) (next : Edit) (rest : List Edit) (result : Result Inverse Refusal) → IsCounted names → Scans moment (entries names.tree) names.refs (Ok scan) → edits_of scan ≡ front ++ next ∷ rest → named_each front (entries names.tree) names.refs ≡ Ok (entries mid.tree, mid.refs) → Applies next mid result new → IfErr result (λ e. e ≡ Memory) }
-    ensures forgotten { (moment : ℕ) (names : NamesView) (scan : Scan) → IsCounted names → Scans moment (entries names.tree) names.refs (Ok scan) → (chunk : ℕ) → list_any (eq_by_cmp nat_cmp chunk) scan.forgotten.items ≡ (is_some (get names.refs chunk) && (occurrences chunk (all_chunks (left moment (entries names.tree))) == 0)) }
+    ensures accepted { ScansSweep }
+    ensures turn { EditsOfScansAreAccepted }
+    ensures forgotten { ForgottenChunksStandNowhere }
     ensures refused { (moment : ℕ) (names : NamesView) (e : Refusal) → IsCounted names → Scans moment (entries names.tree) names.refs (Err e) → e ≡ Memory }
-    ensures again { (moment : ℕ) (old : Rows ℕ) (new : Rows ℕ × Counts) (scan : Scan) → IsSwept moment old new → Scans moment new.0 new.1 (Ok scan) → (scan.removed.items ≡ []) × (scan.forgotten.items ≡ []) }
+    ensures again { SweptNamesHaveNothingToGo }
     ensures over { (moment : ℕ) (old : Rows ℕ) (path : Path) → IsClosed (at old) → is_some (at (left moment old) path) ≡ true → list_any (is_over moment) path ≡ false }
 {}
 
@@ -74,6 +68,6 @@ pub fn rows_follow_chunks<A, B>()
     ensures unhide { (text : A → B) (rows : Rows A) (p : Path) → unhide_rows (mapped_rows text rows) p ≡ mapped_edit text (unhide_rows rows p) }
     ensures remove { (text : A → B) (rows : Rows A) (p : Path) → remove_rows (mapped_rows text rows) p ≡ mapped_edit text (remove_rows rows p) }
     ensures add_chunk { (text : A → B) (rows : Rows A) (p : Path) (chunk : A) → add_chunk_rows (mapped_rows text rows) p (text chunk) ≡ mapped_edit text (add_chunk_rows rows p chunk) }
-    ensures set_chunk { (text : A → B) (rows : Rows A) (p : Path) (index : ℕ) (chunk : A) → set_chunk_rows (mapped_rows text rows) p index (text chunk) ≡ mapped_edit text (set_chunk_rows rows p index chunk) }
+    ensures set_chunk { ChangedChunksFollowTexts A B }
     ensures snapshot { (text : A → B) (rows : Rows A) (from to : Path) → snapshot_rows (mapped_rows text rows) from to ≡ mapped_edit text (snapshot_rows rows from to) }
 {}
