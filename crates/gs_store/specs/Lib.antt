@@ -10,4 +10,9 @@ pub mod Stores
 pub mod StoreCalls
 pub mod Told
 pub mod Reported
+pub mod Promises
+pub mod SealPromises
+pub mod CopyPromises
+pub mod EditPromises
+pub mod StorePromises
 pub mod inner

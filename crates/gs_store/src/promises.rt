@@ -1,6 +1,6 @@
 //! What holds of each slot, whatever is called.
 
-ghost use Rattle.std.specs.Prelude.{◌≡◌, ℕ, Bool, true, false, List, Some, None, Ok};
+ghost use Rattle.std.specs.Prelude.{◌≡◌, ℕ, true, false, List, Some, None, Ok};
 ghost use Rattle.std.specs.Result.{result_ok};
 ghost use Rattle.gs_base.specs.declared.numbers.Stamp.{Stamp};
 ghost use Rattle.gs_base.specs.Stamps.{is_before, is_same};
@@ -8,10 +8,11 @@ ghost use Rattle.gs_replica.specs.Held.{Held};
 ghost use Rattle.gs_replica.specs.Seals.{State};
 ghost use Rattle.gs_store.specs.Slots.{Slot, nothing, create, advance, drop_replica, take_lease, lose, mark_bad};
 ghost use Rattle.gs_store.specs.Serving.{read};
-ghost use Rattle.gs_store.specs.Moves.{copy_out, copy_for, take_copy};
+ghost use Rattle.gs_store.specs.Moves.{take_copy};
 ghost use Rattle.gs_store.specs.Learning.{prepared, finalized, rolled_back};
 ghost use Rattle.gs_store.specs.Calls.{Call, called, LeadsTo, IsNoLease, Fits};
 ghost use Rattle.gs_store.specs.Whole.{IsSlotOf};
+ghost use Rattle.gs_store.specs.Promises.{LeasesAreTakenOnce, BadReplicasGiveNoImage, BadReplicasGiveNoCopy};
 
 /// A promise never falls, also at a rollback.
 pub fn promises_never_fall()
@@ -40,13 +41,13 @@ pub fn slots_stay_whole()
 /// changes which lease was taken last.
 pub fn leases_are_taken_once()
     ensures taken { (stamp : Stamp) (s s2 : Slot) → take_lease stamp s ≡ Ok s2 → (is_same stamp s.promise ≡ true) × (s2.taken ≡ Some stamp) × (s2.live ≡ s.live) }
-    ensures once { (block chunk : ℕ) (stamp : Stamp) (s s2 end : Slot) (calls : List Call) → take_lease stamp s ≡ Ok s2 → LeadsTo block chunk s2 calls end → result_ok (take_lease stamp end) ≡ None }
+    ensures once { LeasesAreTakenOnce }
     ensures others { (block chunk : ℕ) (c : Call) (s s2 : Slot) → IsNoLease c → called block chunk c s ≡ Ok s2 → s2.taken ≡ s.taken }
 {}
 
 /// A bad replica gives no bytes and no copies.
 pub fn bad_replicas_give_nothing()
     ensures read { (stamp : Stamp) (offset many block : ℕ) (s : Slot) (r : State) → s.live ≡ Some (record { replica = r; bad = Some block }) → result_ok (read stamp offset many s) ≡ None }
-    ensures copy_out { (stamp : Stamp) (flag : Bool) (block : ℕ) (s : Slot) (r : State) → s.live ≡ Some (record { replica = r; bad = Some block }) → result_ok (copy_out stamp flag s) ≡ None }
-    ensures copy_for { (at stamp : Stamp) (block : ℕ) (s target : Slot) (r : State) → s.live ≡ Some (record { replica = r; bad = Some block }) → result_ok (copy_for at stamp s target) ≡ None }
+    ensures copy_out { BadReplicasGiveNoImage }
+    ensures copy_for { BadReplicasGiveNoCopy }
 {}

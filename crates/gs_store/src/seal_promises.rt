@@ -1,24 +1,18 @@
 //! What holds of the sealed image of a handle, wherever it stands.
 
-ghost use Rattle.std.specs.Prelude.{◌≡◌, ◌&&◌, ℕ, not, true, false, List, slice_index_or, Some, None, Ok, is_some};
+ghost use Rattle.std.specs.Prelude.{◌≡◌, ◌&&◌, ℕ, not, List, Some, None, Ok, is_some};
 ghost use Rattle.gs_base.specs.declared.numbers.Stamp.{Stamp};
-ghost use Rattle.gs_base.specs.declared.numbers.ReqId.{ReqId};
 ghost use Rattle.gs_base.specs.Stamps.{is_before};
-ghost use Rattle.gs_block.specs.Stored.{Stored};
-ghost use Rattle.gs_block.specs.Edits as blocks;
-ghost use Rattle.gs_replica.specs.declared.op.Op.{Op};
 ghost use Rattle.gs_replica.specs.Held.{Held};
-ghost use Rattle.gs_replica.specs.Seals.{Sealed};
 ghost use Rattle.gs_replica.specs.Seals as replicas;
 ghost use Rattle.gs_replica.specs.Stands.{Edit, IsTouched};
-ghost use Rattle.gs_store.specs.Slots.{Live, Slot, sound, create, advance, drop_replica, take_lease, damage, mark_bad, bad_in, held_under, sealed_of};
+ghost use Rattle.gs_store.specs.Slots.{Live, Slot, create, advance, drop_replica, take_lease, damage, mark_bad, bad_in, sealed_of};
 ghost use Rattle.gs_store.specs.Whole.{IsWholeSlot};
-ghost use Rattle.gs_store.specs.Serving.{apply};
 ghost use Rattle.gs_store.specs.Moves.{take_copy, sound_image};
-ghost use Rattle.gs_store_seal.specs.Rollback.{later};
 ghost use Rattle.gs_store.specs.Learning.{prepared, finalized, rolled_back, is_named, start_of};
-ghost use Rattle.gs_store.specs.Calls.{Call, LeadsTo, LeadsSparing, KeepSeal};
-ghost use Rattle.gs_store.specs.Standing.{StandsIn, StoodIn, LiveUndamaged, struck_by_damage, undone_in};
+ghost use Rattle.gs_store.specs.Calls.{Call, LeadsSparing, KeepSeal};
+ghost use Rattle.gs_store.specs.Standing.{StandsIn, StoodIn, struck_by_damage};
+ghost use Rattle.gs_store.specs.SealPromises.{EditsLeaveWhatIsCarried, EditsLeaveWhatStood, DamageReachesTheSealed, PreparedSlotsRollBack, RollbacksStandForTheSealed, RunsLeaveWhatStood, PreparedRunsGoBack, SparedRunsGoBack};
 
 /// What is sealed of a handle stays the same image, wherever it stands: beneath replicas that are made, copied or dropped, under
 /// promises, and beside marks. An edit leaves what a copy carries of it.
@@ -29,16 +23,16 @@ pub fn sealed_images_stay()
     ensures drop_replica { (promise : Stamp) (s s2 : Slot) → drop_replica promise s ≡ Ok s2 → sealed_of s2 ≡ sealed_of s }
     ensures take_lease { (stamp : Stamp) (s s2 : Slot) → take_lease stamp s ≡ Ok s2 → sealed_of s2 ≡ sealed_of s }
     ensures mark_bad { (block : ℕ) (s : Slot) → sealed_of (mark_bad block s) ≡ sealed_of s }
-    ensures apply { (stamp : Stamp) (number : ℕ) (req : ReqId) (op : Op) (bytes : List ℕ) (s s2 : Slot) → apply stamp number req op bytes s ≡ Ok s2 → sound_image (sealed_of s2) ≡ sound_image (sealed_of s) }
+    ensures apply { EditsLeaveWhatIsCarried }
 {}
 
 /// What the sealed image stood for when it was sealed, it stands for through edits and damage. Damage of a block that an edit has
 /// touched since leaves what a rollback gives; damage of another one reaches it.
 pub fn sealed_images_stand_for_what_was_sealed()
-    ensures apply { (block chunk : ℕ) (stamp : Stamp) (number : ℕ) (req : ReqId) (op : Op) (bytes : List ℕ) (s s2 : Slot) (edits : List Edit) → StoodIn block chunk s edits → apply stamp number req op bytes s ≡ Ok s2 → StoodIn block chunk s2 edits }
+    ensures apply { EditsLeaveWhatStood }
     ensures damage { (block chunk index : ℕ) (s s2 : Slot) (edits : List Edit) → StoodIn block chunk s edits → damage index s ≡ Ok s2 → StoodIn block chunk s2 edits }
     ensures touched { (index : ℕ) (s s2 : Slot) → IsTouched (struck_by_damage s) index → damage index s ≡ Ok s2 → sound_image (sealed_of s2) ≡ sound_image (sealed_of s) }
-    ensures reached { (index : ℕ) (s s2 : Slot) (t : Sealed) (u : Stored) → struck_by_damage s ≡ Some t → slice_index_or t.touched index true ≡ false → blocks.damage t.undone index ≡ Ok u → damage index s ≡ Ok s2 → undone_in (sealed_of s2) ≡ Some u }
+    ensures reached { DamageReachesTheSealed }
 {}
 
 /// At a prepare what is live is sealed as it stands, and nothing else is. Where no block of it is damaged, a rollback leads back
@@ -47,7 +41,7 @@ pub fn prepares_seal_what_is_live()
     ensures sealed { (s : Slot) (l : Live) → s.live ≡ Some l → sealed_of (prepared s) ≡ Some (replicas.sealed_of l.replica.held) }
     ensures nothing { (s : Slot) → s.live ≡ None → sealed_of (prepared s) ≡ None }
     ensures stood { (block chunk : ℕ) (s : Slot) (edits : List Edit) → StandsIn block chunk s edits → StandsIn block chunk (prepared s) edits × StoodIn block chunk (prepared s) edits }
-    ensures back { (epoch : ℕ) (s : Slot) (l : Live) → s.live ≡ Some l → LiveUndamaged s.live → (rolled_back epoch (prepared s)).live ≡ Some (sound (record { held = held_under (later s.promise (start_of epoch)) l.replica.held; sealed = None })) }
+    ensures back { PreparedSlotsRollBack }
 {}
 
 /// At a finalize what was sealed is forgotten, and what is live stays.
@@ -61,7 +55,7 @@ pub fn finalizes_forget_what_was_sealed()
 /// promise and the epoch's first stamp. It makes it live exactly where each block has its sealed digest; everything else goes.
 /// A server names it where the promise isn't above that stamp.
 pub fn rollbacks_give_what_was_sealed()
-    ensures stands { (block chunk epoch : ℕ) (s : Slot) (edits : List Edit) → StoodIn block chunk s edits → is_some (rolled_back epoch s).live ≡ true → StandsIn block chunk (rolled_back epoch s) edits × LiveUndamaged (rolled_back epoch s).live × ((rolled_back epoch s).promise ≡ later s.promise (start_of epoch)) }
+    ensures stands { RollbacksStandForTheSealed }
     ensures live { (epoch : ℕ) (s : Slot) → is_some (rolled_back epoch s).live ≡ is_some (sound_image (sealed_of s)) }
     ensures gone { (epoch : ℕ) (s : Slot) → (sealed_of (rolled_back epoch s) ≡ None) × ((rolled_back epoch s).trash ≡ None) × (bad_in (rolled_back epoch s).live ≡ None) }
     ensures named { (epoch : ℕ) (s : Slot) → IsWholeSlot s → is_named epoch (rolled_back epoch s) ≡ (is_some (sound_image (sealed_of s)) && not (is_before (start_of epoch) s.promise)) }
@@ -70,13 +64,13 @@ pub fn rollbacks_give_what_was_sealed()
 /// Over a whole run of calls: what the sealed image stood for it stands for at the end, so a slot that was prepared while its
 /// live replica stood for a list rolls back, where it does, to an undamaged replica of that list.
 pub fn prepared_slots_go_back()
-    ensures stood { (block chunk : ℕ) (s end : Slot) (edits : List Edit) (calls : List Call) → StoodIn block chunk s edits → KeepSeal calls → LeadsTo block chunk s calls end → StoodIn block chunk end edits }
-    ensures back { (block chunk epoch : ℕ) (s end : Slot) (edits : List Edit) (calls : List Call) → StandsIn block chunk s edits → KeepSeal calls → LeadsTo block chunk (prepared s) calls end → is_some (rolled_back epoch end).live ≡ true → StandsIn block chunk (rolled_back epoch end) edits × LiveUndamaged (rolled_back epoch end).live }
+    ensures stood { RunsLeaveWhatStood }
+    ensures back { PreparedRunsGoBack }
 {}
 
 /// Over a whole run of calls that leave the seal and damage touched blocks alone, what a copy carries of the sealed image stays. So a slot that was
 /// prepared while its live replica had no damaged block does roll back to a live one.
 pub fn spared_slots_go_back()
     ensures stays { (block chunk : ℕ) (s end : Slot) (calls : List Call) → KeepSeal calls → LeadsSparing block chunk s calls end → sound_image (sealed_of end) ≡ sound_image (sealed_of s) }
-    ensures live { (block chunk epoch : ℕ) (s end : Slot) (calls : List Call) → is_some s.live ≡ true → LiveUndamaged s.live → KeepSeal calls → LeadsSparing block chunk (prepared s) calls end → is_some (rolled_back epoch end).live ≡ true }
+    ensures live { SparedRunsGoBack }
 {}

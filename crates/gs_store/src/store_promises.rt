@@ -1,33 +1,30 @@
 //! What holds of a store, whatever is called.
 
-ghost use Rattle.std.specs.Prelude.{◌≡◌, ◌≤◌, ℕ, ◌+◌, ◌==◌, true, false, List, Contains, length, Some, Ok, is_some};
+ghost use Rattle.std.specs.Prelude.{◌≡◌, ◌≤◌, ℕ, ◌==◌, true, false, List, Contains, length, Some, Ok, is_some};
 ghost use Rattle.gs_base.specs.declared.numbers.ReqId.{ReqId};
-ghost use Rattle.gs_base.specs.declared.numbers.Stamp.{Stamp};
-ghost use Rattle.gs_replica.specs.declared.op.Op.{Op};
 ghost use Rattle.gs_base.specs.declared.epoch.EpochEnd.{EpochEnd};
-ghost use Rattle.gs_base.specs.declared.epoch.EpochEnd.TheVariants.{Rollback};
 ghost use Rattle.gs_base.specs.declared.refusal.Refusal.{Refusal};
 ghost use Rattle.gs_base.specs.Stamps.{is_before};
 ghost use Rattle.std.specs.Prelude.{Result};
 ghost use Rattle.gs_replica.specs.Stands.{Edit};
-ghost use Rattle.gs_store.specs.Slots.{Slot, nothing, sealed_of};
+ghost use Rattle.gs_store.specs.Slots.{Slot, nothing};
 ghost use Rattle.gs_store.specs.Whole.{IsWholeSlot};
-ghost use Rattle.gs_store.specs.Moves.{sound_image};
-ghost use Rattle.gs_store.specs.Learning.{start_of, is_named, is_sound};
-ghost use Rattle.gs_store.specs.Standing.{StandsIn, StoodIn, LiveUndamaged};
+ghost use Rattle.gs_store.specs.Learning.{is_named, is_sound};
+ghost use Rattle.gs_store.specs.Standing.{StandsIn, LiveUndamaged};
 ghost use Rattle.gs_store.specs.StoreCalls.{StoreCall, called, LeadsTo, names};
 ghost use Rattle.gs_store.specs.Told.{found_in, told};
 ghost use Rattle.gs_store.specs.Buffers as buffers;
-ghost use Rattle.gs_store.specs.Stores.{Store, slot_of, at_slot, learn, gone_on, mark_bad, apply_pushed, named};
+ghost use Rattle.gs_store.specs.Stores.{Store, slot_of, at_slot, learn, gone_on, mark_bad, named};
+ghost use Rattle.gs_store.specs.StorePromises.{CallsLeaveOtherSlots, PushedEditsLeaveTheRest, EachSlotGoesOn, RollbacksMakeTheSoundLive, RollbacksNameTheLive, RollbacksStandForTheSealed};
 
 /// A call of one handle leaves every other one's slot, the epoch and what was pushed; one that uses pushed bytes takes these out.
 pub fn calls_change_their_own_slot()
-    ensures others { (handle other : ℕ) (call : Slot → Result Slot Refusal) (s s2 : Store) → (other == handle) ≡ false → at_slot handle call s ≡ Ok s2 → slot_of other s2 ≡ slot_of other s }
+    ensures others { CallsLeaveOtherSlots }
     ensures own { (handle : ℕ) (call : Slot → Result Slot Refusal) (s s2 : Store) → at_slot handle call s ≡ Ok s2 → call (slot_of handle s) ≡ Ok (slot_of handle s2) }
     ensures epoch { (handle : ℕ) (call : Slot → Result Slot Refusal) (s s2 : Store) → at_slot handle call s ≡ Ok s2 → s2.epoch ≡ s.epoch }
     ensures buffer { (handle : ℕ) (call : Slot → Result Slot Refusal) (s s2 : Store) → at_slot handle call s ≡ Ok s2 → s2.buffer ≡ s.buffer }
     ensures mark { (handle other block : ℕ) (s : Store) → (other == handle) ≡ false → slot_of other (mark_bad handle block s) ≡ slot_of other s }
-    ensures pushed { (handle other number : ℕ) (stamp : Stamp) (req : ReqId) (op : Op) (s s2 : Store) → (other == handle) ≡ false → apply_pushed handle stamp number req op s ≡ Ok s2 → (slot_of other s2 ≡ slot_of other s) × (s2.buffer ≡ buffers.without req s.buffer) × (s2.epoch ≡ s.epoch) }
+    ensures pushed { PushedEditsLeaveTheRest }
     ensures rest { (handle block : ℕ) (s : Store) → ((mark_bad handle block s).epoch ≡ s.epoch) × ((mark_bad handle block s).buffer ≡ s.buffer) }
 {}
 
@@ -35,7 +32,7 @@ pub fn calls_change_their_own_slot()
 /// else changes.
 pub fn each_slot_goes_on()
     ensures same { (epoch : ℕ) (end : EpochEnd) (s s2 : Store) → epoch ≡ s.epoch → learn epoch end s ≡ Ok s2 → s2 ≡ s }
-    ensures next { (epoch : ℕ) (end : EpochEnd) (s s2 : Store) → epoch ≡ s.epoch + 1 → learn epoch end s ≡ Ok s2 → (handle : ℕ) → slot_of handle s2 ≡ gone_on end epoch (slot_of handle s) }
+    ensures next { EachSlotGoesOn }
     ensures epoch { (epoch : ℕ) (end : EpochEnd) (s s2 : Store) → learn epoch end s ≡ Ok s2 → s2.epoch ≡ epoch }
     ensures sizes { (epoch : ℕ) (end : EpochEnd) (s s2 : Store) → learn epoch end s ≡ Ok s2 → (s2.block ≡ s.block) × (s2.chunk ≡ s.chunk) }
     ensures empty { (epoch : ℕ) (end : EpochEnd) → gone_on end epoch nothing ≡ nothing }
@@ -57,9 +54,9 @@ pub fn promises_never_fall_in_a_store()
 /// are named, but for a handle whose promise was above the epoch's first stamp. What is live stands for what was sealed, without
 /// a damaged block.
 pub fn rollbacks_name_what_is_live()
-    ensures live { (epoch handle : ℕ) (s s2 : Store) → epoch ≡ s.epoch + 1 → learn epoch Rollback s ≡ Ok s2 → is_some (slot_of handle s2).live ≡ is_some (sound_image (sealed_of (slot_of handle s))) }
-    ensures named { (epoch handle : ℕ) (s s2 : Store) → epoch ≡ s.epoch + 1 → learn epoch Rollback s ≡ Ok s2 → IsWholeSlot (slot_of handle s) → is_before (start_of epoch) (slot_of handle s).promise ≡ false → names handle epoch s2 ≡ is_some (slot_of handle s2).live }
-    ensures sealed { (epoch handle : ℕ) (s s2 : Store) (edits : List Edit) → epoch ≡ s.epoch + 1 → learn epoch Rollback s ≡ Ok s2 → StoodIn s.block s.chunk (slot_of handle s) edits → is_some (slot_of handle s2).live ≡ true → StandsIn s2.block s2.chunk (slot_of handle s2) edits × LiveUndamaged (slot_of handle s2).live }
+    ensures live { RollbacksMakeTheSoundLive }
+    ensures named { RollbacksNameTheLive }
+    ensures sealed { RollbacksStandForTheSealed }
 {}
 
 /// A report tells of a handle what its slot has: its live replica, if there is one, and else nothing.
