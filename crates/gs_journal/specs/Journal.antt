@@ -4,6 +4,7 @@ use Rattle.gs_base.specs.declared.refusal.Refusal.{Refusal}
 use Rattle.gs_base.specs.declared.refusal.Refusal.TheVariants.{BadLine, Device, Exhausted, Full, Memory}
 use Rattle.gs_journal.specs.Records.{Entry, Text, header_length, generation_of, generation_standing, second_counts, standing}
 use Rattle.gs_journal.specs.Forms.{is_text}
+use Rattle.gs_journal.specs.Bodies.{is_of_form}
 use Rattle.gs_journal.specs.declared.version.Version.TheVariants.{Two}
 
 -- A journal: what its disks say, how many bytes the disk that counts has and how many it may have, its generation, whether
@@ -139,6 +140,11 @@ IsWithOrWithout old r t = (t ≡ old) ⊎ (t ≡ with_record old r)
 -- the text from before a call, or the one that it makes
 abbrev pub IsOldOrNew : Text → Text → Text → Type 0
 IsOldOrNew old new t = (t ≡ old) ⊎ (t ≡ new)
+
+-- what a checkpoint leaves is of the form that an opening reads, where what stood and what it writes are
+abbrev pub CheckpointsAreReadAgain : Type 0
+CheckpointsAreReadAgain = (old : Text) (body : List ℕ) (left : Text) → is_text old ≡ true → is_of_form Two true (9, body) ≡ true → IsOldOrNew old (checkpointed body) left
+    → is_text left ≡ true
 
 -- the bytes of two disks are these
 abbrev pub AreBoth : List ℕ → List ℕ → List ℕ → List ℕ → Type 0

@@ -341,10 +341,7 @@ impl<D: Disk> Journal<D> {
         ensures counting { LeavesCounting D.seen self.old self.new }
     {
         let _ = &self.disks;
-        let draft = match self.draft(alloc, body) {
-            Ok(draft) => draft,
-            Err(refusal) => return Err(refusal),
-        };
+        let draft = self.draft(alloc, body)?;
         self.write_draft(&draft)
     }
 }

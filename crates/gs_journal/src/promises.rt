@@ -1,12 +1,10 @@
 //! What holds of disks with faults, and of what is left where a disk fails.
-ghost use Rattle.std.specs.Prelude.{◌≡◌, ◌==◌, ℕ, List, nat_le, true, false};
+ghost use Rattle.std.specs.Prelude.{◌≡◌, ◌==◌, ℕ, nat_le, true, false};
 ghost use Rattle.gs_journal_disk.specs.Disk.{LeavesPairs};
-ghost use Rattle.gs_journal.specs.Bodies.{is_of_form};
 ghost use Rattle.gs_journal.specs.Faults.{fails, after};
 ghost use Rattle.gs_journal.specs.Forms.{is_next, is_text};
-ghost use Rattle.gs_journal.specs.Journal.{State, AreBoth, IsOldOrNew, IsStillOrNext, IsWithOrWithout, LeavesCounting, LeavesOther, checkpointed};
+ghost use Rattle.gs_journal.specs.Journal.{State, AreBoth, CheckpointsAreReadAgain, IsStillOrNext, IsWithOrWithout, LeavesCounting, LeavesOther};
 ghost use Rattle.gs_journal.specs.Records.{Entry, Text};
-ghost use Rattle.gs_journal.specs.declared.version.Version.TheVariants.{Two};
 ghost use Rattle.gs_journal.specs.declared.fault.Fault.TheVariants.{Never, Fail, Stop, Tear};
 
 use gs_journal_disk::Disk;
@@ -24,7 +22,7 @@ pub fn calls_fail_by_their_number()
 /// and what it writes are.
 pub fn what_is_left_is_read_again()
     ensures appended { (old : Text) (r : Entry) (left : Text) → is_text old ≡ true → is_next old r ≡ true → IsWithOrWithout old r left → is_text left ≡ true }
-    ensures renewed { (old : Text) (body : List ℕ) (left : Text) → is_text old ≡ true → is_of_form Two true (9, body) ≡ true → IsOldOrNew old (checkpointed body) left → is_text left ≡ true }
+    ensures renewed { CheckpointsAreReadAgain }
 {}
 
 /// A checkpoint that is written behind a reading of the records: a crash at any moment of both leaves what stood in its generation, or
