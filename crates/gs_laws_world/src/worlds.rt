@@ -1,18 +1,16 @@
 //! What a `World` makes is a run as the laws over runs have it.
 
-ghost use Rattle.std.specs.Prelude.{List, ℕ, IfOk};
+ghost use Rattle.std.specs.Prelude.{ℕ, IfOk};
 ghost use Rattle.std.specs.List.{AllByRecursion};
 ghost use Rattle.gs_base.specs.Told.{IsNumber};
 ghost use Rattle.gs_base.specs.declared.config.Config.{Config};
 ghost use Rattle.gs_journal.specs.Memory.{bytes_of, times_failed};
-ghost use Rattle.gs_msg.specs.declared.event.DiskId.{DiskId};
 ghost use Rattle.gs_nodes.specs.NewDisks.{OverEmpty};
-ghost use Rattle.gs_nodes.specs.declared.place.MasterPlace.{MasterPlace};
 ghost use Rattle.gs_journal.specs.Faults.{Failing};
 ghost use Rattle.gs_world.specs.Beginning.{new_disks};
 ghost use Rattle.gs_world.specs.Histories.{arms, failures_of, history_of, seen_of};
 ghost use Rattle.gs_world.specs.Runs.{AreOutcomes};
-ghost use Rattle.gs_laws_world.specs.worlds.Worlds.{AsksByTheRules, AsksUnderANumber, BeginsSo, GoesOnSo, HasNumbers, IsReachedSo, RepliesSo, StepsSo};
+ghost use Rattle.gs_laws_world.specs.worlds.Worlds.{AsksByTheRules, AsksUnderANumber, EachBegins, EachGoesOn, EachReplies, EachSteps, HasNumbers, IsReachedSo};
 
 use gs_base::{Config, Refusal, ReqId};
 use gs_journal::{Disk, MemoryDisk};
@@ -23,10 +21,10 @@ use std::alloc::{AllocError, Global};
 /// A store that begins is a run without steps, and what is done with it leads on by steps of that run: one event or many, and a client's reply that is taken out. So the laws of runs hold of each store of
 /// `World` of which no message was forgotten, whose events are within their types.
 pub fn each_world_is_reached<D>()
-    ensures begins { (seen : D → List ℕ) (failures : D → ℕ) (armed : DiskId → ℕ → MasterPlace D → MasterPlace D) (config : Config) (clients : ℕ) (disks : D × D) → BeginsSo seen failures armed config clients disks }
-    ensures run { (seen : D → List ℕ) (failures : D → ℕ) (armed : DiskId → ℕ → MasterPlace D → MasterPlace D) (config : Config) (clients : ℕ) (disks : D × D) → GoesOnSo seen failures armed config clients disks }
-    ensures step { (seen : D → List ℕ) (failures : D → ℕ) (armed : DiskId → ℕ → MasterPlace D → MasterPlace D) (config : Config) (clients : ℕ) (disks : D × D) → StepsSo seen failures armed config clients disks }
-    ensures replies { (seen : D → List ℕ) (failures : D → ℕ) (armed : DiskId → ℕ → MasterPlace D → MasterPlace D) (config : Config) (clients : ℕ) (disks : D × D) → RepliesSo seen failures armed config clients disks }
+    ensures begins { EachBegins D }
+    ensures run { EachGoesOn D }
+    ensures step { EachSteps D }
+    ensures replies { EachReplies D }
 {}
 
 /// The number of a request has 64 bits.

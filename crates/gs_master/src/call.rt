@@ -4,13 +4,14 @@ ghost use Rattle.std.specs.FinMap as fin;
 ghost use Rattle.gs_base.specs.declared.refusal.Refusal.TheVariants as refusals;
 ghost use Rattle.gs_edit.specs.Plain.{unhide_target};
 ghost use Rattle.gs_master.specs.Masters.{MasterAnswers};
+ghost use Rattle.gs_master.specs.inner.Looking.{listed_at, located_at};
 ghost use Rattle.gs_master.specs.inner.StartingOver.{IsBegun};
 ghost use Rattle.gs_master.specs.inner.Turns.{ComesWithOthers, GoesBack, IsUnderWay, state_at, EventSteps};
 ghost use Rattle.gs_msg.specs.declared.answer.Answer.TheVariants as answers;
 ghost use Rattle.gs_msg.specs.declared.call.Call.TheVariants as calls;
 ghost use Rattle.gs_master_record.specs.Plain as entries;
 ghost use Rattle.gs_master_record.specs.Plain.{plain_edit};
-ghost use Rattle.gs_master_spec.specs.Calls.{answered_with, deleted, edited_by, found_chunk, has_visible_child, listing, location, looked_up, queried, renames, status, told_phase};
+ghost use Rattle.gs_master_spec.specs.Calls.{answered_with, deleted, edited_by, has_visible_child, looked_up, queried, renames, status, told_phase};
 ghost use Rattle.gs_master_spec.specs.Handling.{call_turn, called, new_call, refusal_in, replied_again, waits_still};
 ghost use Rattle.gs_master_state.specs.inner.Plans.{plan_of};
 ghost use Rattle.gs_master_state.specs.inner.Recorded.{durable_of};
@@ -355,7 +356,7 @@ impl Event {
     /// A call is answered with what is listed at a path.
     pub fn list(&mut self, req: ReqId, path: &Path) -> Result<(), Refusal>
         requires { IsUnderWay self.old }
-        ensures steps { EventSteps (looked_up (state_at self.old) req (listing (fin.entries (state_at self.old).durable.names.tree) path.now (fin.get (state_at self.old).durable.names.tree path.now))) self.old result self.new }
+        ensures steps { EventSteps (listed_at (state_at self.old) req path.now) self.old result self.new }
         ensures back { GoesBack self.old self.new }
     {
         let found = self.recorded.listing(path)?;
@@ -375,7 +376,7 @@ impl Event {
     /// A call is answered with where the chunk at a place of a file is.
     pub fn find(&mut self, req: ReqId, path: &Path, index: u64) -> Result<(), Refusal>
         requires { IsUnderWay self.old }
-        ensures steps { EventSteps (looked_up (state_at self.old) req (location (state_at self.old).durable (found_chunk (fin.get (state_at self.old).durable.names.tree path.now) index))) self.old result self.new }
+        ensures steps { EventSteps (located_at (state_at self.old) req path.now index) self.old result self.new }
         ensures back { GoesBack self.old self.new }
     {
         let found = self.recorded.location_at(path, index);

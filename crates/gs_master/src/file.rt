@@ -2,14 +2,14 @@
 ghost use Rattle.std.specs.Prelude.{◌≡◌, Ok, Some};
 ghost use Rattle.std.specs.FinMap as fin;
 ghost use Rattle.gs_master.specs.Masters.{MasterAnswers};
+ghost use Rattle.gs_master.specs.inner.Looking.{found_at};
 ghost use Rattle.gs_master.specs.inner.Turns.{GoesBack, IsUnderWay, state_at, EventSteps};
 ghost use Rattle.gs_master_spec.specs.Beginning.{begin_at};
-ghost use Rattle.gs_master_spec.specs.Calls.{found_chunk};
 ghost use Rattle.gs_master_spec.specs.Chunks.{chunk_at, view_of};
 ghost use Rattle.gs_master_spec.specs.Handling.{call_turn};
 ghost use Rattle.gs_master_state.specs.inner.Judging.{length_at};
 ghost use Rattle.gs_master_state.specs.inner.Knowing.{known_of};
-ghost use Rattle.gs_master_spec.specs.Working.{begins, copied_on_write, created_on, extends, found_for_writing, leased, may_use, replicated_to, replicates, replicates_chunk};
+ghost use Rattle.gs_master_spec.specs.Working.{begins, copied_on_write, created_on, extends, leased, may_use, replicated_to, replicates, replicates_chunk};
 ghost use Rattle.gs_msg.specs.declared.call.Call.TheVariants as calls;
 ghost use Rattle.gs_master_spec.specs.declared.pending.Waiting.TheVariants as waits;
 
@@ -129,7 +129,7 @@ impl Event {
         moment: Moment,
     ) -> Result<(), Refusal>
         requires { IsUnderWay self.old }
-        ensures steps { EventSteps (found_for_writing (state_at self.old) req path index refused moment (found_chunk (fin.get (state_at self.old).durable.names.tree path) index)) self.old result self.new }
+        ensures steps { EventSteps (found_at (state_at self.old) req path index refused moment) self.old result self.new }
         ensures back { GoesBack self.old self.new }
     {
         let chunk = match self.recorded.found_chunk(&path, index) {

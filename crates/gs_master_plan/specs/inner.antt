@@ -2,3 +2,4 @@
 -- master reads cites these files.
 pub mod Holding
 pub mod Planning
+pub mod Refusing

@@ -3,14 +3,14 @@ ghost use Rattle.std.specs.Prelude.{[], if◌then◌else◌, ◌&&◌, ◌++◌,
 ghost use Rattle.std.specs.Option.{option_to_list};
 ghost use Rattle.gs_lock.specs.Locks.{stands_in_the_way};
 ghost use Rattle.gs_master_plan.specs.inner.Planning.{numbered_of, state_of};
+ghost use Rattle.gs_master_plan.specs.inner.Refusing.{refusal_where};
 ghost use Rattle.gs_master_record.specs.Plain as entries;
 ghost use Rattle.gs_master_record.specs.Plain.{plain, plain_edit};
-ghost use Rattle.gs_master_spec.specs.Calls.{accept_plan, is_always_taken, is_any_deep, is_any_hidden, is_locked, is_work, ordered, reads_of_call, refused_before};
-ghost use Rattle.gs_master_spec.specs.Durable.{is_rolling};
+ghost use Rattle.gs_master_spec.specs.Calls.{accept_plan, is_always_taken, is_any_deep, is_any_hidden, is_locked, is_work, reads_of_call, refused_before};
 ghost use Rattle.gs_master_spec.specs.Handling.{numbered};
 ghost use Rattle.gs_master_state.specs.inner.Plans.{log_of, plan_of};
 ghost use Rattle.gs_master_spec.specs.Settling.{edit_plan, end_plan};
-ghost use Rattle.gs_master_spec.specs.State.{answer_changes, answered, first_of, fits, is_failed, keeps_refusal, kept_in_memory, last_reply, refusal_plan, refused, size_of};
+ghost use Rattle.gs_master_spec.specs.State.{answer_changes, answered, fits, keeps_refusal, kept_in_memory, last_reply, refusal_plan, refused, size_of};
 ghost use Rattle.gs_master_spec.specs.Upgrades.{accepted_plan};
 
 use crate::message::reply_to;
@@ -175,7 +175,7 @@ impl<'a> Standing<'a> {
 
     /// Why a call is refused before its own tests, where it is told whether a lock of another call is in its way.
     pub fn refused_where(&self, call: &Call, is_locked: bool) -> Option<Refusal>
-        ensures { result ≡ first_of (ordered (is_failed (state_of self.entry.now).fault) (is_rolling (state_of self.entry.now).durable.phase) (state_of self.entry.now).volatile.is_preparing is_locked call.now) }
+        ensures { result ≡ refusal_where (state_of self.entry.now) is_locked call.now }
     {
         if self.fault.is_failed() {
             return Some(Refusal::Device);

@@ -1,15 +1,14 @@
 // An upgrade: how it is prepared, and ended for good or by a rollback.
-ghost use Rattle.std.specs.Prelude.{[], ◌+◌, ◌<◌, ◌∷◌, ◌≡◌, false, IfNone, IfOk, None, not, true};
+ghost use Rattle.std.specs.Prelude.{[], ◌+◌, ◌<◌, ◌∷◌, ◌≡◌, false, IfNone, IfOk, None, true};
 ghost use Rattle.std.specs.FinMap as fin;
 ghost use Rattle.gs_base.specs.Numbers.{last_number};
 ghost use Rattle.gs_base.specs.declared.epoch.EpochEnd.TheVariants as ends;
 ghost use Rattle.gs_master_plan.specs.inner.Planning.{state_of};
+ghost use Rattle.gs_master_plan.specs.inner.Refusing.{finalized_so, prepared_so, refusal_to_begin, refusal_to_prepare, rolled_back_so};
 ghost use Rattle.gs_master_record.specs.Plain as entries;
-ghost use Rattle.gs_master_spec.specs.Beginning.{has_versions};
 ghost use Rattle.gs_master_spec.specs.Durable.{prepared_view};
 ghost use Rattle.gs_master_state.specs.inner.Plans.{plan_of};
-ghost use Rattle.gs_master_spec.specs.State.{first_of};
-ghost use Rattle.gs_master_spec.specs.Upgrades.{accepted_plan, all_unquiet, answers_for, begin_tests, chunk_count, commit_tests, is_last_epoch, lacks_answer, restored_on, tell_all, told_of, unrestored};
+ghost use Rattle.gs_master_spec.specs.Upgrades.{accepted_plan, all_unquiet, answers_for, lacks_answer, restored_on, tell_all, told_of, unrestored};
 ghost use Rattle.gs_master_spec.specs.declared.change.Change.TheVariants as changes;
 
 use crate::standing::Standing;
@@ -26,7 +25,7 @@ use std::alloc::AllocError;
 impl<'a> Standing<'a> {
     /// Why preparing isn't begun, if it isn't. So many chunks are to be made quiet.
     pub fn refusal_of_begin(&self, unquiet: u64) -> Result<Option<Refusal>, AllocError>
-        ensures { IfOk result (λ refusal. refusal ≡ first_of (begin_tests (state_of self.entry.now).durable.phase (state_of self.entry.now).volatile.is_preparing (state_of self.entry.now).volatile.pending (not (has_versions (state_of self.entry.now).durable unquiet)))) }
+        ensures { IfOk result (λ refusal. refusal ≡ refusal_to_begin (state_of self.entry.now) unquiet) }
     {
         if self.memory.is_preparing() || self.recorded.phase != Phase::Ordinary {
             return Ok(Some(Refusal::AlreadyUpgrading));
@@ -51,7 +50,7 @@ impl<'a> Standing<'a> {
 
     /// Why an upgrade isn't prepared, if it isn't. These are the chunks that aren't quiet.
     pub fn refusal_of_prepare(&self, unquiet: &[Handle]) -> Option<Refusal>
-        ensures judged { result ≡ first_of (commit_tests (state_of self.entry.now).durable.phase (state_of self.entry.now).volatile.is_preparing unquiet.now (is_last_epoch (state_of self.entry.now).durable)) }
+        ensures judged { result ≡ refusal_to_prepare (state_of self.entry.now) unquiet.now }
         ensures left { IfNone result ((state_of self.entry.now).durable.epoch < last_number) }
         ensures quiet { IfNone result (unquiet.now ≡ []) }
     {
@@ -72,7 +71,7 @@ impl<'a> Standing<'a> {
     ) -> Result<Plan, AllocError>
         requires left { (state_of self.now).durable.epoch < last_number }
         requires quiet { all_unquiet (state_of self.now) ≡ [] }
-        ensures { IfOk result (λ plan. plan_of plan ≡ accepted_plan (state_of self.entry.now) req (entries.Prepare ((state_of self.entry.now).durable.epoch + 1) moment.0 (chunk_count (state_of self.entry.now)) ∷ []) (changes.Prepare false ∷ []) (tell_all config.now ((state_of self.entry.now).durable.epoch + 1) ends.Prepare) ((state_of self.entry.now).durable.epoch + 1)) }
+        ensures { IfOk result (λ plan. plan_of plan ≡ prepared_so config.now (state_of self.entry.now) req moment) }
     {
         let alloc = self.recorded.alloc;
         let epoch = self.recorded.epoch + 1;
@@ -91,7 +90,7 @@ impl<'a> Standing<'a> {
     /// An upgrade is finalized. There is an epoch more.
     pub fn finalize_plan(&self, config: &Config, req: ReqId) -> Result<Plan, AllocError>
         requires { (state_of self.now).durable.epoch < last_number }
-        ensures { IfOk result (λ plan. plan_of plan ≡ accepted_plan (state_of self.entry.now) req (entries.Finalize ((state_of self.entry.now).durable.epoch + 1) ∷ []) [] (tell_all config.now ((state_of self.entry.now).durable.epoch + 1) ends.Finalize) ((state_of self.entry.now).durable.epoch + 1)) }
+        ensures { IfOk result (λ plan. plan_of plan ≡ finalized_so config.now (state_of self.entry.now) req) }
     {
         let alloc = self.recorded.alloc;
         let epoch = self.recorded.epoch + 1;
@@ -187,7 +186,7 @@ impl<'a> Standing<'a> {
 
     /// A rollback is done. These are the names of the prepare.
     pub fn commit_plan(&self, req: ReqId, names: &Names) -> Result<Plan, AllocError>
-        ensures { IfOk result (λ plan. plan_of plan ≡ accepted_plan (state_of self.entry.now) req (entries.RollbackCommit (state_of self.entry.now).durable.epoch (answers_for (prepared_view (state_of self.entry.now).durable) (told_of (state_of self.entry.now)) (fin.entries names.now.refs)) ∷ []) (changes.RolledBack ∷ []) [] (state_of self.entry.now).durable.epoch) }
+        ensures { IfOk result (λ plan. plan_of plan ≡ rolled_back_so (state_of self.entry.now) req names.now) }
     {
         let alloc = self.recorded.alloc;
         let epoch = self.recorded.epoch;

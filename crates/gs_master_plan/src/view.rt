@@ -7,14 +7,14 @@ ghost use Rattle.gs_msg.specs.declared.body.Body.TheVariants as bodies;
 ghost use Rattle.gs_msg.specs.declared.chunk.Chunk.TheVariants as chunks;
 ghost use Rattle.gs_msg.specs.declared.node.NodeId.TheVariants as nodes;
 ghost use Rattle.gs_master_plan.specs.inner.Planning.{state_of};
+ghost use Rattle.gs_master_plan.specs.inner.Refusing.{settled_so};
 ghost use Rattle.gs_master_record.specs.Plain as entries;
 ghost use Rattle.gs_master_record.specs.Plain.{plain};
 ghost use Rattle.gs_master_spec.specs.Beginning.{begin_at, begin_plan, copy_plan, create_plan, members_at, next_stamp};
-ghost use Rattle.gs_master_spec.specs.Chunks.{asking_for, chunk_at, settling};
-ghost use Rattle.gs_master_spec.specs.Durable.{prepared_view};
+ghost use Rattle.gs_master_spec.specs.Chunks.{asking_for, chunk_at};
 ghost use Rattle.gs_master_spec.specs.Hearing.{ask_plan, send_plan};
 ghost use Rattle.gs_master_state.specs.inner.Plans.{plan_of};
-ghost use Rattle.gs_master_spec.specs.Settling.{grants, own_request, replace_plan, settle_plan};
+ghost use Rattle.gs_master_spec.specs.Settling.{grants, own_request, replace_plan};
 ghost use Rattle.gs_master_spec.specs.State.{about, post, to_each};
 ghost use Rattle.gs_master_spec.specs.Working.{begin_pending};
 ghost use Rattle.gs_master_spec.specs.declared.change.Change.TheVariants as changes;
@@ -309,7 +309,7 @@ impl<'a> Standing<'a> {
         carried: bool,
         view: &View,
     ) -> Result<Plan, AllocError>
-        ensures { IfOk result (λ plan. plan_of plan ≡ settle_plan (settling (state_of self.entry.now).durable.phase (prepared_view (state_of self.entry.now).durable chunk) carried chunk asking.now view.now) chunk view.now) }
+        ensures { IfOk result (λ plan. plan_of plan ≡ settled_so (state_of self.entry.now) chunk asking.now carried view.now) }
     {
         let alloc = self.recorded.alloc;
         let prepared = self.recorded.prepared_view(chunk);

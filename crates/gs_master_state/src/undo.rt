@@ -7,7 +7,7 @@ ghost use Rattle.gs_master_record.specs.Plain.{plain_inverse, PlainInverse};
 ghost use Rattle.gs_master_spec.specs.Durable.{Durable};
 ghost use Rattle.gs_master_state.specs.inner.Recorded.{durable_of, KeepsRooms};
 ghost use Rattle.gs_master_spec.specs.Replies.{client_cmp};
-ghost use Rattle.gs_master_state.specs.inner.TakingBack.{AreItemsBefore, AreNamesBefore, HasPlaceBack, IsEditBefore, LeaseAt, leases_before, place_before, RoomAt, RoomBack, RoomForChunk, RoomForChunks, RoomForReply, rooms_before, TakesBack, with_chunk_before, with_chunks_before, with_leases_before, with_moved_before, with_proposed_before, with_reply_before};
+ghost use Rattle.gs_master_state.specs.inner.TakingBack.{AreItemsBefore, AreNamesBefore, HasPlaceBack, IsEditBefore, LeaseAt, leases_before, place_before, RoomAt, RoomBack, RoomForChunk, RoomForChunks, RoomForReply, rooms_before, TakesBack, with_chunk_before, with_chunks_before, with_leases_before, with_moved_before, with_proposal_before, with_reply_before};
 ghost use Rattle.gs_base_table.specs.Slots.{HasRoom, KeepsRoom, live, set_live};
 
 use crate::held_names::HeldNames;
@@ -218,7 +218,7 @@ impl Recorded {
     /// A proposal is taken back.
     fn take_proposal_back(&mut self, before: ProposalBefore)
         requires { LeaseAt self.old.leases before.chunk before.lease }
-        ensures value { durable_of self.new ≡ record (durable_of self.old) { chunks = with_proposed_before before.chunk before.lease (durable_of self.old).chunks; next_handle = before.next_handle; next_version = before.next_version } }
+        ensures value { durable_of self.new ≡ with_proposal_before before (durable_of self.old) }
         ensures leases { live nat_cmp self.new.leases ≡ with_moved_before before.chunk before.lease (live nat_cmp self.old.leases) }
         ensures keeps { KeepsRooms self.old self.new }
     {

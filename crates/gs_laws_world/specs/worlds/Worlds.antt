@@ -60,3 +60,25 @@ module _ {D : Type 0} (seen : D → List ℕ) (failures : D → ℕ) (armed : Di
   -- and where a client's reply is taken out
   abbrev pub RepliesSo : Type 0
   RepliesSo = (client : ClientId) (found : Option Reply) (old new : History D) → IsReachedSo old → TakesReply client old.nodes found new.nodes → new.sent ≡ old.sent → IsReachedSo new
+
+-- ---- the same, whatever is seen of the disks, however failures are arranged, and with whatever a store begins
+
+abbrev pub EachBegins : Type 0 → Type 0
+EachBegins D =
+    (seen : D → List ℕ) (failures : D → ℕ) (armed : DiskId → ℕ → MasterPlace D → MasterPlace D) (config : Config) (clients : ℕ) (disks : D × D)
+    → BeginsSo seen failures armed config clients disks
+
+abbrev pub EachGoesOn : Type 0 → Type 0
+EachGoesOn D =
+    (seen : D → List ℕ) (failures : D → ℕ) (armed : DiskId → ℕ → MasterPlace D → MasterPlace D) (config : Config) (clients : ℕ) (disks : D × D)
+    → GoesOnSo seen failures armed config clients disks
+
+abbrev pub EachSteps : Type 0 → Type 0
+EachSteps D =
+    (seen : D → List ℕ) (failures : D → ℕ) (armed : DiskId → ℕ → MasterPlace D → MasterPlace D) (config : Config) (clients : ℕ) (disks : D × D)
+    → StepsSo seen failures armed config clients disks
+
+abbrev pub EachReplies : Type 0 → Type 0
+EachReplies D =
+    (seen : D → List ℕ) (failures : D → ℕ) (armed : DiskId → ℕ → MasterPlace D → MasterPlace D) (config : Config) (clients : ℕ) (disks : D × D)
+    → RepliesSo seen failures armed config clients disks

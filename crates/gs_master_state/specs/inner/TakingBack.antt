@@ -28,6 +28,7 @@ use Rattle.gs_master_spec.specs.declared.reply.KeptReply.{KeptReply}
 use Rattle.gs_master_state.specs.declared.undo.ChunkBefore.{ChunkBefore}
 use Rattle.gs_master_state.specs.declared.undo.EditBefore.{EditBefore}
 use Rattle.gs_master_state.specs.declared.undo.EpochBefore.{EpochBefore}
+use Rattle.gs_master_state.specs.declared.undo.ProposalBefore.{ProposalBefore}
 use Rattle.gs_master_state.specs.declared.undo.KeptBefore.{KeptBefore}
 use Rattle.gs_master_state.specs.declared.undo.NamesBefore.{NamesBefore}
 use Rattle.gs_master_state.specs.declared.undo.NamesBefore.TheVariants.{Undone, Moved as MovedTo, Kept}
@@ -139,13 +140,15 @@ pub record IsEditBefore (e : EditBefore) (before after : Durable) : Type 0 where
 abbrev pub with_kept_before : KeptBefore → Durable → Durable
 with_kept_before kept d = record d { inverses = map plain_inverse kept.inverses.items; prepared = live nat_cmp kept.prepared }
 
+abbrev pub with_proposal_before : ProposalBefore → Durable → Durable
+with_proposal_before p d = record d { chunks = with_proposed_before p.chunk p.lease d.chunks; next_handle = p.next_handle; next_version = p.next_version }
+
 -- ---- a record
 
 -- what takes a record back leads from what stands after it to what stood before
 abbrev pub TakesBack : Undo → Durable → Durable → Type 0
 TakesBack (undos.Said reply) before after = before ≡ record after { replies = with_reply_before reply after.replies }
-TakesBack (undos.Propose p) before after =
-    before ≡ record after { chunks = with_proposed_before p.chunk p.lease after.chunks; next_handle = p.next_handle; next_version = p.next_version }
+TakesBack (undos.Propose p) before after = before ≡ with_proposal_before p after
 TakesBack (undos.Settle chunk) before after = before ≡ with_chunk_before chunk after
 TakesBack (undos.Holder chunk prepared) before after = before ≡ record after { prepared = set_live chunk prepared after.prepared }
 TakesBack (undos.RollbackBegin epoch) before after =
