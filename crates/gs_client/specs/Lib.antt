@@ -11,3 +11,5 @@ pub mod Opened
 pub mod Files
 pub mod Small
 pub mod Nodes
+pub mod Laws
+pub mod inner

@@ -3,14 +3,12 @@ ghost use Rattle.std.specs.Prelude.{◌≡◌};
 ghost use Rattle.gs_client_dialogue.specs.Dialogues.{FollowsDialogue};
 ghost use Rattle.gs_client.specs.Sends.{Sends};
 ghost use Rattle.gs_client.specs.Edits.{Edits};
-ghost use Rattle.gs_client.specs.Reading.{read_call, digest_call};
-ghost use Rattle.gs_client.specs.Writing.{write_call, append_call};
-ghost use Rattle.gs_client.specs.Files.{open_call, used, Remembers, with_location};
+ghost use Rattle.gs_client.specs.Files.{append_to, digest_of, open_call, read_of, used, write_to, Remembers, with_location};
 
 use crate::client::Client;
 use crate::link::Link;
 use crate::reading::{Opened, Range};
-use crate::writing::Record;
+use crate::record::Record;
 use gs_base::Refusal;
 use gs_block::Digest;
 use gs_client_part::{Located, Write};
@@ -108,7 +106,7 @@ impl OpenFile<Reading> {
         offset: u64,
         many: u64,
     ) -> Result<Bytes, Refusal>
-        ensures asks { FollowsDialogue (Sends L.Carries) (read_call client.old.chunk self.old.path self.old.opened self.old.located offset many) (client.old, link.old) (with_location result self.new) (client.new, link.new) }
+        ensures asks { FollowsDialogue (Sends L.Carries) (read_of client.old.chunk offset many self.old) (client.old, link.old) (with_location result self.new) (client.new, link.new) }
         ensures remembers { Remembers self.old result self.new }
     {
         let file = Opened {
@@ -132,7 +130,7 @@ impl OpenFile<Reading> {
         index: u64,
         block: u64,
     ) -> Result<Digest, Refusal>
-        ensures asks { FollowsDialogue (Sends L.Carries) (digest_call self.old.path self.old.opened self.old.located index block) (client.old, link.old) (with_location result self.new) (client.new, link.new) }
+        ensures asks { FollowsDialogue (Sends L.Carries) (digest_of index block self.old) (client.old, link.old) (with_location result self.new) (client.new, link.new) }
         ensures remembers { Remembers self.old result self.new }
     {
         let file = Opened {
@@ -159,7 +157,7 @@ impl OpenFile<Writing> {
         offset: u64,
         bytes: &[u8],
     ) -> Result<(), Refusal>
-        ensures asks { FollowsDialogue (Edits L.Carries) (write_call client.old.chunk self.old.path self.old.opened offset bytes.now) (client.old, self.old.edits, link.old) result (client.new, self.new.edits, link.new) }
+        ensures asks { FollowsDialogue (Edits L.Carries) (write_to client.old.chunk offset bytes.now self.old) (client.old, self.old.edits, link.old) result (client.new, self.new.edits, link.new) }
         ensures counts { self.new ≡ record (used self.old) { edits = self.new.edits } }
     {
         let mut edits = self.edits;
@@ -183,7 +181,7 @@ impl OpenFile<Writing> {
         link: &mut L,
         bytes: &[u8],
     ) -> Result<u64, Refusal>
-        ensures asks { FollowsDialogue (Edits L.Carries) (append_call client.old.chunk self.old.path self.old.opened bytes.now) (client.old, self.old.edits, link.old) result (client.new, self.new.edits, link.new) }
+        ensures asks { FollowsDialogue (Edits L.Carries) (append_to client.old.chunk bytes.now self.old) (client.old, self.old.edits, link.old) result (client.new, self.new.edits, link.new) }
         ensures counts { self.new ≡ record (used self.old) { edits = self.new.edits } }
     {
         let mut edits = self.edits;

@@ -9,6 +9,7 @@ mod looking;
 mod node;
 pub mod promises;
 mod reading;
+mod record;
 mod replies;
 mod writing;
 

@@ -1,13 +1,6 @@
 //! What holds of all calls of a client.
-ghost use Rattle.std.specs.Prelude.{◌≡◌, ◌≢◌, ◌≤◌, ◌<◌, ◌+◌, ◌*◌, ◌/◌, ℕ, List, length, false, Result, Err};
-ghost use Rattle.gs_base.specs.declared.refusal.Refusal.{Refusal};
-ghost use Rattle.gs_base.specs.declared.refusal.Refusal.TheVariants.{Memory};
-ghost use Rattle.gs_client_dialogue.specs.Dialogues.{FollowsDialogue, run};
-ghost use Rattle.gs_client.specs.declared.client.Client.{Client};
-ghost use Rattle.gs_client.specs.Sends.{Sends};
-ghost use Rattle.gs_client.specs.Serves.{served, served_edits};
-ghost use Rattle.gs_client.specs.Edits.{Edits};
-ghost use Rattle.gs_client.specs.Trees.{Call as AnyCall};
+ghost use Rattle.std.specs.Prelude.{◌≡◌, ◌≤◌, ◌+◌, ℕ, List, length, false};
+ghost use Rattle.gs_client.specs.Laws.{CallsAreServed, EachPartBeginsBehind, EachPartHasBytes, EditsAreServed};
 ghost use Rattle.gs_client_part.specs.Writing.{part_start, part_bytes, part_count, is_out};
 ghost use Rattle.gs_client.specs.Writing.{first_parts};
 
@@ -33,12 +26,12 @@ pub trait Serve: Link {
 
 /// Over such a link each call that doesn't lack memory of its own comes to what the function gives.
 pub fn a_call_is_what_is_served<L: Serve, A>()
-    ensures { (call : AnyCall A) (old new : Client × L) (result : Result A Refusal) → FollowsDialogue (Sends L.Carries) call old result new → result ≢ Err Memory → (result, (new.0, L.world new.1)) ≡ run (served L.serve) call (old.0, L.world old.1) }
+    ensures { CallsAreServed L.Carries L.serve L.world A }
 {}
 
 /// The same of the calls of a file that is open for writing, with how many of its edits are acknowledged.
 pub fn an_edit_is_what_is_served<L: Serve, A>()
-    ensures { (call : AnyCall A) (old new : Client × ℕ × L) (result : Result A Refusal) → FollowsDialogue (Edits L.Carries) call old result new → result ≢ Err Memory → (result, (new.0, new.1, L.world new.2)) ≡ run (served_edits L.serve) call (old.0, old.1, L.world old.2) }
+    ensures { EditsAreServed L.Carries L.serve L.world A }
 {}
 
 /// The parts of a write, one after another, are its bytes. Each part has some, fits into its chunk, and begins in the file where
@@ -46,6 +39,6 @@ pub fn an_edit_is_what_is_served<L: Serve, A>()
 pub fn the_parts_of_a_write_are_its_bytes()
     ensures joined { (size offset : ℕ) (bytes : List ℕ) → 1 ≤ size → is_out size offset bytes ≡ false → first_parts size offset bytes (part_count size offset bytes) ≡ bytes }
     ensures fits { (size offset : ℕ) (bytes : List ℕ) (i : ℕ) → 1 ≤ size → part_start size offset i + length (part_bytes size offset bytes i) ≤ size }
-    ensures some { (size offset : ℕ) (bytes : List ℕ) (i : ℕ) → 1 ≤ size → is_out size offset bytes ≡ false → i < part_count size offset bytes → 1 ≤ length (part_bytes size offset bytes i) }
-    ensures begins { (size offset : ℕ) (bytes : List ℕ) (i : ℕ) → 1 ≤ size → is_out size offset bytes ≡ false → i < part_count size offset bytes → (offset / size + i) * size + part_start size offset i ≡ offset + length (first_parts size offset bytes i) }
+    ensures some { EachPartHasBytes }
+    ensures begins { EachPartBeginsBehind }
 {}

@@ -1,11 +1,11 @@
 //! What is read of a file.
-ghost use Rattle.std.specs.Prelude.{◌≡◌, ◌≤◌, ◌*◌, ◌/◌, ◌%◌, [], IfOk, IfSome};
+ghost use Rattle.std.specs.Prelude.{◌≡◌, ◌≤◌, ◌*◌, ◌/◌, ◌%◌, IfOk, IfSome};
 ghost use Rattle.gs_client_dialogue.specs.Dialogues.{FollowsDialogue};
 ghost use Rattle.gs_client.specs.Sends.{Sends};
 ghost use Rattle.gs_client.specs.Trees.{and_then};
 ghost use Rattle.gs_client.specs.Replies.{length_in};
-ghost use Rattle.gs_client_part.specs.Reading.{span};
-ghost use Rattle.gs_client.specs.Reading.{within, length_call, end_call, stored_call, pieces_call, read_call, digest_call, stat_call};
+ghost use Rattle.gs_client.specs.Reading.{within, length_call, stored_call, digest_call, stat_call};
+ghost use Rattle.gs_client.specs.inner.Asks.{end_of, pieces_of, range_of};
 
 use crate::client::Client;
 use crate::link::Link;
@@ -99,7 +99,7 @@ impl Client {
         file: &Counted<'_>,
         range: Range,
     ) -> Result<(u64, Option<Located>), Refusal>
-        ensures is { FollowsDialogue (Sends L.Carries) (end_call file.now.size file.now.path.now file.now.known file.now.chunks range.offset range.many) (self.old, link.old) result (self.new, link.new) }
+        ensures is { FollowsDialogue (Sends L.Carries) (end_of file.now.size file.now.path.now file.now.known file.now.chunks range) (self.old, link.old) result (self.new, link.new) }
         ensures few { IfOk result (λ e. e.0 ≤ 4096 * file.now.size) }
     {
         let full = bytes_of(file.chunks.saturating_sub(1), file.size);
@@ -138,7 +138,7 @@ impl Client {
         end: u64,
     ) -> Result<(Bytes, Option<Located>), Refusal>
         requires { end ≤ 4096 * file.now.size }
-        ensures { FollowsDialogue (Sends L.Carries) (pieces_call file.now.size file.now.path.now file.now.chunks end file.now.known (offset / file.now.size) (offset % file.now.size) (span file.now.size offset end) []) (self.old, link.old) result (self.new, link.new) }
+        ensures { FollowsDialogue (Sends L.Carries) (pieces_of file.now.size file.now.path.now file.now.known file.now.chunks offset end) (self.old, link.old) result (self.new, link.new) }
     {
         let count = span(file.size, offset, end);
         let first = offset / file.size;
@@ -172,7 +172,7 @@ impl Client {
         range: Range,
     ) -> Result<(Bytes, Option<Located>), Refusal>
         requires { IfSome file.now.opened (λ chunks. chunks ≤ 4096) }
-        ensures { FollowsDialogue (Sends L.Carries) (read_call self.old.chunk file.now.path.now file.now.opened file.now.known range.offset range.many) (self.old, link.old) result (self.new, link.new) }
+        ensures { FollowsDialogue (Sends L.Carries) (range_of self.old.chunk file.now range) (self.old, link.old) result (self.new, link.new) }
     {
         let size = self.chunk();
         let chunks = self.known(link, file.path, file.opened)?;

@@ -4,9 +4,11 @@ ghost use Rattle.gs_client_dialogue.specs.Dialogues.{FollowsDialogue};
 ghost use Rattle.gs_client.specs.Sends.{Sends};
 ghost use Rattle.gs_client.specs.Edits.{Edits, with_edit};
 ghost use Rattle.gs_client.specs.Writing as calls;
+ghost use Rattle.gs_client.specs.inner.Asks.{again_of, append_behind, append_of, part_of, parts_of, write_of, write_part_of};
 
 use crate::client::Client;
 use crate::link::Link;
+use crate::record::Record;
 use crate::replies;
 use gs_base::{Refusal, Stamp};
 use gs_client_part::writing::{
@@ -24,15 +26,6 @@ struct Edit<'e> {
     index: u64,
     op: Op,
     bytes: &'e [u8],
-}
-
-/// A record for the end of a file of chunks of this size.
-#[derive(Clone, Copy)]
-pub(crate) struct Record<'r> {
-    pub(crate) size: u64,
-    pub(crate) path: &'r Path,
-    pub(crate) bytes: &'r [u8],
-    pub(crate) ghost bounded: { size ≤ 67108864 },
 }
 
 /// How many edits are acknowledged behind one that came to this.
@@ -108,7 +101,7 @@ impl Client {
         stamp: Stamp,
         refusal: Refusal,
     ) -> Result<EditOutcome, Refusal>
-        ensures { FollowsDialogue (Edits L.Carries) (calls.again_call edit.now.path.now edit.now.index stamp edit.now.op edit.now.bytes.now refusal) (self.old, edits.old, link.old) result (self.new, edits.new, link.new) }
+        ensures { FollowsDialogue (Edits L.Carries) (again_of edit.now stamp refusal) (self.old, edits.old, link.old) result (self.new, edits.new, link.new) }
     {
         if !replies::is_stale(&refusal) {
             return Err(refusal);
@@ -124,7 +117,7 @@ impl Client {
         edits: &mut u64,
         edit: &Edit<'_>,
     ) -> Result<EditOutcome, Refusal>
-        ensures { FollowsDialogue (Edits L.Carries) (calls.part_call edit.now.path.now edit.now.index edit.now.op edit.now.bytes.now) (self.old, edits.old, link.old) result (self.new, edits.new, link.new) }
+        ensures { FollowsDialogue (Edits L.Carries) (part_of edit.now) (self.old, edits.old, link.old) result (self.new, edits.new, link.new) }
     {
         let located = self.find_for_writing(link, edit, None)?;
         let stamp = located.view.stamp;
@@ -141,7 +134,7 @@ impl Client {
         edits: &mut u64,
         edit: &Edit<'_>,
     ) -> Result<(), Refusal>
-        ensures { FollowsDialogue (Edits L.Carries) (calls.write_part_call edit.now.path.now edit.now.index edit.now.op edit.now.bytes.now) (self.old, edits.old, link.old) result (self.new, edits.new, link.new) }
+        ensures { FollowsDialogue (Edits L.Carries) (write_part_of edit.now) (self.old, edits.old, link.old) result (self.new, edits.new, link.new) }
     {
         let outcome = self.part(link, edits, edit)?;
         written(outcome)
@@ -186,7 +179,7 @@ impl Client {
     ) -> Result<(), Refusal>
         requires near { write.now.offset ≤ 274877906944 }
         requires few { count ≤ 4096 }
-        ensures { FollowsDialogue (Edits L.Carries) (calls.parts_call write.now.size write.now.path.now write.now.offset write.now.bytes.now 0 count) (self.old, edits.old, link.old) result (self.new, edits.new, link.new) }
+        ensures { FollowsDialogue (Edits L.Carries) (parts_of write.now count) (self.old, edits.old, link.old) result (self.new, edits.new, link.new) }
     {
         for i in 0..count {
             let bytes = part_bytes(write, i);
@@ -213,7 +206,7 @@ impl Client {
         opened: Option<u64>,
     ) -> Result<(), Refusal>
         requires { IfSome opened (λ chunks. chunks ≤ 4096) }
-        ensures { FollowsDialogue (Edits L.Carries) (calls.write_call write.now.size write.now.path.now opened write.now.offset write.now.bytes.now) (self.old, edits.old, link.old) result (self.new, edits.new, link.new) }
+        ensures { FollowsDialogue (Edits L.Carries) (write_of write.now opened) (self.old, edits.old, link.old) result (self.new, edits.new, link.new) }
     {
         let chunks = self.known(link, write.path, opened)?;
         if is_out(write) {
@@ -233,7 +226,7 @@ impl Client {
         first: u64,
     ) -> Result<u64, Refusal>
         requires { first < 4096 }
-        ensures { FollowsDialogue (Edits L.Carries) (calls.append_from appended.now.size appended.now.path.now appended.now.bytes.now first (4095 - first)) (self.old, edits.old, link.old) result (self.new, edits.new, link.new) }
+        ensures { FollowsDialogue (Edits L.Carries) (append_behind appended.now first) (self.old, edits.old, link.old) result (self.new, edits.new, link.new) }
     {
         for index in first..MOST_CHUNKS {
             let part = Edit {
@@ -266,7 +259,7 @@ impl Client {
         opened: Option<u64>,
     ) -> Result<u64, Refusal>
         requires { IfSome opened (λ chunks. chunks ≤ 4096) }
-        ensures { FollowsDialogue (Edits L.Carries) (calls.append_call appended.now.size appended.now.path.now opened appended.now.bytes.now) (self.old, edits.old, link.old) result (self.new, edits.new, link.new) }
+        ensures { FollowsDialogue (Edits L.Carries) (append_of appended.now opened) (self.old, edits.old, link.old) result (self.new, edits.new, link.new) }
     {
         let chunks = self.known(link, appended.path, opened)?;
         if appended.bytes.is_empty() {

@@ -3,4 +3,5 @@ pub mod Answered
 pub mod Finished
 pub mod Linked
 pub mod Opened
+pub mod Laws
 pub mod inner

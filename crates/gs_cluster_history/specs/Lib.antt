@@ -3,3 +3,4 @@ pub mod Histories
 pub mod Logs
 pub mod Merging
 pub mod Setting
+pub mod Laws

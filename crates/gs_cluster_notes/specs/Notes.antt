@@ -1,14 +1,15 @@
 -- What is noted of a node's history.
-use Rattle.std.specs.Prelude.{◌≡◌, ◌++◌, List, [], ◌∷◌, None, Ok, IsTrue, map, refl, ⊤}
+use Rattle.std.specs.Prelude.{◌≡◌, ◌++◌, List, [], ◌∷◌, Option, None, Ok, IfSome, IsTrue, map, refl, ⊤}
 use Rattle.gs_msg.specs.Posts.{posted}
+use Rattle.gs_msg.specs.declared.event.Event.{Event}
 use Rattle.gs_msg.specs.declared.event.Happening.TheVariants as happenings
 use Rattle.gs_msg.specs.declared.message.Message.{Message}
 use Rattle.gs_msg.specs.declared.node.StoreNode.TheVariants as keepers
 use Rattle.gs_msg.specs.declared.outbox.Post.{Post}
 use Rattle.gs_msg.specs.declared.sent.Sent.{Sent}
-use Rattle.gs_cluster_history.specs.Histories.{Entry, Listed}
+use Rattle.gs_cluster_history.specs.Histories.{Entry, Listed, out_of}
 use Rattle.gs_cluster_history.specs.Logs.{sent_at}
-use Rattle.gs_cluster_history.specs.Merging.{event_of}
+use Rattle.gs_cluster_history.specs.Merging.{Place, event_of, merged}
 use Rattle.gs_cluster_history.specs.declared.took.Took.TheVariants.{Heard, Did}
 use Rattle.gs_cluster_notes.specs.declared.notes.Dated.{Dated}
 use Rattle.gs_cluster_notes.specs.declared.notes.Notes.{Notes}
@@ -36,6 +37,19 @@ abbrev pub AllKeep : List Notes → List (List Entry) → List (List Listed) →
 AllKeep [] [] [] = ⊤
 AllKeep (n ∷ notes) (es ∷ histories) (ls ∷ sent) = Keeps n es ls × AllKeep notes histories sent
 AllKeep notes histories sent = ⊥
+
+-- Notes that keep a history keep it with one entry more, if what is noted is that entry, and what was sent at it.
+abbrev pub KeepsOneMore : Option Dated → List Message → Notes → Notes → Type 0
+KeepsOneMore dated sent old new = (e : Entry) (entries : List Entry) (before : List Listed) → IfSome dated (λ d. d ≡ dated_of e) → out_of e.outcome ≡ sent
+    → Keeps old entries before → Keeps new (entries ++ e ∷ []) (before ++ sent_at e)
+
+-- Of notes that keep histories, these are all events by (clock, node).
+abbrev pub TellsEvents : List Notes → List Event → Type 0
+TellsEvents notes events = (histories : List (List Entry)) (sent : List (List Listed)) → AllKeep notes histories sent → events ≡ map (λ (p : Place). event_of p.entry.took) (merged histories)
+
+-- And this is what each node has sent.
+abbrev pub TellsSent : List Notes → List (List Post) → Type 0
+TellsSent notes posts = (histories : List (List Entry)) (sent : List (List Listed)) → AllKeep notes histories sent → posts ≡ posts_all sent
 
 -- Worked: the master hears a message at clock 9, and sends one on it; it ticks at clock 10, and sends nothing.
 module _ (heard : Sent) (reply : Message) where

@@ -1,10 +1,8 @@
 // Histories by their clocks.
-ghost use Rattle.std.specs.Prelude.{◌≡◌, IfOk, List, Option, map};
+ghost use Rattle.std.specs.Prelude.{◌≡◌, IfOk, Option, map};
 ghost use Rattle.std.specs.VecDeque.{deque_items};
-ghost use Rattle.gs_cluster_history.specs.Histories.{Entry};
-ghost use Rattle.gs_cluster_history.specs.Merging.{Place, event_of, merged};
-ghost use Rattle.gs_cluster_notes.specs.Notes.{dated_all};
 ghost use Rattle.gs_cluster_notes.specs.inner.Firsts.{Next, first_in, sooner_of};
+ghost use Rattle.gs_cluster_notes.specs.inner.Noting.{AreMerged};
 ghost use Rattle.gs_cluster_notes.specs.declared.merging.First.{First as AFirst};
 
 use crate::notes::Dated;
@@ -60,7 +58,7 @@ fn next_of(lists: &mut Vec<VecDeque<Dated>>) -> Option<Event>
 
 /// The events of all histories by (clock, history), where each list is a history of its events with their clocks.
 pub(crate) fn merged(alloc: Global, lists: Vec<VecDeque<Dated>>) -> Result<Vec<Event>, AllocError>
-    ensures { IfOk result (λ events. (histories : List (List Entry)) → map deque_items lists.items ≡ dated_all histories → events.items ≡ map (λ (p : Place). event_of p.entry.took) (merged histories)) }
+    ensures { IfOk result (λ events. AreMerged (map deque_items lists.items) events.items) }
 {
     let mut lists = lists;
     let mut events = Vec::new(alloc);

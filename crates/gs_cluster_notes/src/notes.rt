@@ -1,11 +1,10 @@
 // What is kept of a node's history at run time.
-ghost use Rattle.std.specs.Prelude.{◌≡◌, ◌++◌, [], ◌∷◌, IfSome, IsTrue, List, map};
+ghost use Rattle.std.specs.Prelude.{◌≡◌, [], IfSome, IsTrue, map};
 ghost use Rattle.gs_base.specs.declared.numbers.Moment.{Moment as AMoment};
 ghost use Rattle.gs_msg.specs.Posts.{posted};
-ghost use Rattle.gs_cluster_history.specs.Histories.{Entry, Listed, listed, out_of};
-ghost use Rattle.gs_cluster_history.specs.Logs.{sent_at};
+ghost use Rattle.gs_cluster_history.specs.Histories.{listed};
 ghost use Rattle.gs_cluster_history.specs.Merging.{event_of};
-ghost use Rattle.gs_cluster_notes.specs.Notes.{Keeps, dated_of};
+ghost use Rattle.gs_cluster_notes.specs.Notes.{Keeps, KeepsOneMore};
 ghost use Rattle.gs_cluster_notes.specs.inner.Noting.{Adds, Posts};
 
 use gs_base::Moment;
@@ -100,7 +99,7 @@ impl Notes {
 
     /// Notes an event, and what was sent at it. Where one of them can't be, nothing is noted from then on.
     pub fn note(&mut self, alloc: Global, dated: Option<Dated>, sent: &[Message])
-        ensures { (e : Entry) (entries : List Entry) (before : List Listed) → IfSome dated (λ d. d ≡ dated_of e) → out_of e.outcome ≡ sent.now → Keeps self.old entries before → Keeps self.new (entries ++ e ∷ []) (before ++ sent_at e) }
+        ensures { KeepsOneMore dated sent.now self.old self.new }
     {
         let Some(dated) = dated else {
             self.is_whole = false;

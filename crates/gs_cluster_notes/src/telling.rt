@@ -4,8 +4,7 @@ ghost use Rattle.std.specs.VecDeque.{deque_items};
 ghost use Rattle.gs_base.specs.declared.refusal.Refusal.TheVariants as refusals;
 ghost use Rattle.gs_msg.specs.Posts.{Posted};
 ghost use Rattle.gs_cluster_history.specs.Histories.{Entry, Listed};
-ghost use Rattle.gs_cluster_history.specs.Merging.{Place, event_of, merged};
-ghost use Rattle.gs_cluster_notes.specs.Notes.{AllKeep, dated_all, posts_all};
+ghost use Rattle.gs_cluster_notes.specs.Notes.{AllKeep, TellsEvents, TellsSent, dated_all};
 
 use crate::merging::merged;
 use crate::notes::{Dated, Notes};
@@ -27,7 +26,7 @@ fn parts_of(
     notes: Vec<Notes>,
 ) -> Result<(Vec<VecDeque<Dated>>, Vec<Outbox>), Refusal>
     ensures events { IfOk result (λ p. (histories : List (List Entry)) (sent : List (List Listed)) → AllKeep notes.items histories sent → map deque_items p.0.items ≡ dated_all histories) }
-    ensures sent { IfOk result (λ p. (histories : List (List Entry)) (sent : List (List Listed)) → AllKeep notes.items histories sent → map (λ (o : Posted). o.posts) p.1.items ≡ posts_all sent) }
+    ensures sent { IfOk result (λ p. TellsSent notes.items (map (λ (o : Posted). o.posts) p.1.items)) }
     ensures refused { IfErr result (λ refusal. refusal ≡ refusals.Memory) }
 {
     let mut lists = Vec::new(alloc);
@@ -50,8 +49,8 @@ fn parts_of(
 /// What whole notes of nodes tell: all events by (clock, node), and what each node has sent. `Memory` where memory is wanting, or was
 /// wanting for a note, or notes were not wanted.
 pub fn told_by(alloc: Global, notes: Vec<Notes>) -> Result<Told, Refusal>
-    ensures events { IfOk result (λ told. (histories : List (List Entry)) (sent : List (List Listed)) → AllKeep notes.items histories sent → told.events.items ≡ map (λ (p : Place). event_of p.entry.took) (merged histories)) }
-    ensures sent { IfOk result (λ told. (histories : List (List Entry)) (sent : List (List Listed)) → AllKeep notes.items histories sent → map (λ (o : Posted). o.posts) told.sent.items ≡ posts_all sent) }
+    ensures events { IfOk result (λ told. TellsEvents notes.items told.events.items) }
+    ensures sent { IfOk result (λ told. TellsSent notes.items (map (λ (o : Posted). o.posts) told.sent.items)) }
     ensures refused { IfErr result (λ refusal. refusal ≡ refusals.Memory) }
 {
     let (lists, sent) = parts_of(alloc, notes)?;

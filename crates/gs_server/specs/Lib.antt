@@ -7,4 +7,5 @@ pub mod Servers
 pub mod Laws
 pub mod Lifts
 pub mod Runs
+pub mod Stated
 pub mod inner

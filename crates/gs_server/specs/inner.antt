@@ -7,3 +7,4 @@ pub mod Learning
 pub mod Spending
 pub mod Numbering
 pub mod Kinds
+pub mod Hearing

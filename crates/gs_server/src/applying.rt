@@ -4,7 +4,7 @@ ghost use Rattle.gs_msg.specs.declared.op.Op.TheVariants.{Pad};
 ghost use Rattle.gs_base.specs.Calls.{Follows};
 ghost use Rattle.gs_store.specs.Buffers.{pushed};
 ghost use Rattle.gs_server.specs.Edits.{bytes_of};
-ghost use Rattle.gs_server.specs.inner.Applying.{applied_with};
+ghost use Rattle.gs_server.specs.inner.Applying.{applied_of};
 
 use gs_base::{Handle, Refusal, ReqId, Stamp};
 use gs_msg::{Bytes, Op};
@@ -28,7 +28,7 @@ pub(crate) fn apply(
     edit: Numbered,
     carried: Option<Bytes>,
 ) -> Result<(), Refusal>
-    ensures { Follows (applied_with handle edit.stamp edit.number edit.req edit.op store.old (bytes_of edit.op carried (pushed edit.req store.old.buffer))) result store.old store.new }
+    ensures { Follows (applied_of handle edit carried store.old) result store.old store.new }
 {
     if let Op::Pad = edit.op {
         return apply_pad(store, handle, edit);
@@ -50,7 +50,7 @@ pub(crate) fn apply_buffered(
     handle: Handle,
     edit: Numbered,
 ) -> Result<Bytes, Refusal>
-    ensures edit { Follows (applied_with handle edit.stamp edit.number edit.req edit.op store.old (bytes_of edit.op None (pushed edit.req store.old.buffer))) result store.old store.new }
+    ensures edit { Follows (applied_of handle edit None store.old) result store.old store.new }
     ensures bytes { IfOk result (λ bytes. bytes_of edit.op None (pushed edit.req store.old.buffer) ≡ Some bytes) }
 {
     if let Op::Pad = edit.op {
@@ -64,7 +64,7 @@ pub(crate) fn apply_buffered(
 
 fn apply_pad(store: &mut Store, handle: Handle, edit: Numbered) -> Result<(), Refusal>
     requires { edit.op ≡ Pad }
-    ensures { (carried : Option (List ℕ)) → Follows (applied_with handle edit.stamp edit.number edit.req edit.op store.old (bytes_of edit.op carried (pushed edit.req store.old.buffer))) result store.old store.new }
+    ensures { (carried : Option (List ℕ)) → Follows (applied_of handle edit carried store.old) result store.old store.new }
 {
     store.apply(
         handle,
@@ -83,7 +83,7 @@ fn apply_carried(
     bytes: &Bytes,
 ) -> Result<(), Refusal>
     requires { edit.op ≢ Pad }
-    ensures { Follows (applied_with handle edit.stamp edit.number edit.req edit.op store.old (bytes_of edit.op (Some bytes.now) (pushed edit.req store.old.buffer))) result store.old store.new }
+    ensures { Follows (applied_of handle edit (Some bytes.now) store.old) result store.old store.new }
 {
     if bytes.as_slice().len() as u64 != edit.op.length() {
         return Err(Refusal::NoData);
@@ -107,7 +107,7 @@ fn apply_carried(
 
 fn apply_pushed(store: &mut Store, handle: Handle, edit: Numbered) -> Result<Bytes, Refusal>
     requires { edit.op ≢ Pad }
-    ensures edit { Follows (applied_with handle edit.stamp edit.number edit.req edit.op store.old (bytes_of edit.op None (pushed edit.req store.old.buffer))) result store.old store.new }
+    ensures edit { Follows (applied_of handle edit None store.old) result store.old store.new }
     ensures bytes { IfOk result (λ bytes. bytes_of edit.op None (pushed edit.req store.old.buffer) ≡ Some bytes) }
 {
     let Some(bytes) = store.pushed(edit.req) else {

@@ -3,13 +3,12 @@ ghost use Rattle.std.specs.FinMap as fin;
 ghost use Rattle.gs_base.specs.declared.refusal.Refusal.TheVariants.{Memory};
 ghost use Rattle.gs_msg.specs.declared.body.Body.TheVariants.{Done};
 ghost use Rattle.gs_msg.specs.declared.node.NodeId.TheVariants.{Client};
-ghost use Rattle.gs_store.specs.Serving.{done_in};
 ghost use Rattle.gs_store.specs.Stores.{slot_of};
 ghost use Rattle.gs_server_lease.specs.Leases.{tell};
 ghost use Rattle.gs_server.specs.Edits.{is_known_of_all};
 ghost use Rattle.gs_server.specs.Edits as edits;
 ghost use Rattle.gs_server.specs.Servers.{ServerSteps, step_of, here_of, place_of, store_of};
-ghost use Rattle.gs_server.specs.inner.Again.{again, again_as_refused, StepsAgain};
+ghost use Rattle.gs_server.specs.inner.Again.{again_as_refused, again_at, StepsAgain};
 ghost use Rattle.gs_server.specs.inner.Answering.{refused_once_by, kept_by, repeated_by};
 
 use crate::numbering::NewEdit;
@@ -111,7 +110,7 @@ impl Server {
 
     /// What is answered to an edit that was heard before. It is `None` of a new one.
     fn answer_again(&self, handle: Handle, req: ReqId) -> Option<Result<Turn, Refusal>>
-        ensures { StepsAgain (again req (is_known_of_all req (slot_of handle (store_of self.now)) (fin.get self.now.dropped.leases handle)) self.now (fin.get self.now.kept.refused req.client) (done_in (slot_of handle (store_of self.now)).live req.client.0)) result self.now }
+        ensures { StepsAgain (again_at handle req self.now) result self.now }
     {
         let Some(last) = self.store.done(handle, req.client) else {
             return self.answer_refused(req);

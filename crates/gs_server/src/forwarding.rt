@@ -1,13 +1,11 @@
-ghost use Rattle.std.specs.Prelude.{◌≡◌, Some, Err};
+ghost use Rattle.std.specs.Prelude.{◌≡◌, Err};
 ghost use Rattle.gs_base.specs.declared.refusal.Refusal.TheVariants.{Memory};
-ghost use Rattle.gs_store.specs.Buffers.{pushed};
 ghost use Rattle.gs_store.specs.Slots.{count_of};
 ghost use Rattle.gs_store.specs.Stores.{slot_of};
 ghost use Rattle.gs_server.specs.Places.{count_or_none};
-ghost use Rattle.gs_server.specs.Edits.{bytes_of, forward};
-ghost use Rattle.gs_server.specs.Servers.{ServerSteps, step_of, here_of, place_of, store_of};
+ghost use Rattle.gs_server.specs.Servers.{ServerSteps, store_of};
 ghost use Rattle.gs_server.specs.inner.Answering.{declined_by};
-ghost use Rattle.gs_server.specs.inner.Applying.{applied_with, taken_by};
+ghost use Rattle.gs_server.specs.inner.Applying.{forwarded_of, taken_of};
 
 use crate::applying::{Numbered, apply};
 use crate::sending::Sending;
@@ -57,7 +55,7 @@ impl Server {
         edit: Numbered,
         carried: Option<Bytes>,
     ) -> Result<Turn, Refusal>
-        ensures { ServerSteps (taken_by handle from edit.stamp edit.number (applied_with handle edit.stamp edit.number edit.req edit.op (store_of self.old) (bytes_of edit.op carried (pushed edit.req self.old.dropped.buffer))) self.old) result self.old self.new }
+        ensures { ServerSteps (taken_of handle from edit carried self.old) result self.old self.new }
     {
         let mut sent = Sending::with_room(self.alloc, 1)?;
         match apply(&mut self.store, handle, edit, carried) {
@@ -81,7 +79,7 @@ impl Server {
         carried: Option<Bytes>,
         moment: Moment,
     ) -> Result<Turn, Refusal>
-        ensures { ServerSteps (step_of handle (Some edit.req) (forward (here_of self.old moment handle (Some edit.req)) (place_of handle self.old) from edit.stamp edit.number edit.req edit.op carried) self.old) result self.old self.new }
+        ensures { ServerSteps (forwarded_of handle from edit carried moment self.old) result self.old self.new }
     {
         let promise = self.store.promised(handle);
         let count = match count_under(edit.stamp, promise, self.store.count(handle)) {

@@ -1,6 +1,6 @@
-ghost use Rattle.std.specs.Prelude.{◌≡◌, true, false, None, OnErr};
-ghost use Rattle.gs_server.specs.Holding.{ack, nack, from_server};
-ghost use Rattle.gs_server.specs.Servers.{ServerSteps, step_of, here_of, place_of, handle, handle_chunk, takes_memory, is_of_server, chunk_takes_memory};
+ghost use Rattle.std.specs.Prelude.{◌≡◌, true, false, OnErr};
+ghost use Rattle.gs_server.specs.Servers.{ServerSteps, handle, handle_chunk, takes_memory, is_of_server, chunk_takes_memory};
+ghost use Rattle.gs_server.specs.inner.Hearing.{hears_ack, hears_nack};
 ghost use Rattle.gs_server.specs.inner.Kinds.{is_of_replica};
 
 use crate::applying::Numbered;
@@ -129,7 +129,7 @@ impl Server {
         count: u64,
         moment: Moment,
     ) -> Result<Turn, Refusal>
-        ensures step { ServerSteps (step_of handle None (from_server from (λ server. ack (here_of self.old moment handle None) (place_of handle self.old) server stamp count)) self.old) result self.old self.new }
+        ensures step { ServerSteps (hears_ack handle from stamp count moment self.old) result self.old self.new }
         ensures lacking { OnErr result (is_of_server from ≡ true) }
     {
         match from {
@@ -147,7 +147,7 @@ impl Server {
         refusal: &Refusal,
         moment: Moment,
     ) -> Result<Turn, Refusal>
-        ensures step { ServerSteps (step_of handle None (from_server from (λ server. nack (here_of self.old moment handle None) (place_of handle self.old) server stamp refusal.now)) self.old) result self.old self.new }
+        ensures step { ServerSteps (hears_nack handle from stamp refusal.now moment self.old) result self.old self.new }
         ensures lacking { OnErr result (is_of_server from ≡ true) }
     {
         match from {

@@ -1,19 +1,17 @@
-ghost use Rattle.std.specs.Prelude.{◌≡◌, ℕ, List, true, false, Some, None, IfOk};
+ghost use Rattle.std.specs.Prelude.{◌≡◌, true, false, Some, None, IfOk};
 ghost use Rattle.std.specs.Option.{option_copied};
 ghost use Rattle.std.specs.FinMap as fin;
-ghost use Rattle.gs_base.specs.declared.numbers.Moment.{Moment};
 ghost use Rattle.gs_replica.specs.Edits.{is_old};
 ghost use Rattle.gs_replica.specs.declared.op.EditOutcome.TheVariants.{Padded};
 ghost use Rattle.gs_store.specs.Buffers.{pushed};
-ghost use Rattle.gs_store.specs.Slots.{Live};
 ghost use Rattle.gs_store.specs.Serving.{done_in, length_in};
 ghost use Rattle.gs_store.specs.Stores.{slot_of};
 ghost use Rattle.gs_store.specs.Whole.{LiveUnder};
 ghost use Rattle.gs_server_lease.specs.Leases.{PrimaryLease};
-ghost use Rattle.gs_server.specs.Edits.{bytes_of, new_edit, unless_numbered, opened, numbers_as};
-ghost use Rattle.gs_server.specs.Servers.{ServerSteps, step_of, here_of, place_of, store_of};
+ghost use Rattle.gs_server.specs.Edits.{bytes_of, unless_numbered};
+ghost use Rattle.gs_server.specs.Servers.{ServerSteps, here_of, place_of, store_of};
 ghost use Rattle.gs_server.specs.inner.Answering.{repeated_by};
-ghost use Rattle.gs_server.specs.inner.Numbering.{told_of, numbered_by, refused_at_last, IsReady};
+ghost use Rattle.gs_server.specs.inner.Numbering.{told_of, numbered_by, refused_at_last, new_edit_of, NumbersIfReady};
 
 use crate::applying::{Numbered, apply_buffered};
 use crate::leases::take_roomy;
@@ -176,7 +174,7 @@ impl Server {
     /// Numbers an edit next, which stands under the lease that is held and is no pad of a full chunk. `Exhausted` where no number
     /// is left, behind what the replica refuses.
     fn number_next(&mut self, handle: Handle, edit: NewEdit) -> Result<Turn, Refusal>
-        ensures { (moment : Moment) (bytes : List ℕ) (live : Live) (l : PrimaryLease) → IsReady handle edit bytes live l self.old → ServerSteps (step_of handle (Some edit.req) (numbers_as (here_of self.old moment handle (Some edit.req)) (place_of handle self.old) live l (opened edit.req edit.op bytes live)) self.old) result self.old self.new }
+        ensures { NumbersIfReady handle edit result self.old self.new }
     {
         let NewEdit { req, stamp, op } = edit;
         let Some(number) = self.count(handle).checked_add(1) else {
@@ -203,7 +201,7 @@ impl Server {
     ) -> Result<Turn, Refusal>
         requires chunk { chunk ≡ self.old.chunk }
         requires above { is_old edit.req.number (done_in (slot_of handle (store_of self.old)).live edit.req.client.0) ≡ false }
-        ensures { ServerSteps (step_of handle (Some edit.req) (new_edit (here_of self.old moment handle (Some edit.req)) (place_of handle self.old) edit.req edit.stamp edit.op) self.old) result self.old self.new }
+        ensures { ServerSteps (new_edit_of handle edit moment self.old) result self.old self.new }
     {
         if let Some(refusal) = self.unless_numbered(chunk, handle, edit, moment) {
             return self.refuse_edit(handle, edit.req, refusal);

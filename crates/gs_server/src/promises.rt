@@ -1,38 +1,30 @@
 //! What holds of each server, whatever messages come.
 
-ghost use Rattle.std.specs.Prelude.{◌≡◌, ◌≢◌, ◌<◌, ◌≤◌, ◌+◌, ℕ, true, false, List, [], ◌++◌, length, Option, Some, None, is_some, Ok, Err};
-ghost use Rattle.std.specs.List.{All};
+ghost use Rattle.std.specs.Prelude.{◌≡◌, ◌≤◌, ◌+◌, ℕ, false, List, [], Some, None, is_some, Ok};
 ghost use Rattle.gs_base.specs.declared.numbers.Moment.{Moment};
 ghost use Rattle.gs_base.specs.declared.numbers.Stamp.{Stamp};
 ghost use Rattle.gs_base.specs.declared.numbers.ReqId.{ReqId};
 ghost use Rattle.gs_base.specs.declared.epoch.EpochEnd.{EpochEnd};
-ghost use Rattle.gs_base.specs.declared.refusal.Refusal.{Refusal};
 ghost use Rattle.gs_lease.specs.declared.held.Grant.{Grant};
-ghost use Rattle.gs_replica.specs.declared.op.Done.{Done};
-ghost use Rattle.gs_replica.specs.declared.op.Op.TheVariants.{Pad};
 ghost use Rattle.gs_msg.specs.declared.op.Op.{Op};
-ghost use Rattle.gs_msg.specs.declared.op.Op.TheVariants.{Append};
 ghost use Rattle.gs_base.specs.Stamps.{is_same};
 ghost use Rattle.gs_msg.specs.declared.node.NodeId.{NodeId};
 ghost use Rattle.gs_msg.specs.declared.chunk.Chunk.{Chunk};
-ghost use Rattle.gs_store.specs.Slots.{Live, Slot};
-ghost use Rattle.gs_store.specs.Serving.{apply, done_in};
+ghost use Rattle.gs_store.specs.Slots.{Slot};
 ghost use Rattle.gs_store.specs.Stores as stores;
-ghost use Rattle.gs_server_lease.specs.Leases.{PrimaryLease, hears, forwards, done_at_once};
-ghost use Rattle.gs_server.specs.Places.{Place, Here, SlotBecomes, LeaseBecomes, after};
-ghost use Rattle.gs_server.specs.Edits.{edit, forward};
+ghost use Rattle.gs_server_lease.specs.Leases.{PrimaryLease};
+ghost use Rattle.gs_server.specs.Places.{Place, Here, SlotBecomes, after};
+ghost use Rattle.gs_server.specs.Edits.{edit};
 ghost use Rattle.gs_server.specs.Holding.{grant, ack};
 ghost use Rattle.gs_server.specs.Servers.{Server, store_of, place_of, restart, request_in, about_chunk, handle_chunk, make_copy, learn, tick};
 ghost use Rattle.gs_server.specs.Lifts.{ticked, restarted, gone_on};
 ghost use Rattle.gs_base.specs.Stamps.{is_before};
-ghost use Rattle.gs_replica.specs.Stands.{Edit};
-ghost use Rattle.gs_store.specs.Standing.{StandsIn, LiveUndamaged};
 ghost use Rattle.gs_store.specs.Whole.{Reaches, IsWholeSlot};
-ghost use Rattle.gs_store.specs.Learning.{start_of};
 ghost use Rattle.gs_store.specs.StoreCalls.{names};
-ghost use Rattle.gs_server.specs.Runs.{Event, behind, behind_all, slot_in, IsByOneCall, IsByCalls, TakesLease, IsReached, prepared, rolled_back, KeepSeal, AllSpare};
+ghost use Rattle.gs_server.specs.Runs.{Event, behind, behind_all, slot_in, IsByOneCall, IsByCalls, IsReached, rolled_back};
 ghost use Rattle.gs_server.specs.Promises as promising;
-ghost use Rattle.gs_server.specs.Laws.{IsHeldFor, IsSpent, IsAbove, LeavesIfRefused, LeavesIfNotCopied, LeavesTheRest, LeavesAllBut, edit_in, is_yes, IsToldByAll, IsToldUnder, IsDoneUnder, IsKnownToAll, padding};
+ghost use Rattle.gs_server.specs.Stated.{DoneAtOnceIsToldByAll, DoneAtOnceIsUnderALease, DoneLaterIsToldByAll, ForwardsAreOfThePromise, LeasesAreTakenOnce, NewPromisesSpendTheLease, NumbersRise, RefusedEpochsLeaveTheServer, RepeatsAreKnownToAll, RollbacksGoBack, RollbacksMakeLive, RollbacksStartTheEpoch, SpentLeasesStaySpent, UnfitAppendsArePads, UnfitAppendsGoAsPads};
+ghost use Rattle.gs_server.specs.Laws.{IsHeldFor, IsSpent, LeavesIfRefused, LeavesIfNotCopied, LeavesTheRest, LeavesAllBut, edit_in};
 
 /// No edit is numbered but under a lease that is held, that is of the promise and of the stamp that is asked for, and whose end
 /// has not come.
@@ -42,12 +34,12 @@ pub fn edits_are_numbered_under_a_lease()
 
 /// A client's last request in the done table is no new edit, and neither is a lower one.
 pub fn a_request_is_numbered_once()
-    ensures { (h : Here) (p : Place) (req : ReqId) (stamp : Stamp) (op : Op) (last : Done) (s : Slot) → done_in p.slot.live req.client.0 ≡ Some last → (edit h p req stamp op).slot ≡ SlotBecomes s → IsAbove last req }
+    ensures { NumbersRise }
 {}
 
 /// A member takes a forward under the stamp that it has promised, and under no other.
 pub fn no_forward_is_taken_below_the_promise()
-    ensures { (h : Here) (p : Place) (from : NodeId) (stamp : Stamp) (number : ℕ) (req : ReqId) (op : Op) (carried : Option (List ℕ)) (s : Slot) → (forward h p from stamp number req op carried).slot ≡ SlotBecomes s → is_same stamp p.slot.promise ≡ true }
+    ensures { ForwardsAreOfThePromise }
 {}
 
 /// A grant of the lease that was taken last changes nothing: while the lease is held it stays as it is, and once it is spent it
@@ -69,28 +61,28 @@ pub fn a_refused_message_leaves_the_chunk()
 /// An epoch that isn't refused leaves the store as the store learns it, and a refused one leaves the server.
 pub fn a_server_learns_as_its_store_does()
     ensures learned { (epoch : ℕ) (end : EpochEnd) (s : Server) → (learn s epoch end).said ≡ None → stores.learn epoch end (store_of s) ≡ Ok (store_of (learn s epoch end).after) }
-    ensures refused { (epoch : ℕ) (end : EpochEnd) (s : Server) (refusal : Refusal) → (learn s epoch end).said ≡ Some refusal → (stores.learn epoch end (store_of s) ≡ Err refusal) × ((learn s epoch end).after ≡ s) }
+    ensures refused { RefusedEpochsLeaveTheServer }
 {}
 
 /// A new edit that is numbered tells its client that it is done only where every member has told a count that reaches its number,
 /// and an acknowledgement does so of the edits that waited. A record that a full chunk passes on isn't numbered.
 pub fn edits_are_done_where_all_have_them()
-    ensures at_once { (h : Here) (p : Place) (req : ReqId) (stamp : Stamp) (op : Op) (live : Live) (l : PrimaryLease) → p.slot.live ≡ Some live → (edit h p req stamp op).lease ≡ LeaseBecomes l → All (λ m. is_yes m.body ≡ true → IsToldByAll l (live.replica.held.count + 1)) (edit h p req stamp op).sent }
-    ensures numbered { (h : Here) (p : Place) (req : ReqId) (stamp : Stamp) (op : Op) (live : Live) (s : Slot) → p.slot.live ≡ Some live → (edit h p req stamp op).slot ≡ SlotBecomes s → All (λ m. is_yes m.body ≡ true → IsToldUnder (after p (edit h p req stamp op)).lease (live.replica.held.count + 1)) (edit h p req stamp op).sent }
-    ensures later { (h : Here) (p : Place) (server : ℕ) (stamp : Stamp) (count : ℕ) (l : PrimaryLease) → p.lease ≡ Some l → All (IsDoneUnder h.me (hears server count l)) (ack h p server stamp count).sent }
+    ensures at_once { DoneAtOnceIsToldByAll }
+    ensures numbered { DoneAtOnceIsUnderALease }
+    ensures later { DoneLaterIsToldByAll }
     ensures unleased { (h : Here) (p : Place) (server : ℕ) (stamp : Stamp) (count : ℕ) → p.lease ≡ None → (ack h p server stamp count).sent ≡ [] }
 {}
 
 /// A client's last edit is answered as done again only where every member is known to have it: under a lease of the promise under
 /// which it doesn't wait.
 pub fn repeats_are_done_where_all_have_them()
-    ensures { (h : Here) (p : Place) (req : ReqId) (stamp : Stamp) (op : Op) (last : Done) → done_in p.slot.live req.client.0 ≡ Some last → req.number ≡ last.number → All (λ m. is_yes m.body ≡ true → IsKnownToAll req p) (edit h p req stamp op).sent }
+    ensures { RepeatsAreKnownToAll }
 {}
 
 /// An append that doesn't fit is numbered as a pad, goes to the other members as that pad, and is told its client as padded.
 pub fn an_append_that_does_not_fit_is_a_pad()
-    ensures slot { (h : Here) (p : Place) (req : ReqId) (stamp : Stamp) (many : ℕ) (live : Live) (s : Slot) → p.slot.live ≡ Some live → h.chunk < length live.replica.held.chunk.bytes + many → (edit h p req stamp (Append many)).slot ≡ SlotBecomes s → apply stamp (live.replica.held.count + 1) req Pad [] p.slot ≡ Ok s }
-    ensures sent { (h : Here) (p : Place) (req : ReqId) (stamp : Stamp) (many : ℕ) (live : Live) (l : PrimaryLease) (s : Slot) → p.slot.live ≡ Some live → p.lease ≡ Some l → h.chunk < length live.replica.held.chunk.bytes + many → (edit h p req stamp (Append many)).slot ≡ SlotBecomes s → (edit h p req stamp (Append many)).sent ≡ forwards h.me h.handle l (live.replica.held.count + 1, padding req) ++ done_at_once h.me (live.replica.held.count + 1) (padding req) l }
+    ensures slot { UnfitAppendsArePads }
+    ensures sent { UnfitAppendsGoAsPads }
 {}
 
 /// A message about a chunk changes what is kept of that chunk and of no other, and of the rest at most what is kept of the client
@@ -124,15 +116,15 @@ pub fn no_promise_falls()
 
 /// A lease that an event takes is taken once for good: whatever happens behind it, no event takes that lease again.
 pub fn leases_are_taken_once_for_good()
-    ensures { (handle : ℕ) (stamp : Stamp) (first again : Event) (events : List Event) (s : Server) → TakesLease handle stamp first s → TakesLease handle stamp again (behind_all events (behind first s)) → ⊥ }
+    ensures { LeasesAreTakenOnce }
 {}
 
 /// What a chunk's live replica stood for as its server was told of a prepare is what a rollback makes live, if it makes anything live,
 /// without a damaged block, whatever happened between, but for the ends of epochs, a loss of the chunk, and copies of it that carry
 /// sealed images. It does make it live where no block was damaged at the prepare and damage since was of blocks that edits had touched.
 pub fn a_rollback_makes_live_what_was_sealed()
-    ensures stands { (handle : ℕ) (edits : List Edit) (events : List Event) (s : Server) → StandsIn s.block s.chunk (slot_in handle s) edits → KeepSeal handle events (prepared s) → is_some (slot_in handle (rolled_back (behind_all events (prepared s)))).live ≡ true → StandsIn s.block s.chunk (slot_in handle (rolled_back (behind_all events (prepared s)))) edits × LiveUndamaged (slot_in handle (rolled_back (behind_all events (prepared s)))).live }
-    ensures live { (handle : ℕ) (events : List Event) (s : Server) → is_some (slot_in handle s).live ≡ true → LiveUndamaged (slot_in handle s).live → KeepSeal handle events (prepared s) → AllSpare handle events (prepared s) → is_some (slot_in handle (rolled_back (behind_all events (prepared s)))).live ≡ true }
+    ensures stands { RollbacksGoBack }
+    ensures live { RollbacksMakeLive }
 {}
 
 /// At each server that began with nothing, whatever happened to it since: a lease that it holds is the one that was taken last of the
@@ -141,14 +133,14 @@ pub fn a_rollback_makes_live_what_was_sealed()
 pub fn leases_and_promises_are_in_order()
     ensures held { (handle : ℕ) (s : Server) (l : PrimaryLease) → IsReached s → (place_of handle s).lease ≡ Some l → (slot_in handle s).taken ≡ Some l.grant.stamp }
     ensures promised { (handle : ℕ) (s : Server) (l : PrimaryLease) → IsReached s → (place_of handle s).lease ≡ Some l → l.grant.stamp ≡ (slot_in handle s).promise }
-    ensures spent { (handle : ℕ) (e : Event) (s : Server) → IsReached s → (slot_in handle (behind e s)).promise ≢ (slot_in handle s).promise → (place_of handle (behind e s)).lease ≡ None }
+    ensures spent { NewPromisesSpendTheLease }
     ensures reached { (handle : ℕ) (s : Server) → IsReached s → Reaches (slot_in handle s).promise (slot_in handle s).taken }
     ensures epoch { (handle : ℕ) (s : Server) → IsReached s → (slot_in handle s).promise.epoch ≤ s.kept.epoch }
 {}
 
 /// A lease that is spent is never held again, whatever happens: no messages, ticks or restarts bring it back.
 pub fn a_spent_lease_is_never_held_again()
-    ensures { (handle : ℕ) (stamp : Stamp) (events : List Event) (s : Server) (l : PrimaryLease) → IsReached s → IsSpent stamp (place_of handle s) → (place_of handle (behind_all events s)).lease ≡ Some l → l.grant.stamp ≢ stamp }
+    ensures { SpentLeasesStaySpent }
 {}
 
 /// Each chunk is whole at each server that began with nothing, whatever came to it: its live replica is under the promise, what is in the
@@ -161,6 +153,6 @@ pub fn each_chunk_is_whole()
 /// What a rollback makes live is under the first stamp of its epoch, whatever happened before, and a server names exactly these
 /// chunks.
 pub fn a_rollback_names_what_it_makes_live()
-    ensures promise { (handle : ℕ) (s : Server) → IsReached s → is_some (slot_in handle (rolled_back s)).live ≡ true → (slot_in handle (rolled_back s)).promise ≡ start_of (s.kept.epoch + 1) }
+    ensures promise { RollbacksStartTheEpoch }
     ensures named { (handle : ℕ) (s : Server) → IsReached s → names handle (s.kept.epoch + 1) (store_of (rolled_back s)) ≡ is_some (slot_in handle (rolled_back s)).live }
 {}

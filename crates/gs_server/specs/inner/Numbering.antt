@@ -1,6 +1,7 @@
 -- An edit is numbered.
 use Rattle.std.specs.Prelude.{◌≡◌, ℕ, ◌++◌, true, false, List, Option, Some, None, Result, Ok, Err}
 use Rattle.std.specs.FinMap as fin
+use Rattle.gs_base.specs.declared.numbers.Moment.{Moment}
 use Rattle.gs_base.specs.declared.numbers.ReqId.{ReqId}
 use Rattle.gs_base.specs.Stamps.{is_same}
 use Rattle.gs_base.specs.declared.refusal.Refusal.{Refusal}
@@ -16,10 +17,11 @@ use Rattle.gs_store.specs.Stores.{Store, slot_of}
 use Rattle.gs_server_lease.specs.declared.lease.Open.{Open}
 use Rattle.gs_server.specs.declared.applying.Numbered.{Numbered}
 use Rattle.gs_server.specs.declared.numbering.NewEdit.{NewEdit}
-use Rattle.gs_server.specs.Edits.{bytes_of, bytes_or_none}
+use Rattle.gs_server.specs.declared.turn.Turn.{Turn}
+use Rattle.gs_server.specs.Edits.{bytes_of, bytes_or_none, new_edit, numbers_as, opened}
 use Rattle.gs_server_lease.specs.Leases.{PrimaryLease, forwards, done_at_once, opens_edit}
 use Rattle.gs_server_lease.specs.Numbering.{outcome_at}
-use Rattle.gs_server.specs.Servers.{Server, Step, store_of, with_store, with_leases}
+use Rattle.gs_server.specs.Servers.{Server, ServerSteps, Step, here_of, place_of, step_of, store_of, with_store, with_leases}
 use Rattle.gs_server.specs.inner.Answering.{kept_by}
 use Rattle.gs_server.specs.inner.Applying.{applied_with}
 
@@ -66,3 +68,12 @@ pub record IsReady (handle : ℕ) (edit : NewEdit) (bytes : List ℕ) (live : Li
   pub asked : is_same edit.stamp l.grant.stamp ≡ true
   pub promised : is_same l.grant.stamp (slot_of handle (store_of s)).promise ≡ true
   pub above : is_old edit.req.number (done_in (slot_of handle (store_of s)).live edit.req.client.0) ≡ false
+
+-- An edit that is ready is numbered as the rules say.
+abbrev pub NumbersIfReady : ℕ → NewEdit → Result Turn Refusal → Server → Server → Type 0
+NumbersIfReady handle edit result old new = (moment : Moment) (bytes : List ℕ) (live : Live) (l : PrimaryLease) → IsReady handle edit bytes live l old
+    → ServerSteps (step_of handle (Some edit.req) (numbers_as (here_of old moment handle (Some edit.req)) (place_of handle old) live l (opened edit.req edit.op bytes live)) old) result old new
+
+-- what comes of an edit that wasn't heard before
+abbrev pub new_edit_of : ℕ → NewEdit → Moment → Server → Step
+new_edit_of handle edit moment s = step_of handle (Some edit.req) (new_edit (here_of s moment handle (Some edit.req)) (place_of handle s) edit.req edit.stamp edit.op) s
