@@ -21,7 +21,8 @@ ok_judged (Some e) r x Q judged is = absurd (cc (judged, is))
 pub returns-in_err-draft-clause-judged : goal.returns-in_err-draft-clause-judged
 returns-in_err-draft-clause-judged g c =
     let e : c.from_residual.result ≡ Err c.in_err-draft.field-0.0 = search rules in
-    rw e (err_judged _ _ _ _ _ c.draft.ensures.judged c.in_err-draft.is)
+    let is : c.draft.result ≡ Err c.in_err-draft.field-0.0 = search rules in
+    rw e (err_judged _ _ _ _ _ c.draft.ensures.judged is)
 
 pub returns-in_err-draft-clause-stands : goal.returns-in_err-draft-clause-stands
 returns-in_err-draft-clause-stands g c =
@@ -69,7 +70,9 @@ returns-clause-next g c is_open =
     c.in_ok-draft.ensures.made (c.write_draft.ensures.next is_open)
 
 pub returns-clause-judged : goal.returns-clause-judged
-returns-clause-judged g c = ok_judged _ _ _ _ c.draft.ensures.judged c.in_ok-draft.is
+returns-clause-judged g c =
+    let is : c.draft.result ≡ Ok c.in_ok-draft.draft = search rules in
+    ok_judged _ _ _ _ c.draft.ensures.judged is
 
 pub returns-clause-made : goal.returns-clause-made
 returns-clause-made g c = subst (λ (t : Drafted). OnOk c.write_draft.result (MakesCheckpoint c.args.self.now t.body c.write_draft.new.self)) c.in_ok-draft.ensures.made c.write_draft.ensures.made
