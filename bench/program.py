@@ -4,11 +4,12 @@
     bench/program.py [--program PATH]
 
 The lines of crates/chunkstore/stdin are to be answered as crates/chunkstore/stdout tells, with status 0. Where a read or a write fails, that is
-to be said, with status 1. Where the words of the command line are refused, that is to be said, with status 2 and no answer. Without a program
-it is built. The last line is 'N passed, M failed', and the status is 1 where one failed."""
+to be said, with status 1. Where the words of the command line are refused, that is to be said, with status 2 and no answer. On one thread and
+with little memory it is to say at its end that no memory was left for something within the store. Without a program it is built. The last line is 'N passed, M failed', and the status is 1 where one failed."""
 
 import argparse
 import os
+import resource
 import subprocess
 import sys
 
@@ -20,6 +21,10 @@ PLACES = [[], ["--threads"]]
 # Words that are none, lack a value, are given twice, or ask for sizes of no store.
 BAD = [["--frob"], ["stray"], ["--servers"], ["--servers", "x"], ["--servers", "2"], ["--racks", "1", "--racks", "1"], ["--chunk", "0"]]
 SECONDS = 60
+# So much memory holds the program and what the first lines store, and not what the last one does.
+LITTLE = 60_000_000
+LARGE_LINES = b"create /f\nwrite /f 3000000 61\nwrite /f 30000000 61\n"
+LARGE_ANSWERS = b"ok\nok\nrefused 29 Unsure\n"
 
 
 def lines_of(name):
@@ -62,6 +67,14 @@ def try_place(trials, place):
         trials.judge("bad words", [*words, *place], 2, b"", b"error: ", input=lines)
 
 
+def try_memory(trials):
+    def little():
+        resource.setrlimit(resource.RLIMIT_AS, (LITTLE, LITTLE))
+
+    said = b"chunkstore: no memory was left for something within the store\n"
+    trials.judge("little memory", [], 0, LARGE_ANSWERS, said, input=LARGE_LINES, preexec_fn=little)
+
+
 def main():
     parser = argparse.ArgumentParser(description="Looks at what chunkstore answers, and how it ends.")
     parser.add_argument("--program")
@@ -71,6 +84,7 @@ def main():
     trials = Trials(asked.program or beside.native("chunkstore"))
     for place in PLACES:
         try_place(trials, place)
+    try_memory(trials)
     print(f"{trials.passed} passed, {trials.failed} failed", flush=True)
     return 1 if trials.failed else 0
 
