@@ -129,15 +129,16 @@ def one_at_a_time(name: str) -> Iterator[None]:
 
 
 def forget_old(name: str) -> None:
-    """Removes the programs of a name that didn't run for long."""
-    for program in CACHE.glob(f"{name}-*/{name}"):
-        if time.time() - program.stat().st_mtime > KEPT_SECONDS:
-            shutil.rmtree(program.parent, ignore_errors=True)
+    """Removes what builds that were killed have left, and the programs of a name that didn't run for long."""
+    old = [program.parent for program in CACHE.glob(f"{name}-*/{name}") if time.time() - program.stat().st_mtime > KEPT_SECONDS]
+    for folder in [*old, *CACHE.glob(f"building-{name}-*")]:
+        shutil.rmtree(folder, ignore_errors=True)
 
 
 def build_unproved(name: str) -> Path:
     """Builds a program of a copy of its code in a folder aside, which is put in its place once it is whole."""
-    with tempfile.TemporaryDirectory(dir=CACHE, prefix="building-") as folder:
+    forget_old(name)
+    with tempfile.TemporaryDirectory(dir=CACHE, prefix=f"building-{name}-") as folder:
         copy, made, place = (Path(folder) / part for part in ("copy", "made", "place"))
         crates = crates_of(ROOT, name)
         for crate in crates:
@@ -150,7 +151,6 @@ def build_unproved(name: str) -> Path:
         kept = kept_at(name, digest_of(copy, crates))
         with contextlib.suppress(FileExistsError):
             place.rename(kept.parent)
-    forget_old(name)
     return kept
 
 
