@@ -147,7 +147,10 @@ def build_unproved(name: str) -> Path:
         shutil.copy(ROOT / "HANDLES", copy)
         made.mkdir()
         place.mkdir()
-        building.build(str(copy / "crates" / name), str(place / name), str(made))
+        try:
+            building.build(str(copy / "crates" / name), str(place / name), str(made))
+        except subprocess.CalledProcessError as failed:
+            raise SystemExit(f"{name}: the program can't be built: {failed}") from None
         kept = kept_at(name, digest_of(copy, crates))
         with contextlib.suppress(FileExistsError):
             place.rename(kept.parent)
@@ -248,7 +251,5 @@ def main(name: str, words: list[str]) -> int:
 if __name__ == "__main__":
     try:
         sys.exit(main(sys.argv[1], sys.argv[2:]))
-    except subprocess.CalledProcessError as failed:
-        raise SystemExit(f"{sys.argv[1]}: the program can't be built: {failed}") from None
     except KeyboardInterrupt:
         sys.exit(130)

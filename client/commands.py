@@ -56,10 +56,12 @@ COMMANDS = (
         ONE, word("files", nargs="*", type=Path, metavar="LOCAL")), True),
     Command("ls", listing.ls, "what stands in a directory", "ls -l -h /photos", (
         ANY, flag("-l", "--long", "with the least replicas of a chunk, and the size"), flag("-R", "--recursive", "all below too"), HUMAN)),
-    Command("du", listing.du, "bytes, and the bytes of all replicas", "du -h /photos", (ANY, flag("-s", "--summary", "one line for each path"), HUMAN)),
+    Command("du", listing.du, "bytes, and the bytes of all replicas", "du -h /photos", (
+        ANY, flag("-s", "--summary", "one line for each path"), HUMAN)),
     Command("count", listing.count, "directories, files and bytes", "count /photos", (ANY, HUMAN)),
     Command("tree", listing.tree, "a picture of what stands below", "tree /photos", (word("path", nargs="?", metavar="PATH"),)),
-    Command("find", listing.find, "paths by their names", "find / -name '*.txt'", (ONE, word("-name", metavar="PATTERN", help="as a shell's"))),
+    Command("find", listing.find, "paths by their names", "find / -name '*.txt'", (
+        ONE, word("-name", metavar="PATTERN", help="as a shell's"))),
     Command("mkdir", listing.mkdir, "makes directories, with those above them", "mkdir /photos/2024", (SOME,), True),
     Command("mv", listing.mv, "moves", "mv /notes.txt /photos", (SOME,)),
     Command("cp", listing.cp, "copies, which copies no byte until one side is written to", "cp /photos /photos.old", (SOME,)),
@@ -70,12 +72,14 @@ COMMANDS = (
     Command("expunge", trash.expunge, "removes for good what was deleted three days ago", "expunge", (
         word("--all", action="store_true", help="all that is in the trash"),)),
     Command("fsck", check.fsck, "whether all is sound: each chunk's servers, and each block's digest", "fsck --repair /", (
-        ANY, word("--repair", action="store_true", help="copies what is short until nothing is"), flag("-v", "--verbose", "each file with its chunks"),
+        ANY, flag("-v", "--verbose", "each file with its chunks"),
+        word("--repair", action="store_true", help="copies what is short until nothing is"),
         word("--chunk", dest="handle", type=int, metavar="NUMBER", help="the paths of a chunk"))),
     Command("report", check.report, "servers, chunks, the upgrade's phase and the files of the store", "report"),
     Command("export", script.export, "a script that makes what stands now in a new store", "export --to backup.txt", (
         word("--to", type=Path, metavar="FILE", help="where it goes, in place of standard output"),)),
-    Command("import", script.import_script, "makes what such a script says in a new store", "import backup.txt", (word("file", type=Path, metavar="FILE"),), True),
+    Command("import", script.import_script, "makes what such a script says in a new store", "import backup.txt", (
+        word("file", type=Path, metavar="FILE"),), True),
 )  # fmt: skip
 
 

@@ -10,7 +10,7 @@ from client.output import WELL, for_each, say
 from client.progress import human
 from client.refusals import Failed
 from client.session import Session
-from client.store import Entry, children, found, stat, stats, target_of, walk
+from client.store import Entry, children, found, stat, stats, walk
 
 
 def size_text(size: int, is_human: bool) -> str:
@@ -126,22 +126,22 @@ def mkdir(session: Session, asked: Namespace) -> int:
 
 
 def mv(session: Session, asked: Namespace) -> int:
-    *sources, target = (line_path(path, asked.folder) for path in asked.paths)
-    need_one_target(session, sources, target)
-    return for_each(sources, lambda source: session.ask("mv", source, target))
+    return to_target(session, asked, "mv")
 
 
 def cp(session: Session, asked: Namespace) -> int:
     """Copies by a snapshot, which shares the chunks until one side is written to."""
+    return to_target(session, asked, "snapshot")
+
+
+def to_target(session: Session, asked: Namespace, word: str) -> int:
+    """Asks a line for each path but the last one, which is the target: a directory that is there, or where one goes itself."""
     *sources, target = (line_path(path, asked.folder) for path in asked.paths)
-    need_one_target(session, sources, target)
-    return for_each(sources, lambda source: session.ask("snapshot", source, target_of(session, source, target)))
-
-
-def need_one_target(session: Session, sources: list[str], target: str) -> None:
     entry = found(session, target)
-    if len(sources) > 1 and not (entry and entry.is_directory):
+    is_into = bool(entry and entry.is_directory)
+    if len(sources) > 1 and not is_into:
         raise Failed(f"{shown(target)}: several paths need a directory that is there")
+    return for_each(sources, lambda source: session.ask(word, source, child(target, last(source)) if is_into else target))
 
 
 def rm(session: Session, asked: Namespace) -> int:

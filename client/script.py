@@ -16,7 +16,7 @@ from client.names import child, last, old_name, parent, shown
 from client.output import WELL, say
 from client.refusals import Failed
 from client.session import Session
-from client.store import Entry, children, phase, read_bytes, stat
+from client.store import Entry, children, file_sha256, phase, read_bytes, stat
 from client.transfer import WRITE_BYTES
 from client.trash import Removed, removed
 
@@ -126,10 +126,7 @@ class Files:
     def compare(self, session: Session) -> None:
         """Reads each file back."""
         for path, wanted in self.digests.items():
-            summed = hashlib.sha256()
-            for part in read_bytes(session, path, 0, stat(session, path).size):
-                summed.update(part)
-            if summed.digest() != wanted.digest():
+            if file_sha256(session, path) != wanted.hexdigest():
                 raise Failed(f"{shown(path)}: it isn't what the script says")
 
 

@@ -1,9 +1,10 @@
 """What stands in a store: its names, files and chunks, by the lines that tell of them."""
 
+import hashlib
 from collections.abc import Iterable, Iterator
 from dataclasses import dataclass
 
-from client.names import child, last, shown
+from client.names import child, shown
 from client.refusals import Failed, Refused
 from client.session import Answer, Session
 
@@ -101,12 +102,6 @@ def walk(session: Session, top: str) -> Iterator[Entry]:
         yield entry if isinstance(entry, Entry) else read_entry("", entry.value)
 
 
-def target_of(session: Session, source: str, path: str) -> str:
-    """Where something goes that is put at a path: into the directory that stands there, or there itself."""
-    entry = found(session, path)
-    return child(path, last(source)) if entry and entry.is_directory else path
-
-
 def need_directory(session: Session, path: str) -> None:
     entry = found(session, path)
     if entry is None or not entry.is_directory:
@@ -118,6 +113,18 @@ def read_bytes(session: Session, path: str, start: int, size: int) -> Iterator[b
     lines = (f"read {path} {at} {min(READ_BYTES, size - at)}" for at in range(start, size, READ_BYTES))
     for answer in session.ask_all(lines):
         yield bytes.fromhex(answer.value)
+
+
+def sha256_of(parts: Iterable[bytes]) -> str:
+    summed = hashlib.sha256()
+    for part in parts:
+        summed.update(part)
+    return summed.hexdigest()
+
+
+def file_sha256(session: Session, path: str) -> str:
+    """The SHA-256 of what is read of a file."""
+    return sha256_of(read_bytes(session, path, 0, stat(session, path).size))
 
 
 def phase(session: Session) -> tuple[str, int]:

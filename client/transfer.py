@@ -1,6 +1,5 @@
 """Files and directories into the store and out of it."""
 
-import hashlib
 import itertools
 import os
 import sys
@@ -10,11 +9,11 @@ from dataclasses import dataclass
 from pathlib import Path
 
 from client.names import bytes_of, child, escaped, last, line_path, parent, shown
-from client.output import WELL, WRONG, for_each, say, warn
+from client.output import WELL, for_each, warn
 from client.progress import Progress
-from client.refusals import Failed, Refused
+from client.refusals import Failed
 from client.session import Session
-from client.store import Entry, children, found, need_directory, read_bytes, stat, walk
+from client.store import Entry, children, file_sha256, found, need_directory, read_bytes, sha256_of, stat, walk
 
 # The bytes of a line: whole blocks of the greatest size, which fit into a line as hexadecimal digits.
 WRITE_BYTES = 7 * 65_536
@@ -39,7 +38,7 @@ class Local:
         """The path that it has while it comes."""
         name = last(self.path)
         if len(bytes_of(name + COMING)) > MOST_NAME_BYTES:
-            name = hashlib.sha256(bytes_of(name)).hexdigest()
+            name = sha256_of([bytes_of(name)])
         return child(parent(self.path), name + COMING)
 
 
@@ -103,12 +102,7 @@ def put_files(session: Session, files: list[Local], standing: set[str], asked: N
 
 def verify(session: Session, local: Local) -> None:
     """Compares what is read back with what stands on this machine."""
-    here, there = hashlib.sha256(), hashlib.sha256()
-    for piece in pieces(local.file):
-        here.update(piece)
-    for part in read_bytes(session, local.coming, 0, stat(session, local.coming).size):
-        there.update(part)
-    if here.digest() != there.digest():
+    if sha256_of(pieces(local.file)) != file_sha256(session, local.coming):
         raise Failed(f"{local.file}: what came into the store isn't what stands here")
 
 
@@ -140,7 +134,7 @@ def save(session: Session, entry: Entry, file: Path, is_forced: bool, progress: 
         return
     if file.exists() and not is_forced:
         raise Failed(f"{file}: something stands there already; -f puts a file in its place")
-    coming = file.with_name(f"{hashlib.sha256(os.fsencode(file.name)).hexdigest()[:32]}{COMING}")
+    coming = file.with_name(f"{sha256_of([os.fsencode(file.name)])[:32]}{COMING}")
     try:
         with open(coming, "wb") as target:
             for part in read_bytes(session, entry.path, 0, entry.size):

@@ -128,7 +128,8 @@ def status(session: Session, asked: Namespace) -> int:
         return WELL
     found = what_a_rollback_finds(session)
     for chunk in found:
-        say(f"chunk {chunk.handle}, on {chunk.servers} of {session.sizes.servers} servers as it was at the prepare: {', '.join(map(shown, chunk.paths))}")
+        of = f"on {chunk.servers} of {session.sizes.servers} servers as it was at the prepare"
+        say(f"chunk {chunk.handle}, {of}: {', '.join(map(shown, chunk.paths))}")
     lost = lost_lines(found)
     say("a rollback would be refused" if lost else "a rollback would give all back")
     return WRONG if lost else WELL

@@ -6,7 +6,8 @@ class Listing(StoreCase):
 
     def setUp(self) -> None:
         super().setUp()
-        self.lines("mkdir /a/b", "create /a/f", "write /a/f 0 " + "61" * 20, "create /a/b/two%20words", "create /h", "lose 1 2", "beat 1")
+        self.lines("mkdir /a/b", "create /a/f", "write /a/f 0 " + "61" * 20, "create /a/b/two%20words", "create /h")
+        self.lines("lose 1 2", "beat 1")
 
     def test_ls(self) -> None:
         self.assertEqual(self.fs("ls", "/a"), "b/\nf\n")

@@ -5,7 +5,7 @@ import time
 
 from client.tests import TINY, StoreCase
 
-SECONDS = 60
+SECONDS = 300
 
 
 class Terminal:

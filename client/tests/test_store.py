@@ -1,5 +1,5 @@
 from client.refusals import Refused
-from client.store import Chunk, Entry, children, found, heal, phase, read_bytes, read_entry, stats, target_of, walk
+from client.store import Chunk, Entry, children, file_sha256, found, heal, phase, read_bytes, read_entry, sha256_of, stats, walk
 from client.tests import TINY, StoreCase
 
 
@@ -24,7 +24,8 @@ class Stores(StoreCase):
                 list(walk(session, "/nothing"))
             one, other = stats(session, ["/h", "/nothing"])
             self.assertEqual((one.path, other.text), ("/h", "refused 3 NotFound"))
-            self.assertEqual((target_of(session, "/h", "/a"), target_of(session, "/h", "/k")), ("/a/h", "/k"))
+            self.assertEqual(file_sha256(session, "/a/f"), sha256_of([b"a" * 11, b"a" * 9]))
+            self.assertNotEqual(file_sha256(session, "/a/f"), sha256_of([b"a" * 19]))
             self.assertEqual(phase(session), ("ordinary", 0))
 
     def test_healing(self) -> None:

@@ -17,6 +17,8 @@ KILLS = 12
 # A put of so many files is killed, before its end as a rule.
 KILLED_FILES = 40
 SEED = 66
+# So long it is waited for a program that has to end, on a machine that has much else to do.
+SECONDS = 300
 QUIET = {"stdin": subprocess.DEVNULL, "stdout": subprocess.DEVNULL, "stderr": subprocess.PIPE}
 
 
@@ -95,7 +97,7 @@ class Trials(StoreCase):
 
     def await_free(self) -> None:
         """Waits until a program whose client was killed has ended: it has the file to its end."""
-        limit = time.monotonic() + 60
+        limit = time.monotonic() + SECONDS
         while subprocess.run(self.command("ls", "/"), **QUIET).returncode:
             self.assertLess(time.monotonic(), limit)
 
@@ -108,6 +110,24 @@ class Trials(StoreCase):
                 self.assertEqual(content, tree[name], name)
 
     def test_a_full_disk(self) -> None:
+        """On a file system in memory, where one can be mounted."""
+        top, disk = self.tree(KILLED_FILES), self.folder / "disk"
+        disk.mkdir()
+        # The log has each byte twice.
+        size = sum(file.stat().st_size for file in top.rglob("*") if file.is_file())
+        mount = ["mount", "-t", "tmpfs", "-o", f"size={size}", "none", disk]
+        if subprocess.run(mount, **QUIET).returncode:
+            self.skipTest("no file system can be mounted")
+        self.addCleanup(subprocess.run, ["umount", disk], check=True)
+        self.store = disk / "store"
+        self.fs("mkdir", "/before")
+        self.assertIn("it can't be written", self.fs("put", top, "/", status=1))
+        subprocess.run(["mount", "-o", f"remount,size={100 * size}", disk], check=True)
+        self.assertIn("before/\n", self.fs("ls"))
+        self.fs("put", "-f", top, "/")
+        self.assert_out("/tree", tree_of(top))
+
+    def test_a_file_that_cant_grow(self) -> None:
         top = self.tree(KILLED_FILES)
         tree = tree_of(top)
         self.fs("mkdir", "/before")
