@@ -75,6 +75,11 @@ def kit_version() -> str:
     return ""
 
 
+def need_kit(name: str) -> None:
+    if not shutil.which("rt"):
+        raise SystemExit(f"{name}: the Rattle kit isn't here: there is no command rt to build the program with")
+
+
 def digest_of(top: Path, crates: dict[str, str]) -> str:
     """A digest of all that an unproved program is made of: code, the lines of crates.txt, the handles that are allowed, and the kit."""
     summed = hashlib.sha256()
@@ -163,8 +168,7 @@ def unproved_program(name: str) -> Path:
     if kept.exists():
         os.utime(kept)
         return kept
-    if not kit_version():
-        raise SystemExit(f"{name}: the Rattle kit isn't here: there is no command rt to build the program with")
+    need_kit(name)
     say(f"{name}: building it unproved, once for this code, which takes {UNPROVED_TAKES} ", end="")
     with dots(), one_at_a_time(name):
         if not kept.exists():
@@ -198,6 +202,7 @@ def build_proved(name: str) -> int:
     """Proves the program and builds it, where that isn't done yet."""
     if proved_program(name):
         return 0
+    need_kit(name)
     crate = ROOT / "crates" / name
     program, log = crate / "out" / name, crate / "out" / "build.log"
     log.parent.mkdir(exist_ok=True)

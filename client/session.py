@@ -91,6 +91,13 @@ class Place:
         return Session("chunkkeep", [str(self.file), *given], self.sizes(), self)
 
 
+def next_piece(unsent: bytes) -> bytes:
+    """What is sent next: whole lines that go into the pipe all at once or not at all, or one line that is longer. So where the client is killed,
+    no line but a longer one is cut. That is a `write`, of which a beginning is no line or writes a beginning of the same bytes."""
+    end = unsent.rfind(b"\n", 0, select.PIPE_BUF) + 1
+    return bytes(unsent[: end or unsent.find(b"\n") + 1])
+
+
 class Session:
     """A program that is asked lines, many of them before their answers come, so that its log is synced seldom."""
 
@@ -113,8 +120,13 @@ class Session:
 
     def __exit__(self, kind: type | None, *_: object) -> None:
         self.program.stdin.close()
-        with self.program.stdout, self.said:
-            if self.program.wait() and kind is None:
+        if kind:
+            # Nobody reads its answers any more, for which it may wait.
+            self.program.stdout.close()
+        status = self.program.wait()
+        self.program.stdout.close()
+        with self.said:
+            if status and kind is None:
                 raise self.ended()
 
     def ask(self, *words: object) -> str:
@@ -156,11 +168,8 @@ class Session:
         """Sends what can be sent, and answers the lines that have come back."""
         wanted = [self.program.stdin] if self.unsent else []
         readable, writable, _ = select.select([self.program.stdout], wanted, [], 1)
-        try:
-            if writable:
-                del self.unsent[: os.write(self.program.stdin.fileno(), self.unsent[:PIPE_BYTES])]
-        except BrokenPipeError:
-            raise self.ended() from None
+        if writable:
+            self.send(next_piece(self.unsent))
         if not self.is_heard and sys.stderr.isatty():
             # How far a start is that takes long.
             print(f"\r{'' if readable else self.last_said()}\x1b[K\r", end="", file=sys.stderr, flush=True)
@@ -174,6 +183,15 @@ class Session:
         whole, end, rest = self.unread.rpartition(b"\n")
         self.unread = rest if end else self.unread
         return whole.decode().split("\n") if end else []
+
+    def send(self, piece: bytes) -> None:
+        """Sends as much of a piece as there is room for."""
+        try:
+            del self.unsent[: os.write(self.program.stdin.fileno(), piece)]
+        except BlockingIOError:
+            return
+        except BrokenPipeError:
+            raise self.ended() from None
 
     def last_said(self) -> str:
         size = os.fstat(self.said.fileno()).st_size

@@ -1,10 +1,26 @@
+import random
+import select
+
 from client.refusals import Failed, Refused
-from client.session import Answer, Ended, Place, Sizes
+from client.session import Answer, Ended, Place, Sizes, next_piece
 from client.tests import TINY, StoreCase
 
 
 class Sessions(StoreCase):
     sizes = TINY
+
+    def test_only_long_lines_may_be_cut(self) -> None:
+        chance = random.Random(1)
+        lines = [b"x" * chance.choice((3, 50, 4_000, 4_095, 4_096, 9_000)) + b"\n" for _ in range(500)]
+        unsent, sent = b"".join(lines), []
+        while unsent:
+            sent.append(next_piece(unsent))
+            unsent = unsent[len(sent[-1]) :]
+        self.assertEqual(b"".join(sent), b"".join(lines))
+        for piece in sent:
+            self.assertTrue(piece.endswith(b"\n"))
+            self.assertTrue(len(piece) <= select.PIPE_BUF or piece.count(b"\n") == 1)
+        self.assertEqual(next_piece(b"y" * 5_000 + b"\nz\n"), b"y" * 5_000 + b"\n")
 
     def test_each_line_has_its_own_answer(self) -> None:
         with self.session() as session:
