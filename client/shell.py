@@ -10,7 +10,7 @@ from collections.abc import Iterator
 from pathlib import Path
 
 from client import commands
-from client.names import child, line_path, parent, shown
+from client.names import line_path, shown
 from client.output import MISUSED, WELL, WRONG, say, warn
 from client.refusals import Failed
 from client.session import Session
