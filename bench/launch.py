@@ -30,7 +30,7 @@ import building
 ROOT = Path(__file__).resolve().parent.parent
 CACHE = Path(os.environ.get("XDG_CACHE_HOME") or Path.home() / ".cache") / "chunkstore"
 # What a build takes, as it is told to those who wait for it.
-UNPROVED_TAKES = "some 90 seconds where nothing else runs"
+UNPROVED_TAKES = "some 100 seconds of the processor"
 PROVED_TAKES = "some 100 minutes of the processor"
 SECONDS_BETWEEN_DOTS = 5
 # A program that ran so long ago goes from the cache when a new one comes.
