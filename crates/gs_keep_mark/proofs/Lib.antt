@@ -1,3 +1,3 @@
-mod Lines
+pub mod Lines
 mod Texts
 mod Starts

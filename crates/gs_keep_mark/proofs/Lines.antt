@@ -1,13 +1,15 @@
 -- Lines and marks, one behind the other.
-use Rattle.std.proofs.Common.{◌≡◌, ◌<◌, ◌+◌, ◌-◌, ◌++◌, ◌∷◌, ◌==◌, ◌*◌, ◌/◌, ◌%◌, [], ℕ, zero, suc, List, Bool, true, false, true≢false, cond, eqb, length, drop, get_or, map, flat_map, codes, slice_index, refl, sym, ap, subst, ◌∙◌, arith, append_assoc, append-nil, length-append}
+use Rattle.std.proofs.Common.{◌≡◌, ◌<◌, ◌+◌, ◌-◌, ◌++◌, ◌∷◌, ◌==◌, ◌&&◌, ◌*◌, ◌/◌, ◌%◌, [], ℕ, zero, suc, List, Bool, true, false, true≢false, cond, eqb, nat_lt, length, drop, get_or, map, flat_map, codes, slice_index, refl, sym, ap, subst, ◌∙◌, arith, append_assoc, append-nil, length-append}
 use Rattle.std.proofs.lemmas.Bool.Decides.{nat_tests}
+use Rattle.std.proofs.lemmas.List.{get_or-append-add}
+use Rattle.std.specs.Io.BufRead.{ends_with_byte}
 use Rattle.std.specs.List.{AllByRecursion}
 use Rattle.sha2.specs.Sha256.{sha256}
 use Rattle.sha2.proofs.Facts256.{length-sha256}
 use Rattle.hex.specs.Hex.{encode_lower, encode_with, lower_digits}
 use Rattle.hex.proofs.HexLemmas.{length-encode_with}
 use Rattle.gs_shell_script.specs.Run.{lines_of, onto}
-use Rattle.gs_keep_mark.specs.Marks.{Entry, Totals, digest, digits_of, mark_of, mark_text, starts_mark, text_of}
+use Rattle.gs_keep_mark.specs.Marks.{Entry, Totals, digest, digits_of, is_whole_mark, mark_of, mark_text, starts_mark, text_of}
 use Rattle.gs_keep_mark.specs.Started.{IsBatch, IsInLine, IsPlain, NoMark}
 
 -- ---- two parts
@@ -209,13 +211,48 @@ lines_same (e ∷ one) (f ∷ other) ones others same =
     let (first, back) = same_whole e.line f.line (text_of one) (text_of other) (plain_whole e.line ones.0) (plain_whole f.line others.0) same in
     ap (λ (l : List ℕ). l ∷ map (λ (e : Entry). e.line) one) first ∙ ap (λ (l : List (List ℕ)). f.line ∷ l) (lines_same one other ones.1 others.1 back)
 
+-- ---- the end of a line
+
+pub last_is : (xs : List ℕ) (c b : ℕ) → ends_with_byte b (xs ++ c ∷ []) ≡ eqb c b
+last_is xs c b =
+    let ys = xs ++ c ∷ [] in
+    let n : length ys - 1 ≡ length xs + 0 = omega (arith, length-append xs (c ∷ [])) in
+    let some : nat_lt 0 (length ys) ≡ true = ap (nat_lt 0) (length-append xs (c ∷ [])) ∙ positive (length xs) in
+    ap (λ t. t && eqb (get_or ys (length ys - 1) 0) b) some ∙ ap (λ i. eqb (get_or ys i 0) b) n ∙ ap (λ v. eqb v b) (get_or-append-add xs (c ∷ []) 0 0)
+  where
+    positive : (m : ℕ) → nat_lt 0 (m + 1) ≡ true
+    positive m = grind (arith, nat_tests)
+
+digits_long : (places n : ℕ) → length (digits_of places n) ≡ places
+unfolding digits_of
+digits_long zero n = refl
+digits_long (suc places) n = omega (arith, length-append (digits_of places (n / 10)) ((48 + n % 10) ∷ []), digits_long places (n / 10))
+
+marks_long : (t : Totals) → length (mark_of t) ≡ 153
+unfolding mark_text
+marks_long t =
+    let count = digits_of 20 t.count in
+    let text = digest t.text in
+    let answers = digest t.answers in
+    let last : List ℕ = 32 ∷ (answers ++ 10 ∷ []) in
+    omega (arith, digits_long 20 t.count, digest_long t.text, digest_long t.answers, length-append answers (10 ∷ []), length-append text last, length-append count (32 ∷ (text ++ last)))
+
+length_test : (n : ℕ) → n ≡ 153 → eqb n 153 ≡ true
+length_test n h = ap (λ k. eqb k 153) h
+
+mark_is_one : (t : Totals) → is_whole_mark (mark_of t) ≡ true
+mark_is_one t =
+    let w = mark_whole t in
+    ap (λ b. b && (ends_with_byte 10 (mark_of t) && eqb (length (mark_of t)) 153)) (mark_starts t)
+    ∙ ap (λ b. b && eqb (length (mark_of t)) 153) (ap (ends_with_byte 10) w.ended ∙ last_is w.body 10 10) ∙ length_test (length (mark_of t)) (marks_long t)
+
 -- a batch has a mark behind it
 pub has_mark : (t : Totals) (batch : List Entry) (x : List ℕ) → IsBatch batch → NoMark (text_of batch ++ (mark_of t ++ x)) → ⊥
 has_mark t [] x all none =
-    let here = subst (λ (ls : List (List ℕ)). AllByRecursion (λ line. starts_mark line ≡ false) ls) (first_whole (mark_of t) x (mark_whole t)) none in
-    true≢false (sym (mark_starts t) ∙ here.0)
+    let here = subst (λ (ls : List (List ℕ)). AllByRecursion (λ line. is_whole_mark line ≡ false) ls) (first_whole (mark_of t) x (mark_whole t)) none in
+    true≢false (sym (mark_is_one t) ∙ here.0)
 has_mark t (e ∷ batch) x all none =
     let back = text_of batch ++ (mark_of t ++ x) in
-    let here = subst (λ (ls : List (List ℕ)). AllByRecursion (λ line. starts_mark line ≡ false) ls)
+    let here = subst (λ (ls : List (List ℕ)). AllByRecursion (λ line. is_whole_mark line ≡ false) ls)
     (ap lines_of (append_assoc e.line (text_of batch) (mark_of t ++ x)) ∙ first_whole e.line back (plain_whole e.line all.0)) none in
     has_mark t batch x all.1 here.1

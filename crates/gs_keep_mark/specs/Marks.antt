@@ -1,5 +1,6 @@
 -- A log of batches: each is its lines, and behind them a mark.
-use Rattle.std.specs.Prelude.{◌≡◌, ◌==◌, ◌++◌, ◌∷◌, ◌+◌, ◌/◌, ◌%◌, ℕ, zero, suc, Bool, true, false, List, [], length, flat_map, map, codes, refl}
+use Rattle.std.specs.Prelude.{◌≡◌, ◌==◌, ◌&&◌, ◌++◌, ◌∷◌, ◌+◌, ◌/◌, ◌%◌, ℕ, zero, suc, Bool, true, false, List, [], length, flat_map, map, codes, refl}
+use Rattle.std.specs.Io.BufRead.{ends_with_byte}
 use Rattle.sha2.specs.Sha256.{sha256}
 use Rattle.hex.specs.Hex.{encode_lower}
 
@@ -49,6 +50,10 @@ passed t = record { count = t.count; text = t.text ++ mark_of t; answers = t.ans
 abbrev pub starts_mark : List ℕ → Bool
 starts_mark [] = false
 starts_mark (x ∷ xs) = x == 35
+
+-- it is one with its end: each mark has this length
+abbrev pub is_whole_mark : List ℕ → Bool
+is_whole_mark line = starts_mark line && (ends_with_byte 10 line && (length line == 153))
 
 -- ---- batches
 

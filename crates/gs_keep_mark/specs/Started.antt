@@ -1,8 +1,8 @@
 -- What a start runs of a log that a crash has left.
-use Rattle.std.specs.Prelude.{◌≡◌, ◌++◌, ◌∷◌, ◌⊎◌, ◌==◌, ℕ, Bool, true, false, List, [], map, flat_map, Option, Some, None}
+use Rattle.std.specs.Prelude.{◌≡◌, ◌++◌, ◌∷◌, ◌⊎◌, ◌==◌, ℕ, Bool, true, false, List, [], map, flat_map, Option, Some, None, codes, refl}
 use Rattle.std.specs.List.{AllByRecursion}
 use Rattle.gs_shell_script.specs.Run.{lines_of}
-use Rattle.gs_keep_mark.specs.Marks.{Entry, Totals, digest, mark_of, marked, starts_mark, told_by}
+use Rattle.gs_keep_mark.specs.Marks.{Entry, Totals, digest, is_whole_mark, mark_of, marked, starts_mark, told_by}
 
 -- ---- lines
 
@@ -25,9 +25,12 @@ IsBatch batch = AllByRecursion (λ e. IsPlain e.line) batch
 abbrev pub AreBatches : List (List Entry) → Type 0
 AreBatches batches = AllByRecursion IsBatch batches
 
--- no line is a mark
+-- no line is a mark with its end
 abbrev pub NoMark : List ℕ → Type 0
-NoMark rest = AllByRecursion (λ line. starts_mark line ≡ false) (lines_of rest)
+NoMark rest = AllByRecursion (λ line. is_whole_mark line ≡ false) (lines_of rest)
+
+a_torn_mark_is_none : NoMark (codes "ls /" ++ 10 ∷ codes "# 0000")
+a_torn_mark_is_none = (refl, (refl, tt))
 
 -- ---- digests
 

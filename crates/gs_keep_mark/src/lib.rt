@@ -3,7 +3,7 @@
 
 ghost use Rattle.std.specs.Prelude.{◌≡◌, ◌==◌, ◌++◌, ℕ, List, false, length, IfOk, OnOk};
 ghost use Rattle.sha2.specs.Hashers.{Holds256};
-ghost use Rattle.gs_keep_mark.specs.Marks.{Totals, beginning, digest, digits_of, mark_of, noted, passed, starts_mark};
+ghost use Rattle.gs_keep_mark.specs.Marks.{Totals, beginning, digest, digits_of, is_whole_mark, mark_of, noted, passed, starts_mark};
 ghost use Rattle.gs_keep_mark.specs.Ledgers.{IsLedger, is_full};
 
 use sha2::{Digest as _, Sha256};
@@ -49,6 +49,14 @@ pub fn is_mark(line: &[u8]) -> bool
     ensures { result ≡ starts_mark line.now }
 {
     line.first() == Some(&b'#')
+}
+
+/// Whether a line is a mark with its end.
+pub fn is_whole_mark(line: &[u8]) -> bool
+    ensures { result ≡ is_whole_mark line.now }
+{
+    let n = line.len();
+    is_mark(line) && (n > 0 && line[n - 1] == b'\n' && n == 153)
 }
 
 impl Ledger {
