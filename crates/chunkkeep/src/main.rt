@@ -6,6 +6,8 @@ ghost use Rattle.std.specs.Prelude.{◌≡◌, false, is_some};
 
 mod fault;
 mod opening;
+mod patient;
+mod quoting;
 mod telling;
 
 use fault::Fault;
@@ -13,10 +15,13 @@ use gs_base::{Config, Refusal};
 use gs_journal::MemoryDisk;
 use gs_keep::{StoreFault, keep_on};
 use gs_keep_desk::KeptDesk;
+use gs_keep_file::{FileLog, LogFile, fill_standard};
 use gs_keep_options::{Asked, explanation, read_words};
 use gs_nodes::empty_disks;
 use gs_shell_desk::Desk;
 use opening::{Kept, opened};
+use patient::Patient;
+use quoting::line_text;
 use std::alloc::Global;
 use std::env;
 use std::fs::File;
@@ -68,11 +73,24 @@ fn new_desk(alloc: Global, config: Config) -> Result<KeptDesk<MemoryDisk>, Fault
     }
 }
 
+/// Cuts a file behind what was synced last, where a write or a sync behind that failed, and says so.
+fn give_up<F: LogFile>(rt: &(impl Eprint), path: &str, log: &mut FileLog<F>) {
+    let _ = match log.give_up() {
+        Ok(None) => return,
+        Ok(Some(len)) => eprintln!(rt;
+            "chunkkeep: {path}: it is cut to {len} bytes, behind all that was answered"
+        ),
+        Err(fault) => eprintln!(rt;
+            "chunkkeep: {path}: what stands behind the lines that were answered can't be cut off: {fault}"
+        ),
+    };
+}
+
 /// Runs the file's lines again, and then answers standard input on standard output.
-fn serve(
-    rt: &(impl Input + Print + Eprint + Clock + AllocGlobal),
+fn serve<'a, R: Files<File = File> + Input + Print + Eprint + Clock + AllocGlobal>(
+    rt: &'a R,
     path: &str,
-    kept: Kept,
+    kept: Kept<'a, R>,
 ) -> Result<(), Fault>
     requires { is_some kept.log.fault ≡ false }
 {
@@ -83,7 +101,8 @@ fn serve(
         measure,
         mut lines,
     } = kept;
-    let Ok(mut reader) = BufReader::with_capacity(alloc, INPUT_BYTES, rt.reader()) else {
+    let input = Patient::new(rt, rt.reader());
+    let Ok(mut reader) = BufReader::with_capacity(alloc, INPUT_BYTES, input) else {
         return Err(Fault::Memory);
     };
     let Ok(mut writer) = BufWriter::new(alloc, io::writer(rt)) else {
@@ -102,7 +121,10 @@ fn serve(
         &mut writer,
     ) {
         Ok(()) => Ok(()),
-        Err(fault) => Err(Fault::of_run(fault, log)),
+        Err(fault) => {
+            give_up(rt, path, &mut log);
+            Err(Fault::of_run(fault, log))
+        }
     }
 }
 
@@ -115,10 +137,25 @@ fn run(
     serve(rt, &asked.path, kept)
 }
 
+/// Says on standard error why a run ends, and what stands in the line that it ends for, if it ends for one.
+fn tell<R: Files<File = File> + Eprint + AllocGlobal>(rt: &R, path: &str, fault: &Fault) {
+    if !fault.may_be_told() {
+        return;
+    }
+    let _ = eprintln!(rt; "chunkkeep: {path}: {fault}");
+    let Fault::BadLine(number) = fault else {
+        return;
+    };
+    if let Some(text) = line_text(rt, path, *number) {
+        let _ = eprintln!(rt; "chunkkeep: {path}: line {number} begins: {text}");
+    }
+}
+
 /// The status is 0 at the end of the input; 1 where a read, a write or a sync fails, another process has the file, it isn't the
-/// program's, or the run can't begin; and 2 where the words of the command line are refused, or sizes that they give aren't the
-/// file's.
+/// program's, it isn't any more what it was, or the run can't begin; and 2 where the words of the command line are refused, sizes that
+/// they give aren't the file's, or the file is standard input, output or error too.
 fn main(rt: HostRuntime) -> ExitCode {
+    let _standard = fill_standard(&rt);
     let asked = match asked_for(&rt) {
         Ok(asked) => asked,
         Err(status) => return status,
@@ -126,7 +163,7 @@ fn main(rt: HostRuntime) -> ExitCode {
     match run(&rt, &asked) {
         Ok(()) => ExitCode::SUCCESS,
         Err(fault) => {
-            let _ = eprintln!(&rt; "chunkkeep: {}: {fault}", asked.path);
+            tell(&rt, &asked.path, &fault);
             ExitCode::from(fault.status())
         }
     }
