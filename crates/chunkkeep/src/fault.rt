@@ -10,6 +10,8 @@ pub(crate) enum Fault {
     Differs { name: &'static str, size: u64 },
     #[error("nothing stands there, and no store of these sizes can be made")]
     NoStore,
+    #[error("nothing stands there, and --existing makes no store")]
+    NotThere,
     #[error("it is a symbolic link to a name under which nothing stands; no store is made there")]
     Dangling,
     #[error("it is empty, and no store; nothing is changed. A store is made where no file stands")]

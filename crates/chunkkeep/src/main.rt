@@ -16,13 +16,13 @@ use gs_journal::MemoryDisk;
 use gs_keep::{StoreFault, keep_on};
 use gs_keep_desk::KeptDesk;
 use gs_keep_file::{FileLog, LogFile, fill_standard};
-use gs_keep_options::{Asked, explanation, read_words};
+use gs_keep_options::{Asked, Shown, explanation, read_words, what_to_show};
 use gs_nodes::empty_disks;
 use gs_shell_desk::Desk;
 use opening::{Kept, opened};
 use patient::Patient;
 use quoting::line_text;
-use std::alloc::Global;
+use std::alloc::{AllocError, Global};
 use std::env;
 use std::fs::File;
 use std::io::{self, BufReader, BufWriter};
@@ -33,16 +33,44 @@ use telling::Teller;
 /// The most bytes of the input that are held beside a line: so much comes together at most.
 const INPUT_BYTES: usize = 1_048_576;
 
-/// Says on standard error what is wrong with words that are refused.
-fn explain(rt: &(impl Eprint + AllocGlobal), words: &[String], refusal: &Refusal) {
+/// What `--version` shows.
+const VERSION: &str = "chunkkeep, of form 1 of the file";
+
+/// What is to be shown for words that are refused, and its text.
+fn shown_text(alloc: Global, words: &[String]) -> Result<(Shown, String), AllocError> {
+    let shown = what_to_show(alloc, words)?;
+    let text = match shown {
+        Shown::Version => format!(in alloc; "{VERSION}\n")?,
+        _ => explanation(alloc, words)?,
+    };
+    Ok((shown, text))
+}
+
+/// Says on standard error what is wrong with words that are refused, or shows on standard output what they ask to be shown, and answers
+/// the status to end with.
+fn explain(
+    rt: &(impl Print + Eprint + AllocGlobal),
+    words: &[String],
+    refusal: &Refusal,
+) -> ExitCode {
     let text = match refusal {
         Refusal::Memory => None,
-        _ => explanation(rt.alloc(), words).ok(),
+        _ => shown_text(rt.alloc(), words).ok(),
     };
-    let _ = match text {
-        Some(text) => eprint!(rt; "{text}"),
-        None => eprintln!(rt; "chunkkeep: {refusal}"),
-    };
+    match text {
+        None => {
+            let _ = eprintln!(rt; "chunkkeep: {refusal}");
+            ExitCode::from(2)
+        }
+        Some((Shown::Mistake, text)) => {
+            let _ = eprint!(rt; "{text}");
+            ExitCode::from(2)
+        }
+        Some((_, text)) => match print!(rt; "{text}") {
+            Ok(()) => ExitCode::SUCCESS,
+            Err(_) => ExitCode::from(1),
+        },
+    }
 }
 
 /// The words of the command line, of which the first is the program's own.
@@ -50,18 +78,15 @@ fn words(rt: &(impl Env + AllocGlobal)) -> io::Result<Vec<String>> {
     Ok(env::args(rt)?.collect(rt.alloc())?)
 }
 
-/// What the command line asks for. Where it is refused, standard error says why, and this is the status to end with.
-fn asked_for(rt: &(impl Eprint + Env + AllocGlobal)) -> Result<Asked, ExitCode> {
+/// What the command line asks for. Where it asks for no store, this is the status to end with, once what there is to say is said.
+fn asked_for(rt: &(impl Print + Eprint + Env + AllocGlobal)) -> Result<Asked, ExitCode> {
     let Ok(words) = words(rt) else {
         let _ = eprintln!(rt; "chunkkeep: the arguments can't be read");
         return Err(ExitCode::from(2));
     };
     match read_words(rt.alloc(), &words) {
         Ok(asked) => Ok(asked),
-        Err(refusal) => {
-            explain(rt, &words, &refusal);
-            Err(ExitCode::from(2))
-        }
+        Err(refusal) => { Err(explain(rt, &words, &refusal)) }
     }
 }
 

@@ -132,6 +132,9 @@ fn made<'a, R: Files<File = File> + AllocGlobal>(
 ) -> Result<Opened<'a, R>, Fault>
     ensures { IfOk result (λ opened. is_some opened.log.fault ≡ false) }
 {
+    if asked.is_existing {
+        return Err(Fault::NotThere);
+    }
     let Ok(config) = asked.sizes.config() else {
         return Err(Fault::NoStore);
     };
