@@ -62,6 +62,22 @@ fn named<R: Files<File = File>>(
     Ok(())
 }
 
+/// What stands beside the name isn't a beginning of the file.
+fn is_in_the_way(alloc: Global, beside: &str) -> OpenFault {
+    match String::from_str(alloc, beside) {
+        Ok(name) => OpenFault::Beside(name),
+        Err(_) => OpenFault::Make(io::Error::from(ErrorKind::OutOfMemory)),
+    }
+}
+
+/// Whether a name is that of a symbolic link.
+fn is_link<R: Files>(rt: &R, path: &str) -> bool {
+    match fs::symlink_metadata(rt, path) {
+        Ok(found) => found.is_symlink(),
+        Err(_) => false,
+    }
+}
+
 /// The file beside the name, locked. Refused where it holds anything but a beginning of the text.
 fn begun<R: Files<File = File> + AllocGlobal>(
     rt: &R,
@@ -70,17 +86,16 @@ fn begun<R: Files<File = File> + AllocGlobal>(
 ) -> Result<File, OpenFault>
     ensures { IfOk result (λ f. IsBeyond f) }
 {
+    if is_link(rt, beside) {
+        return Err(is_in_the_way(rt.alloc(), beside));
+    }
     let file = locked(rt, beside, true)?;
     // Another process may have made the file meanwhile.
     if !has_name(rt, beside, Identity::of(&file.metadata()?))? {
         return Err(OpenFault::InUse);
     }
-    let is_link = fs::symlink_metadata(rt, beside)?.is_symlink();
-    if is_link || !is_begun(rt.alloc(), &file, text)? {
-        let Ok(name) = String::from_str(rt.alloc(), beside) else {
-            return Err(OpenFault::InUse);
-        };
-        return Err(OpenFault::Beside(name));
+    if !is_begun(rt.alloc(), &file, text)? {
+        return Err(is_in_the_way(rt.alloc(), beside));
     }
     Ok(file)
 }
