@@ -24,9 +24,10 @@ number_rule name = record (named_rule name Set) { value_names = 1; parser = Some
 abbrev pub file_rule : Rule
 file_rule = record (new_rule (codes "FILE")) { required = true; action = Some Set }
 
--- with an option for each size
-abbrev pub with_sizes : App → App
-with_sizes a = with_rule (with_rule (with_rule (with_rule (with_rule a
+-- the command's file and sizes
+unfoldable pub sized_app : App
+sized_app = with_rule (with_rule (with_rule (with_rule (with_rule (with_rule (new_app (codes "chunkkeep"))
+    file_rule)
     (number_rule (codes "servers")))
     (number_rule (codes "racks")))
     (number_rule (codes "replicas")))
@@ -34,9 +35,7 @@ with_sizes a = with_rule (with_rule (with_rule (with_rule (with_rule a
     (number_rule (codes "block"))
 
 unfoldable pub app : App
-app = with_rule (with_rule (with_sizes (with_rule (new_app (codes "chunkkeep")) file_rule))
-    (named_rule (codes "existing") SetTrue))
-    (named_rule (codes "version") Version)
+app = with_rule (with_rule sized_app (named_rule (codes "existing") SetTrue)) (named_rule (codes "version") Version)
 
 abbrev pub sizes_in : List Row → Sizes
 sizes_in rows = record {

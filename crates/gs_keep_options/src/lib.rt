@@ -7,7 +7,7 @@ ghost use Rattle.clap.specs.Faults.{fault_of};
 ghost use Rattle.gs_base.specs.Configured.{Configured};
 ghost use Rattle.gs_shell_options.specs.Options.{RefusesWords, flag_in, named_rule};
 ghost use Rattle.gs_keep_options.specs.Sizes.{Tells, difference, fits, given_or, is_given_as};
-ghost use Rattle.gs_keep_options.specs.Words.{AskedAs, ShownAs, app, file_rule, number_rule, sizes_in, with_sizes, words_asked};
+ghost use Rattle.gs_keep_options.specs.Words.{AskedAs, ShownAs, app, file_rule, number_rule, sized_app, sizes_in, words_asked};
 
 use clap::error::ErrorKind;
 use clap::{Arg, ArgAction, ArgMatches, Command};
@@ -209,10 +209,12 @@ fn file_argument<'a>(alloc: Global) -> Arg<'a>
         .action(ArgAction::Set)
 }
 
-/// The command with an option for each size.
-fn with_sizes<'a>(alloc: Global, command: Command<'a>) -> Result<Command<'a>, AllocError>
-    ensures { IfOk result (λ c. app_of c ≡ with_sizes (app_of command.entry)) }
+/// The command with its file and its sizes.
+#[tactic(auto, unfolding(crate::specs::Words::sized_app))]
+fn sized_command<'a>(alloc: Global) -> Result<Command<'a>, AllocError>
+    ensures { IfOk result (λ c. app_of c ≡ sized_app) }
 {
+    let command = Command::new(alloc, "chunkkeep").arg(file_argument(alloc))?;
     let command = with_number(alloc, command, SERVERS)?;
     let command = with_number(alloc, command, RACKS)?;
     let command = with_number(alloc, command, REPLICAS)?;
@@ -225,8 +227,7 @@ fn with_sizes<'a>(alloc: Global, command: Command<'a>) -> Result<Command<'a>, Al
 fn command<'a>(alloc: Global) -> Result<Command<'a>, AllocError>
     ensures { IfOk result (λ c. app_of c ≡ app) }
 {
-    let command = Command::new(alloc, "chunkkeep").arg(file_argument(alloc))?;
-    let command = with_sizes(alloc, command)?;
+    let command = sized_command(alloc)?;
     let command = with_flag(
         alloc,
         command,
