@@ -1,7 +1,7 @@
 #!/usr/bin/env python3
 """Kills the program that keeps its store in a file, starts it again, and looks whether all that was answered is there.
 
-    bench/crash.py [--runs N] [--cuts N] [--limits N] [--refusals N] [--seed N] [--program PATH] [--plain PATH] [--folder PATH]
+    bench/crash.py [--runs N] [--cuts N] [--limits N] [--refusals N] [--breaks N] [--landing] [--seed N] [--program PATH] [--plain PATH] [--folder PATH]
     bench/crash.py --speed [LINES] [--again LINES] [--times N] ..
 
 Without programs it builds chunkkeep and chunkstore as they stand, unproved. In a run the program answers a script of writes, upgrades and
@@ -9,15 +9,20 @@ rollbacks, is killed at a random moment or behind a random count of answers, and
 and behind the kill have to be those of chunkstore to the whole script. In a cut a beginning of the next lines stands behind those that were
 answered, as a crash may leave it of a batch that wasn't synced. With a limit the file can't grow behind a random length, so that a write
 fails: the status has to be 1, and all that was answered in the file. A refusal is a file that isn't the program's, or isn't any more, another
-store's sizes, or a second process: the status has to be the one that is promised, and no byte changed. It ends with status 1 where something
-differs. With --speed it measures."""
+store's sizes, or a second process: the status has to be the one that is promised, and no byte changed. A break is what an operator or a
+system does to it: standard files that are closed or are the file, a file that is taken away or changed below a running store, calls of the
+system that fail, a crash while the file is made, and their like. --landing tries a part of all that, for the landing. It ends with status 1
+where something differs. With --speed it measures."""
 
 import argparse
+import atexit
 import fcntl
+import functools
 import os
 import random
 import re
 import resource
+import shutil
 import signal
 import subprocess
 import sys
@@ -323,18 +328,7 @@ def second_process(program, path, chance):
     return None if (status, answered) == (0, b"ok 0/ 1/ 2/\n") else f"behind two processes: {status} {answered} {said}"
 
 
-def half_made(program, path, chance):
-    """A beginning of the first line stands there, as a crash leaves it while the file is made: with its sizes it is made, with others refused."""
-    with open(path, "wb") as file:
-        file.write(b"chunkkeep 1 --servers 3 --racks 1 --replicas 3 --chunk 16 --block 4\n"[: chance.randint(58, 67)])
-    wrong = wrong_end(program, [path], path, 1, "line 1 isn't that of a store")
-    if wrong:
-        return wrong
-    status, answered, said = ended(program, [path, *SIZES], b"mkdir /a\n")
-    return None if (status, answered) == (0, b"ok\n") else f"a file that is half made isn't made: {status} {answered} {said}"
-
-
-REFUSALS = (foreign, other_version, broken_line, other_sizes, no_store, second_process, half_made)
+REFUSALS = (foreign, other_version, broken_line, other_sizes, no_store, second_process)
 
 
 def refusal(program, _plain_program, path, chance):
@@ -360,6 +354,480 @@ def tried(name, how, count, programs, folder, seed):
     between = sum(0 < lines < LINES for lines in stood)
     print(f"{name}: {passed} of {count} passed; in {between} the store had some of the {LINES} lines and not all", flush=True)
     return passed
+
+
+# ---- what an operator breaks
+
+
+# The first line of the stores here, without its end.
+HEAD = b"chunkkeep 1 --servers 3 --racks 1 --replicas 3 --chunk 16 --block 4"
+KEPT = HEAD + b"\nmkdir /a\nmkdir /b\n"
+MORE = b"mkdir /c\nmkdir /d\n"
+STANDARD = ("standard input", "standard output", "standard error")
+# Errors of the system, as numbers.
+EIO, ENOSPC, ENOLCK = 5, 28, 37
+
+
+def kept_file(path, text=KEPT):
+    with open(path, "wb") as file:
+        file.write(text)
+
+
+def bytes_of(path):
+    if not os.path.exists(path):
+        return None
+    with open(path, "rb") as file:
+        return file.read()
+
+
+def unlike(path, text):
+    """Says how a file differs from what it is meant to hold."""
+    found = bytes_of(path)
+    return None if found == text else f"the file holds {found!r} where {text!r} is meant"
+
+
+def goes_on(program, path, names):
+    """What is wrong with a start on a file behind which these directories stand."""
+    status, answered, said = ended(program, [path], b"ls /\n")
+    wanted = f"ok {' '.join(f'{name}/' for name in names)}\n".encode()
+    return None if (status, answered) == (0, wanted) else f"the next start has status {status} and answers {answered!r}: {said}"
+
+
+def refused_at(program, words, path, status, pattern, given=b"mkdir /z\n", **how):
+    """What is wrong with a run that has to be refused with a status and a text, and to change neither the file nor the folder."""
+    folder = os.path.dirname(path)
+    before, names = bytes_of(path), sorted(os.listdir(folder))
+    run = subprocess.run([program, *words], input=given, stdout=subprocess.PIPE, stderr=subprocess.PIPE, timeout=60, **how)
+    said = run.stderr.decode(errors="replace")
+    if bytes_of(path) != before or sorted(os.listdir(folder)) != names:
+        return f"a run with {words} that is refused changed the folder: {sorted(os.listdir(folder))}"
+    if run.returncode != status or run.stdout:
+        return f"the status is {run.returncode} where {status} is meant, and {run.stdout!r} was answered: {said}"
+    return None if re.search(pattern, said) else f"standard error isn't as it should be: {said}"
+
+
+def is_closed(*numbers):
+    """A run with some of the three standard files closed neither writes what isn't a line into the file nor leaves one out."""
+
+    def tries(program, path, chance):
+        rest = chance.choice((b"", b"mkd"))
+        kept_file(path, KEPT + rest)
+
+        def close():
+            for number in numbers:
+                os.close(number)
+
+        given = None if 0 in numbers else MORE
+        pipe = subprocess.PIPE
+        run = subprocess.run([program, path], input=given, stdout=pipe, stderr=pipe, timeout=60, preexec_fn=close)
+        if run.returncode:
+            return f"the status is {run.returncode}: {run.stderr!r}"
+        if 0 not in numbers and 1 not in numbers and run.stdout != b"ok\nok\n":
+            return f"it answers {run.stdout!r}"
+        names = "ab" if 0 in numbers else "abcd"
+        return unlike(path, KEPT if 0 in numbers else KEPT + MORE) or goes_on(program, path, names)
+
+    return tries
+
+
+def is_standard(number):
+    """The file is one of the three standard files too."""
+
+    def tries(program, path, chance):
+        kept_file(path)
+        streams = [subprocess.DEVNULL, subprocess.PIPE, subprocess.PIPE]
+        with open(path, "rb" if number == 0 else "ab") as file:
+            streams[number] = file
+            run = subprocess.Popen([program, path], stdin=streams[0], stdout=streams[1], stderr=streams[2])
+            try:
+                answered, said = run.communicate(timeout=10)
+            except subprocess.TimeoutExpired:
+                run.kill()
+                run.communicate()
+                return "it goes on and on"
+        if run.returncode != 2 or answered:
+            return f"the status is {run.returncode}, and it answers {answered!r}: {said!r}"
+        if number < 2 and f"it is {STANDARD[number]} too".encode() not in said:
+            return f"standard error isn't as it should be: {said!r}"
+        return unlike(path, KEPT) or goes_on(program, path, "ab")
+
+    return tries
+
+
+def taken_away(path):
+    os.remove(path)
+
+
+def renamed(path):
+    os.rename(path, f"{path}.old")
+
+
+def replaced(path):
+    kept_file(f"{path}.other")
+    os.rename(f"{path}.other", path)
+
+
+def truncated(path):
+    os.truncate(path, 0)
+
+
+def cut_by_a_line(path):
+    os.truncate(path, os.path.getsize(path) - 9)
+
+
+def appended_to(path):
+    with open(path, "ab") as file:
+        file.write(b"mkdir /x\n")
+
+
+def is_changed_below(how, pattern):
+    """Another program does something to the file below a running store: the next line isn't answered, and the run says what happened."""
+
+    def tries(program, path, chance):
+        kept_file(path)
+        pipe = subprocess.PIPE
+        with subprocess.Popen([program, path], stdin=pipe, stdout=pipe, stderr=pipe) as run:
+            run.stdin.write(b"mkdir /c\n")
+            run.stdin.flush()
+            if run.stdout.readline() != b"ok\n":
+                return "the first line isn't answered"
+            how(path)
+            left = {name: bytes_of(name) for name in (path, f"{path}.old")}
+            answered, said = run.communicate(b"mkdir /d\n", timeout=60)
+        if run.returncode != 1 or answered:
+            return f"the status is {run.returncode}, and it answers {answered!r}: {said!r}"
+        if not re.search(pattern, said.decode()):
+            return f"standard error isn't as it should be: {said!r}"
+        for name, text in left.items():
+            wrong = unlike(name, text)
+            if wrong:
+                return wrong
+        return None
+
+    return tries
+
+
+def empty_file(program, path, chance):
+    """An empty file is none of a store, and no new one is made of it."""
+    kept_file(path, b"")
+    return refused_at(program, [path, *SIZES], path, 1, "it is empty, and no store")
+
+
+def part_of_a_head(program, path, chance):
+    """So is a part of a first line."""
+    kept_file(path, HEAD[: chance.randint(1, len(HEAD))])
+    return refused_at(program, [path, *SIZES], path, 1, "it has a part of a first line")
+
+
+def linked_to_nothing(program, path, chance):
+    """No store is made through a symbolic link to nothing."""
+    os.symlink(f"{path}.away", path)
+    wrong = refused_at(program, [path, *SIZES], path, 1, "a symbolic link")
+    os.remove(path)
+    return wrong
+
+
+def not_there(program, path, chance):
+    """With --existing no store is made, and one that is there is taken."""
+    wrong = refused_at(program, [path, "--existing"], path, 1, "nothing stands there")
+    if wrong:
+        return wrong
+    kept_file(path)
+    status, answered, said = ended(program, [path, "--existing"], b"ls /\n")
+    return None if (status, answered) == (0, b"ok a/ b/\n") else f"the status is {status}: {answered!r} {said}"
+
+
+def not_ordinary(program, path, chance):
+    """What is no ordinary file is refused at once."""
+    kind = chance.randint(0, 2)
+    if kind == 0:
+        os.mkfifo(path)
+    elif kind == 1:
+        os.mkdir(path)
+    named = path if kind < 2 else "/dev/full"
+    run = subprocess.run([program, named], input=b"ls /\n", stdout=subprocess.PIPE, stderr=subprocess.PIPE, timeout=10)
+    if kind == 0:
+        os.remove(path)
+    elif kind == 1:
+        os.rmdir(path)
+    if run.returncode != 1 or run.stdout or b"no ordinary file" not in run.stderr:
+        return f"the status is {run.returncode}: {run.stdout!r} {run.stderr!r}"
+    return None
+
+
+def left_beside(program, path, chance):
+    """What a crash left beside the name while the file was made is gone on from; what isn't that is refused, and stays."""
+    beside = f"{path}.new"
+    head = HEAD + b"\n"
+    kept_file(beside, head[: chance.randint(0, len(head))])
+    status, answered, said = ended(program, [path, *SIZES], b"mkdir /a\nmkdir /b\n")
+    if (status, answered) != (0, b"ok\nok\n"):
+        return f"the status is {status}: {answered!r} {said}"
+    if os.path.exists(beside):
+        return "the file beside the name stays"
+    wrong = unlike(path, KEPT)
+    if wrong:
+        return wrong
+    # A crash between the two names of the file leaves both.
+    os.link(path, beside)
+    wrong = goes_on(program, path, "ab") or (os.path.exists(beside) and "the second name stays")
+    if wrong:
+        return wrong
+    os.remove(path)
+    kept_file(beside, chance.choice((b"my own\n", HEAD + b"\nmkdir /a\n", HEAD + b"0")))
+    text = bytes_of(beside)
+    wrong = refused_at(program, [path, *SIZES], path, 1, "stands there and isn't a beginning of it") or unlike(beside, text)
+    os.remove(beside)
+    return wrong
+
+
+def killed_while_made(program, path, chance):
+    """The program is killed while it makes a store: the whole first line stands there or no file, and the next start goes on."""
+    run = subprocess.Popen([program, path, *SIZES], stdin=subprocess.PIPE, stdout=subprocess.DEVNULL, stderr=subprocess.DEVNULL)
+    time.sleep(chance.random() * 0.02)
+    run.kill()
+    run.communicate()
+    if os.path.exists(path) and bytes_of(path) != HEAD + b"\n":
+        return f"the file holds {bytes_of(path)!r}"
+    status, answered, said = ended(program, [path, *SIZES], b"mkdir /a\nmkdir /b\n")
+    if (status, answered) != (0, b"ok\nok\n"):
+        return f"the next start has status {status}: {answered!r} {said}"
+    return unlike(path, KEPT) or (os.path.exists(f"{path}.new") and "the file beside the name stays")
+
+
+def is_shown(word, pattern):
+    """Words that ask for help or the version get it on standard output, with status 0."""
+
+    def tries(program, path, chance):
+        status, shown, said = ended(program, [word])
+        if status or said or not re.search(pattern, shown.decode()):
+            return f"the status is {status}: {shown!r} {said}"
+        return None
+
+    return tries
+
+
+def calls_of(asked):
+    """The environment of a program of which calls are told or fail."""
+    return {**os.environ, "LD_PRELOAD": calls(), **asked}
+
+
+def is_failed_once(name, error, makes_part=False):
+    """A call of the system fails once, each one of that name in turn: no line that was answered is lost, nothing else is kept of those that
+    come with the failed call, and the next start goes on."""
+
+    def tries(program, path, chance):
+        for number in range(1, 20):
+            kept_file(path)
+            asked = {"CALLS_FAIL": name, "CALLS_NUMBER": str(number), "CALLS_ERROR": str(error)}
+            if makes_part:
+                asked["CALLS_PART"] = "1"
+            pipe = subprocess.PIPE
+            run = subprocess.Popen([program, path], stdin=pipe, stdout=pipe, stderr=pipe, env=calls_of(asked))
+            answers = 0
+            try:
+                for line in MORE.splitlines(keepends=True):
+                    run.stdin.write(line)
+                    run.stdin.flush()
+                    if run.stdout.readline() != b"ok\n":
+                        break
+                    answers += 1
+                _, said = run.communicate(timeout=60)
+            except BrokenPipeError:
+                run.stdin = None
+                _, said = run.communicate(timeout=60)
+            if run.returncode == 0 and answers == 2:
+                return None if number > 1 else f"no {name} was made"
+            if run.returncode != 1 or not re.search("it can't be (written|opened|made|read)", said.decode()):
+                return f"{name} {number} fails, and the status is {run.returncode}: {said!r}"
+            stands = KEPT + b"".join(MORE.splitlines(keepends=True)[:answers])
+            wrong = unlike(path, stands) or goes_on(program, path, "abcd"[: 2 + answers])
+            if wrong:
+                return f"{name} {number} fails: {wrong}"
+        return f"{name} fails again and again"
+
+    return tries
+
+
+def is_killed_at(name):
+    """The program is killed at each call of a name in turn, while it makes a store and answers: no line that was answered is lost, and the next
+    start goes on."""
+
+    def tries(program, path, chance):
+        for number in range(1, 20):
+            asked = {"CALLS_FAIL": name, "CALLS_NUMBER": str(number), "CALLS_ERROR": "0"}
+            pipe = subprocess.PIPE
+            run = subprocess.run([program, path, *SIZES], input=b"mkdir /a\nmkdir /b\n", stdout=pipe, stderr=pipe, env=calls_of(asked), timeout=60)
+            if run.returncode == 0:
+                return None if number > 1 else f"no {name} was made"
+            stands = bytes_of(path)
+            if stands is not None and not (stands.startswith(HEAD + b"\n") and KEPT.startswith(stands)):
+                return f"killed at {name} {number}: the file holds {stands!r}"
+            kept = len((stands or b"\n").splitlines()) - 1
+            if kept < run.stdout.count(b"\n"):
+                return f"killed at {name} {number}: a line that was answered isn't kept"
+            status, answered, said = ended(program, [path, *SIZES], b"ls /\n")
+            wanted = " ".join(["ok", "a/", "b/"][: kept + 1]) + "\n"
+            if (status, answered.decode()) != (0, wanted):
+                return f"killed at {name} {number}: the next start has status {status}: {answered!r} {said}"
+            if os.path.exists(f"{path}.new"):
+                return f"killed at {name} {number}: the file beside the name stays"
+            os.remove(path)
+        return f"killed at {name} again and again"
+
+    return tries
+
+
+def many_at_once(program, path, chance):
+    """Of many that make a store at once, one goes on."""
+    pipe = subprocess.PIPE
+    runs = [subprocess.Popen([program, path, *SIZES], stdin=pipe, stdout=pipe, stderr=pipe) for _ in range(8)]
+    try:
+        begun, going = time.monotonic(), runs
+        while len(going) > 1 and time.monotonic() - begun < 20:
+            time.sleep(0.05)
+            going = [run for run in runs if run.poll() is None]
+        if len(going) != 1:
+            return f"{len(going)} of {len(runs)} go on"
+        answered, _ = going[0].communicate(b"mkdir /a\nmkdir /b\n", timeout=60)
+        if answered != b"ok\nok\n" or any(run.returncode != 1 for run in runs if run is not going[0]):
+            return f"they end with {[run.returncode for run in runs]}, and one answers {answered!r}"
+    finally:
+        for run in runs:
+            run.kill()
+            run.communicate()
+    return unlike(path, KEPT) or (os.path.exists(f"{path}.new") and "the file beside the name stays")
+
+
+def late_answer(program, path, asked):
+    """What is answered before it is on the disk, if anything is."""
+    told = f"{path}.calls"
+    kept_file(path)
+    run = subprocess.run([program, path], input=MORE, stdout=subprocess.PIPE, stderr=subprocess.PIPE, env=calls_of({"CALLS_TOLD": told, **asked}), timeout=60)
+    lines = [line.split() for line in bytes_of(told).decode().splitlines()]
+    os.remove(told)
+    if run.returncode or run.stdout != b"ok\nok\n":
+        return f"the status is {run.returncode}: {run.stdout!r} {run.stderr!r}"
+    unsynced, answers = set(), 0
+    for name, file, _ in lines:
+        if name == "sync":
+            unsynced.discard(file)
+        elif name in ("write", "cut") and int(file) > 2:
+            unsynced.add(file)
+        elif file == "1":
+            answers += 1
+            if unsynced:
+                return "a line is answered before it is on the disk"
+    return None if answers else "no answer was told"
+
+
+def answers_behind_a_sync(program, path, chance):
+    """Each answer comes behind the sync of its line. A sync that does nothing is found, so the trial sees one."""
+    wrong = late_answer(program, path, {})
+    if wrong:
+        return wrong
+    if late_answer(program, path, {"CALLS_SKIP": "fdatasync"}) is None:
+        return "a sync that does nothing isn't found"
+    return None
+
+
+def slow_input(program, path, chance):
+    """A standard input that would block is waited for."""
+    kept_file(path)
+    read, write = os.pipe()
+    os.set_blocking(read, False)
+    pipe = subprocess.PIPE
+    with subprocess.Popen([program, path], stdin=read, stdout=pipe, stderr=pipe) as run:
+        os.close(read)
+        for line in MORE.splitlines(keepends=True):
+            time.sleep(0.2)
+            if run.poll() is not None:
+                os.close(write)
+                return f"it ended with status {run.returncode}: {run.stderr.read()!r}"
+            os.write(write, line)
+            if run.stdout.readline() != b"ok\n":
+                os.close(write)
+                return "a line isn't answered"
+        os.close(write)
+        run.wait(timeout=60)
+    return f"the status is {run.returncode}" if run.returncode else unlike(path, KEPT + MORE)
+
+
+BREAKS = {
+    "standard input is closed": is_closed(0),
+    "standard output is closed": is_closed(1),
+    "standard error is closed": is_closed(2),
+    "standard output and error are closed": is_closed(1, 2),
+    "all three are closed": is_closed(0, 1, 2),
+    "the file is standard input": is_standard(0),
+    "the file is standard output": is_standard(1),
+    "the file is standard error": is_standard(2),
+    "the file is taken away": is_changed_below(taken_away, "no file has its name any more"),
+    "the file is renamed": is_changed_below(renamed, "no file has its name any more"),
+    "the file is replaced": is_changed_below(replaced, "another file has its name"),
+    "the file is truncated": is_changed_below(truncated, "it has 0 bytes where this run knows of"),
+    "the file loses a line": is_changed_below(cut_by_a_line, "another program has changed it"),
+    "the file is appended to": is_changed_below(appended_to, "another program has changed it"),
+    "an empty file": empty_file,
+    "a part of a first line": part_of_a_head,
+    "a link to nothing": linked_to_nothing,
+    "no file, and --existing": not_there,
+    "no ordinary file": not_ordinary,
+    "what is left beside the name": left_beside,
+    "killed while it is made": killed_while_made,
+    "--help": is_shown("--help", "Usage: chunkkeep.*--existing|--existing"),
+    "--version": is_shown("--version", "^chunkkeep, of form"),
+    "a write fails": is_failed_once("write", EIO),
+    "the disk is full": is_failed_once("write", ENOSPC, True),
+    "a sync fails": is_failed_once("fdatasync", EIO),
+    "a sync of all fails": is_failed_once("fsync", EIO),
+    "a cut fails": is_failed_once("ftruncate", EIO),
+    "no lock": is_failed_once("flock", ENOLCK),
+    "killed at an open": is_killed_at("open"),
+    "killed at a lock": is_killed_at("flock"),
+    "killed at a cut": is_killed_at("ftruncate"),
+    "killed at a write": is_killed_at("write"),
+    "killed at a sync": is_killed_at("fdatasync"),
+    "killed at a sync of all": is_killed_at("fsync"),
+    "killed at a link": is_killed_at("link"),
+    "killed at the end of a name": is_killed_at("unlink"),
+    "many at once": many_at_once,
+    "answers come behind the sync": answers_behind_a_sync,
+    "an input that would block": slow_input,
+}
+
+
+def broken(program, folder, seed, times):
+    """Tries each of them so often, and answers how many were as they should be and how many weren't."""
+    passed, failed = 0, 0
+    for number in range(times):
+        for name, how in BREAKS.items():
+            path = os.path.join(tempfile.mkdtemp(prefix="break-", dir=folder), "kept")
+            try:
+                wrong = how(program, path, random.Random(f"{seed} {name} {number}"))
+            except subprocess.TimeoutExpired:
+                wrong = "it doesn't end"
+            if wrong:
+                print(f"{name}: {number} of seed {seed}: {wrong}; see {path}", flush=True)
+                failed += 1
+            else:
+                passed += 1
+                shutil.rmtree(os.path.dirname(path))
+    print(f"break: {passed} of {passed + failed} passed", flush=True)
+    return passed, failed
+
+
+@functools.cache
+def calls():
+    """Compiles the calls that stand before those of the C library, by the kit's compiler, and answers the path of the library."""
+    folder = tempfile.mkdtemp(prefix="chunkkeep-calls-")
+    atexit.register(shutil.rmtree, folder, True)
+    compiled, library = os.path.join(folder, "calls.o"), os.path.join(folder, "calls.so")
+    source = os.path.join(beside.ROOT, "bench", "faults", "calls.c")
+    words = [f"--target={beside.TARGET}", "--no-default-config", "-O2", "-fPIC", "-c", source, "-o", compiled]
+    subprocess.run([f"{beside.KIT}/toolchain/bin/clang", *words], check=True)
+    subprocess.run([f"{beside.KIT}/toolchain/bin/ld.lld", "-shared", "-o", library, compiled], check=True)
+    return library
 
 
 # ---- speed
@@ -467,6 +935,8 @@ def main():
     words.add_argument("--cuts", type=int, default=20)
     words.add_argument("--limits", type=int, default=20)
     words.add_argument("--refusals", type=int, default=40)
+    words.add_argument("--breaks", type=int, default=5, help="how often each way to break it is tried")
+    words.add_argument("--landing", action="store_true", help="a part of all that")
     words.add_argument("--seed", type=int, default=1)
     words.add_argument("--program")
     words.add_argument("--plain")
@@ -475,6 +945,8 @@ def main():
     words.add_argument("--again", type=int, default=1_000_000, help="the lines of a log that is run again")
     words.add_argument("--times", type=int, default=5, help="how often it is, by turns with chunkstore")
     asked = words.parse_args()
+    if asked.landing:
+        asked.runs, asked.cuts, asked.limits, asked.refusals, asked.breaks = 20, 5, 5, 12, 1
     programs = (asked.program or built("chunkkeep"), asked.plain or built("chunkstore"))
     folder = tempfile.mkdtemp(prefix="chunkkeep-", dir=asked.folder)
     if asked.speed:
@@ -486,6 +958,10 @@ def main():
     passed += tried("limit", limited, asked.limits, programs, folder, asked.seed)
     passed += tried("refusal", refusal, asked.refusals, programs, folder, asked.seed)
     failed = asked.runs + asked.cuts + asked.limits + asked.refusals - passed
+    others = broken(programs[0], folder, asked.seed, asked.breaks)
+    passed, failed = passed + others[0], failed + others[1]
+    if not failed:
+        shutil.rmtree(folder)
     print(f"{passed} passed, {failed} failed")
     return 1 if failed else 0
 

@@ -1,6 +1,5 @@
 use gs_keep::{KeepFault, ReplayFault, StoreFault};
-use gs_keep_file::FileLog;
-use std::fs::File;
+use gs_keep_file::{FileFault, FileLog, LogFile, OpenFault};
 use std::io;
 use thiserror::Error;
 
@@ -11,14 +10,22 @@ pub(crate) enum Fault {
     Differs { name: &'static str, size: u64 },
     #[error("nothing stands there, and no store of these sizes can be made")]
     NoStore,
-    #[error("another process has it")]
-    InUse,
+    #[error("nothing stands there, and --existing makes no store")]
+    NotThere,
+    #[error("it is a symbolic link to a name under which nothing stands; no store is made there")]
+    Dangling,
+    #[error("it is empty, and no store; nothing is changed. A store is made where no file stands")]
+    Empty,
+    #[error("it has a part of a first line and nothing else, so it was cut; nothing is changed")]
+    Unfinished,
+    #[error("{0}")]
+    Opening(OpenFault),
     #[error("it can't be opened: {0}")]
     Open(io::Error),
     #[error("it can't be read: {0}")]
     Read(io::Error),
     #[error("it can't be written: {0}")]
-    Write(io::Error),
+    Write(FileFault),
     #[error("memory is lacking")]
     Memory,
     #[error("line 1 says that another version of this program wrote it; nothing is changed")]
@@ -35,21 +42,28 @@ impl Fault {
     /// The status that the program ends with.
     pub(crate) fn status(&self) -> u8 {
         match self {
-            Fault::Differs { .. } | Fault::NoStore => 2,
+            Fault::Differs { .. }
+            | Fault::NoStore
+            | Fault::Opening(OpenFault::Standard(_) | OpenFault::StandardError) => 2,
             _ => 1,
         }
     }
 
+    /// Whether its text may be put on standard error, which isn't the file.
+    pub(crate) fn may_be_told(&self) -> bool {
+        !matches!(self, Fault::Opening(OpenFault::StandardError))
+    }
+
     /// Why a call of a log failed.
-    pub(crate) fn of_log(log: FileLog<File>) -> Fault {
+    fn of_log<F: LogFile + Drop>(log: FileLog<F>) -> Fault {
         match log.into_fault() {
-            Some(error) => Fault::Write(error),
+            Some(fault) => Fault::Write(fault),
             None => Fault::Memory,
         }
     }
 
     /// Why a run over a log ended.
-    pub(crate) fn of_run(fault: StoreFault, log: FileLog<File>) -> Fault {
+    pub(crate) fn of_run<F: LogFile + Drop>(fault: StoreFault, log: FileLog<F>) -> Fault {
         match fault {
             StoreFault::Cut | StoreFault::Serve(KeepFault::Log) => Fault::of_log(log),
             // The first line stands before those that are counted.

@@ -6,6 +6,8 @@ ghost use Rattle.std.specs.Prelude.{◌≡◌, false, is_some};
 
 mod fault;
 mod opening;
+mod patient;
+mod quoting;
 mod telling;
 
 use fault::Fault;
@@ -13,11 +15,14 @@ use gs_base::{Config, Refusal};
 use gs_journal::MemoryDisk;
 use gs_keep::{StoreFault, keep_on};
 use gs_keep_desk::KeptDesk;
-use gs_keep_options::{Asked, explanation, read_words};
+use gs_keep_file::{FileLog, LogFile, fill_standard};
+use gs_keep_options::{Asked, Shown, explanation, read_words, what_to_show};
 use gs_nodes::empty_disks;
 use gs_shell_desk::Desk;
 use opening::{Kept, opened};
-use std::alloc::Global;
+use patient::Patient;
+use quoting::line_text;
+use std::alloc::{AllocError, Global};
 use std::env;
 use std::fs::File;
 use std::io::{self, BufReader, BufWriter};
@@ -28,16 +33,44 @@ use telling::Teller;
 /// The most bytes of the input that are held beside a line: so much comes together at most.
 const INPUT_BYTES: usize = 1_048_576;
 
-/// Says on standard error what is wrong with words that are refused.
-fn explain(rt: &(impl Eprint + AllocGlobal), words: &[String], refusal: &Refusal) {
+/// What `--version` shows.
+const VERSION: &str = "chunkkeep, of form 1 of the file";
+
+/// What is to be shown for words that are refused, and its text.
+fn shown_text(alloc: Global, words: &[String]) -> Result<(Shown, String), AllocError> {
+    let shown = what_to_show(alloc, words)?;
+    let text = match shown {
+        Shown::Version => format!(in alloc; "{VERSION}\n")?,
+        _ => explanation(alloc, words)?,
+    };
+    Ok((shown, text))
+}
+
+/// Says on standard error what is wrong with words that are refused, or shows on standard output what they ask to be shown, and answers
+/// the status to end with.
+fn explain(
+    rt: &(impl Print + Eprint + AllocGlobal),
+    words: &[String],
+    refusal: &Refusal,
+) -> ExitCode {
     let text = match refusal {
         Refusal::Memory => None,
-        _ => explanation(rt.alloc(), words).ok(),
+        _ => shown_text(rt.alloc(), words).ok(),
     };
-    let _ = match text {
-        Some(text) => eprint!(rt; "{text}"),
-        None => eprintln!(rt; "chunkkeep: {refusal}"),
-    };
+    match text {
+        None => {
+            let _ = eprintln!(rt; "chunkkeep: {refusal}");
+            ExitCode::from(2)
+        }
+        Some((Shown::Mistake, text)) => {
+            let _ = eprint!(rt; "{text}");
+            ExitCode::from(2)
+        }
+        Some((_, text)) => match print!(rt; "{text}") {
+            Ok(()) => ExitCode::SUCCESS,
+            Err(_) => ExitCode::from(1),
+        },
+    }
 }
 
 /// The words of the command line, of which the first is the program's own.
@@ -45,18 +78,15 @@ fn words(rt: &(impl Env + AllocGlobal)) -> io::Result<Vec<String>> {
     Ok(env::args(rt)?.collect(rt.alloc())?)
 }
 
-/// What the command line asks for. Where it is refused, standard error says why, and this is the status to end with.
-fn asked_for(rt: &(impl Eprint + Env + AllocGlobal)) -> Result<Asked, ExitCode> {
+/// What the command line asks for. Where it asks for no store, this is the status to end with, once what there is to say is said.
+fn asked_for(rt: &(impl Print + Eprint + Env + AllocGlobal)) -> Result<Asked, ExitCode> {
     let Ok(words) = words(rt) else {
         let _ = eprintln!(rt; "chunkkeep: the arguments can't be read");
         return Err(ExitCode::from(2));
     };
     match read_words(rt.alloc(), &words) {
         Ok(asked) => Ok(asked),
-        Err(refusal) => {
-            explain(rt, &words, &refusal);
-            Err(ExitCode::from(2))
-        }
+        Err(refusal) => { Err(explain(rt, &words, &refusal)) }
     }
 }
 
@@ -68,11 +98,24 @@ fn new_desk(alloc: Global, config: Config) -> Result<KeptDesk<MemoryDisk>, Fault
     }
 }
 
+/// Cuts a file behind what was synced last, where a write or a sync behind that failed, and says so.
+fn give_up<F: LogFile>(rt: &(impl Eprint), path: &str, log: &mut FileLog<F>) {
+    let _ = match log.give_up() {
+        Ok(None) => return,
+        Ok(Some(len)) => eprintln!(rt;
+            "chunkkeep: {path}: it is cut to {len} bytes, behind all that was answered"
+        ),
+        Err(fault) => eprintln!(rt;
+            "chunkkeep: {path}: what stands behind the lines that were answered can't be cut off: {fault}"
+        ),
+    };
+}
+
 /// Runs the file's lines again, and then answers standard input on standard output.
-fn serve(
-    rt: &(impl Input + Print + Eprint + Clock + AllocGlobal),
+fn serve<'a, R: Files<File = File> + Input + Print + Eprint + Clock + AllocGlobal>(
+    rt: &'a R,
     path: &str,
-    kept: Kept,
+    kept: Kept<'a, R>,
 ) -> Result<(), Fault>
     requires { is_some kept.log.fault ≡ false }
 {
@@ -83,7 +126,8 @@ fn serve(
         measure,
         mut lines,
     } = kept;
-    let Ok(mut reader) = BufReader::with_capacity(alloc, INPUT_BYTES, rt.reader()) else {
+    let input = Patient::new(rt, rt.reader());
+    let Ok(mut reader) = BufReader::with_capacity(alloc, INPUT_BYTES, input) else {
         return Err(Fault::Memory);
     };
     let Ok(mut writer) = BufWriter::new(alloc, io::writer(rt)) else {
@@ -102,7 +146,10 @@ fn serve(
         &mut writer,
     ) {
         Ok(()) => Ok(()),
-        Err(fault) => Err(Fault::of_run(fault, log)),
+        Err(fault) => {
+            give_up(rt, path, &mut log);
+            Err(Fault::of_run(fault, log))
+        }
     }
 }
 
@@ -115,10 +162,25 @@ fn run(
     serve(rt, &asked.path, kept)
 }
 
+/// Says on standard error why a run ends, and what stands in the line that it ends for, if it ends for one.
+fn tell<R: Files<File = File> + Eprint + AllocGlobal>(rt: &R, path: &str, fault: &Fault) {
+    if !fault.may_be_told() {
+        return;
+    }
+    let _ = eprintln!(rt; "chunkkeep: {path}: {fault}");
+    let Fault::BadLine(number) = fault else {
+        return;
+    };
+    if let Some(text) = line_text(rt, path, *number) {
+        let _ = eprintln!(rt; "chunkkeep: {path}: line {number} begins: {text}");
+    }
+}
+
 /// The status is 0 at the end of the input; 1 where a read, a write or a sync fails, another process has the file, it isn't the
-/// program's, or the run can't begin; and 2 where the words of the command line are refused, or sizes that they give aren't the
-/// file's.
+/// program's, it isn't any more what it was, or the run can't begin; and 2 where the words of the command line are refused, sizes that
+/// they give aren't the file's, or the file is standard input, output or error too.
 fn main(rt: HostRuntime) -> ExitCode {
+    let _standard = fill_standard(&rt);
     let asked = match asked_for(&rt) {
         Ok(asked) => asked,
         Err(status) => return status,
@@ -126,7 +188,7 @@ fn main(rt: HostRuntime) -> ExitCode {
     match run(&rt, &asked) {
         Ok(()) => ExitCode::SUCCESS,
         Err(fault) => {
-            let _ = eprintln!(&rt; "chunkkeep: {}: {fault}", asked.path);
+            tell(&rt, &asked.path, &fault);
             ExitCode::from(fault.status())
         }
     }

@@ -1,15 +1,19 @@
 -- What the words of a command line ask for.
-use Rattle.std.specs.Prelude.{◌≡◌, true, List, codes, string_bytes, if◌then◌else◌, Option, Some, None, Result, Ok, Err}
+use Rattle.std.specs.Prelude.{◌≡◌, ◌≢◌, ◌∷◌, [], Bool, true, List, codes, string_bytes, if◌then◌else◌, Option, Some, None, Result, Ok, Err}
 use Rattle.std.specs.Option.{option_map}
 use Rattle.clap.specs.Faults.{fault_of}
 use Rattle.clap.specs.Walk.{is_empty}
 use Rattle.clap.specs.Words.{App, Rule, Row, Text, new_app, new_rule, with_rule, matches_of, first_of}
-use Rattle.clap.specs.declared.builder.ArgAction.TheVariants.{Set}
+use Rattle.clap.specs.Kinds.{IsAmong, Kinds}
+use Rattle.clap.specs.declared.builder.ArgAction.TheVariants.{Set, SetTrue, Version}
+use Rattle.clap.specs.declared.error.kind.ErrorKind.TheVariants as kind
 use Rattle.clap.specs.declared.builder.value_parser.ValueParser.TheVariants as vp
 use Rattle.gs_base.specs.declared.refusal.Refusal.{Refusal}
 use Rattle.gs_base.specs.declared.refusal.Refusal.TheVariants as refusal
-use Rattle.gs_shell_options.specs.Options.{named_rule, number_in}
+use Rattle.gs_shell_options.specs.Options.{flag_in, named_rule, number_in}
 use Rattle.gs_keep_options.specs.declared.Asked.{Asked}
+use Rattle.gs_keep_options.specs.declared.Shown.{Shown}
+use Rattle.gs_keep_options.specs.declared.Shown.TheVariants as shown
 use Rattle.gs_keep_options.specs.declared.Sizes.{Sizes}
 
 -- an option that takes a whole number below 2 ^ 64
@@ -20,14 +24,18 @@ number_rule name = record (named_rule name Set) { value_names = 1; parser = Some
 abbrev pub file_rule : Rule
 file_rule = record (new_rule (codes "FILE")) { required = true; action = Some Set }
 
-unfoldable pub app : App
-app = with_rule (with_rule (with_rule (with_rule (with_rule (with_rule (new_app (codes "chunkkeep"))
+-- the command's file and sizes
+unfoldable pub sized_app : App
+sized_app = with_rule (with_rule (with_rule (with_rule (with_rule (with_rule (new_app (codes "chunkkeep"))
     file_rule)
     (number_rule (codes "servers")))
     (number_rule (codes "racks")))
     (number_rule (codes "replicas")))
     (number_rule (codes "chunk")))
     (number_rule (codes "block"))
+
+unfoldable pub app : App
+app = with_rule (with_rule sized_app (named_rule (codes "existing") SetTrue)) (named_rule (codes "version") Version)
 
 abbrev pub sizes_in : List Row → Sizes
 sizes_in rows = record {
@@ -38,13 +46,14 @@ sizes_in rows = record {
   block = number_in (codes "block") rows;
 }
 
--- a file, and the sizes that are given
+-- a file, the sizes that are given, and whether the store has to be there already
 pub record Asks : Type 0 where
   pub path : Text
   pub sizes : Sizes
+  pub is_existing : Bool
 
 abbrev pub rows_asked : List Row → Option Asks
-rows_asked rows = option_map (λ path. record { path = path; sizes = sizes_in rows }) (first_of (codes "FILE") rows)
+rows_asked rows = option_map (λ path. record { path = path; sizes = sizes_in rows; is_existing = flag_in (codes "existing") rows }) (first_of (codes "FILE") rows)
 
 -- what the words of a command line ask for, of which the first is the program's own
 abbrev pub words_asked : List Text → Option Asks
@@ -52,7 +61,13 @@ words_asked words = if is_empty (fault_of app words) then rows_asked (matches_of
 
 -- what is asked for, and Config exactly where nothing is, unless memory ran out
 abbrev pub AskedAs : Result Asked Refusal → Option Asks → Type 0
-AskedAs (Ok asked) asks = asks ≡ Some (record { path = string_bytes asked.path; sizes = asked.sizes })
+AskedAs (Ok asked) asks = asks ≡ Some (record { path = string_bytes asked.path; sizes = asked.sizes; is_existing = asked.is_existing })
 AskedAs (Err refusal.Config) asks = asks ≡ None
 AskedAs (Err refusal.Memory) asks = Unit {0}
 AskedAs (Err _) asks = ⊥
+
+-- help and the version are shown where the words ask for them, and a mistake where they ask for neither
+abbrev pub ShownAs : Shown → Kinds → Type 0
+ShownAs shown.Help fault = IsAmong kind.DisplayHelp fault
+ShownAs shown.Version fault = IsAmong kind.DisplayVersion fault
+ShownAs shown.Mistake fault = (fault ≢ kind.DisplayHelp ∷ []) × (fault ≢ kind.DisplayVersion ∷ [])

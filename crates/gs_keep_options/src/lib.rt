@@ -1,13 +1,13 @@
-//! The command line of a store that is kept: its file, and the sizes that are asked for.
+//! The command line of a store that is kept: its file, the sizes that are asked for, and whether it has to be there already.
 #![tactic(auto)]
 
 ghost use Rattle.std.specs.Prelude.{◌≡◌, [], map, false, is_some, not, MatchResult, IfOk, string_bytes};
 ghost use Rattle.clap.specs.Words.{rule_of, rows_of, found_of, matches_of as clap_matches, app_of, with_rule};
 ghost use Rattle.clap.specs.Faults.{fault_of};
 ghost use Rattle.gs_base.specs.Configured.{Configured};
-ghost use Rattle.gs_shell_options.specs.Options.{RefusesWords};
+ghost use Rattle.gs_shell_options.specs.Options.{RefusesWords, flag_in, named_rule};
 ghost use Rattle.gs_keep_options.specs.Sizes.{Tells, difference, fits, given_or, is_given_as};
-ghost use Rattle.gs_keep_options.specs.Words.{AskedAs, app, file_rule, number_rule, sizes_in, words_asked};
+ghost use Rattle.gs_keep_options.specs.Words.{AskedAs, ShownAs, app, file_rule, number_rule, sized_app, sizes_in, words_asked};
 
 use clap::error::ErrorKind;
 use clap::{Arg, ArgAction, ArgMatches, Command};
@@ -40,6 +40,17 @@ pub struct Asked {
     /// The file that the store is kept in.
     pub path: String,
     pub sizes: Sizes,
+    /// No new store is made.
+    pub is_existing: bool,
+}
+
+/// What is to be shown for words that ask for no store.
+#[derive(Clone, Copy, Debug, PartialEq, Eq)]
+pub enum Shown {
+    Help,
+    Version,
+    /// What is wrong with them.
+    Mistake,
 }
 
 /// Whether a size is the one that is asked for, if one is.
@@ -138,6 +149,18 @@ fn with_number<'a>(
     command.arg(number_argument(alloc, option))
 }
 
+fn with_flag<'a>(
+    alloc: Global,
+    command: Command<'a>,
+    name: &'a str,
+    help: &'a str,
+    action: ArgAction,
+) -> Result<Command<'a>, AllocError>
+    ensures { IfOk result (λ c. app_of c ≡ with_rule (app_of command.entry) (named_rule name.entry.now action)) }
+{
+    command.arg(Arg::new(alloc, name).long(name).help(help).action(action))
+}
+
 const SERVERS: NumberOption<'static> = NumberOption {
     name: "servers",
     value_name: "N",
@@ -171,6 +194,10 @@ const BLOCK: NumberOption<'static> = NumberOption {
 const FILE_HELP: &str =
     "The file that the store is kept in, which is made if it isn't there. Sizes that are given must be its own";
 
+const EXISTING_HELP: &str = "Makes no store where none is";
+
+const VERSION_HELP: &str = "Shows the program's name and the form of the file";
+
 /// The word that isn't an option's.
 fn file_argument<'a>(alloc: Global) -> Arg<'a>
     ensures rule { rule_of result ≡ file_rule }
@@ -182,10 +209,10 @@ fn file_argument<'a>(alloc: Global) -> Arg<'a>
         .action(ArgAction::Set)
 }
 
-/// The command of which clap reads the words.
-#[tactic(auto, unfolding(crate::specs::Words::app))]
-fn command<'a>(alloc: Global) -> Result<Command<'a>, AllocError>
-    ensures { IfOk result (λ c. app_of c ≡ app) }
+/// The command with its file and its sizes.
+#[tactic(auto, unfolding(crate::specs::Words::sized_app))]
+fn sized_command<'a>(alloc: Global) -> Result<Command<'a>, AllocError>
+    ensures { IfOk result (λ c. app_of c ≡ sized_app) }
 {
     let command = Command::new(alloc, "chunkkeep").arg(file_argument(alloc))?;
     let command = with_number(alloc, command, SERVERS)?;
@@ -193,6 +220,22 @@ fn command<'a>(alloc: Global) -> Result<Command<'a>, AllocError>
     let command = with_number(alloc, command, REPLICAS)?;
     let command = with_number(alloc, command, CHUNK)?;
     with_number(alloc, command, BLOCK)
+}
+
+/// The command of which clap reads the words.
+#[tactic(auto, unfolding(crate::specs::Words::app))]
+fn command<'a>(alloc: Global) -> Result<Command<'a>, AllocError>
+    ensures { IfOk result (λ c. app_of c ≡ app) }
+{
+    let command = sized_command(alloc)?;
+    let command = with_flag(
+        alloc,
+        command,
+        "existing",
+        EXISTING_HELP,
+        ArgAction::SetTrue,
+    )?;
+    with_flag(alloc, command, "version", VERSION_HELP, ArgAction::Version)
 }
 
 /// What clap makes of the words.
@@ -223,8 +266,18 @@ fn sizes_in(matches: &ArgMatches<'_>) -> Sizes
     }
 }
 
+/// Whether a flag is given.
+fn flag_in(matches: &ArgMatches<'_>, id: &str) -> bool
+    ensures { result ≡ flag_in id.now (rows_of (found_of matches.now)) }
+{
+    match matches.get_str(id) {
+        Some(text) => text == "true",
+        None => false,
+    }
+}
+
 /// What the words of the command line ask for, of which the first is the program's own. `Config` refuses words without a file or with two,
-/// an option that isn't there, one that is given twice, a value that is no whole number or lacks, and `--help`.
+/// an option that isn't there, one that is given twice, a value that is no whole number or lacks, `--help`, and `--version`.
 pub fn read_words(alloc: Global, words: &[String]) -> Result<Asked, Refusal>
     ensures { AskedAs result (words_asked (map string_bytes words.now)) }
 {
@@ -235,7 +288,23 @@ pub fn read_words(alloc: Global, words: &[String]) -> Result<Asked, Refusal>
     Ok(Asked {
         path: String::from_str(alloc, path)?,
         sizes: sizes_in(&matches),
+        is_existing: flag_in(&matches, "existing"),
     })
+}
+
+/// What is to be shown for words that `read_words` refuses as `Config`.
+pub fn what_to_show(alloc: Global, words: &[String]) -> Result<Shown, AllocError>
+    ensures { IfOk result (λ s. ShownAs s (fault_of app (map string_bytes words.entry.now))) }
+{
+    match command(alloc)?.try_get_matches_from(words) {
+        Ok(_) => Ok(Shown::Mistake),
+        Err(error) => match error.kind() {
+            ErrorKind::OutOfMemory => Err(AllocError),
+            ErrorKind::DisplayHelp => Ok(Shown::Help),
+            ErrorKind::DisplayVersion => Ok(Shown::Version),
+            _ => Ok(Shown::Mistake),
+        },
+    }
 }
 
 /// What is wrong with words that are refused, or nothing where they ask for help.

@@ -3,17 +3,9 @@ use Rattle.clap.specs.Words.{App, HasMatchesOf, kind_of}
 use Rattle.clap.specs.Simple.{is_simple}
 use Rattle.clap.specs.Faults.{fault_of, is_simple_and_free}
 use Rattle.clap.specs.Kinds.{HasKind, IsAmong}
-use Rattle.clap.proofs.OnLiterals.{clap_on_literals}
 use Rattle.gs_keep_options.specs.Words.{app}
+use Rattle.gs_keep_options.proofs.Telling.{free, simple}
 use Rattle.gs_keep_options.proofs.matches_of.Goals as goal
-
-simple : is_simple app ≡ true
-unfolding app clap_on_literals
-simple = refl
-
-free : is_simple_and_free app ≡ true
-unfolding app clap_on_literals
-free = refl
 
 pub returns-in-Ok : goal.returns-in-Ok
 returns-in-Ok c =
