@@ -12,6 +12,7 @@ loop-number-preserved g c =
     let config = c.args.config in
     let n = c.loop-number.number in
     let before = c.loop-number.seeds.items in
+    let made = servers.new n config.block config.chunk in
     let id = found_number c.new.result _ _ c.new.ensures.number c.unwrap-id.ensures in
     let row =
     c.in_ok-seed_of.ensures
