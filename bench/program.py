@@ -13,9 +13,9 @@ import resource
 import subprocess
 import sys
 
-import beside
+import launch
 
-CRATE = os.path.join(beside.ROOT, "crates", "chunkstore")
+CRATE = os.path.join(launch.ROOT, "crates", "chunkstore")
 # The words that choose how the nodes run.
 PLACES = [[], ["--threads"]]
 # Words that are none, lack a value, are given twice, or ask for sizes of no store.
@@ -79,9 +79,7 @@ def main():
     parser = argparse.ArgumentParser(description="Looks at what chunkstore answers, and how it ends.")
     parser.add_argument("--program")
     asked = parser.parse_args()
-    if not asked.program:
-        beside.placed("chunkstore", ("src",))
-    trials = Trials(asked.program or beside.native("chunkstore"))
+    trials = Trials(asked.program or launch.unproved_program("chunkstore"))
     for place in PLACES:
         try_place(trials, place)
     try_memory(trials)

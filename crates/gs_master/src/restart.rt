@@ -123,7 +123,10 @@ impl Event {
         ensures written { WritesAnew D.seen D.may_leave D.failures self.old journal.old result self.new journal.new }
         ensures crash { LeavesAnew D.seen D.moment D.left_since (durable_of self.old.recorded) journal.old journal.new }
     {
-        let renewal = self.standing().renewal(journal)?;
+        let renewal = match self.standing().renewal(journal) {
+            Ok(renewal) => renewal,
+            Err(refusal) => return Err(refusal),
+        };
         let first = self.log;
         self.end_renewed(journal, first, renewal);
         if self.said.is_some() {
@@ -159,9 +162,18 @@ impl Event {
         let Ok(version) = journal.version() else {
             return Err(Refusal::Device);
         };
-        let records = journal.records(alloc)?;
-        let entries = read_entries(alloc, version, &records)?;
-        let mut event = rested(alloc, journal, &entries)?;
+        let records = match journal.records(alloc) {
+            Ok(records) => records,
+            Err(refusal) => return Err(refusal),
+        };
+        let entries = match read_entries(alloc, version, &records) {
+            Ok(entries) => entries,
+            Err(refusal) => return Err(refusal),
+        };
+        let mut event = match rested(alloc, journal, &entries) {
+            Ok(event) => event,
+            Err(refusal) => return Err(refusal),
+        };
         let Ok(sent) = told_again(alloc, config, &event.recorded) else {
             return Err(Refusal::Memory);
         };
@@ -204,7 +216,10 @@ impl<D: Disk> Master<D> {
         ensures lasts { IfErr result (λ u. (a b : List ℕ) → D.may_leave u.first a → D.may_leave u.second b
             → MightTell (D.may_leave first) (D.may_leave second) (standing a b)) }
     {
-        let mut journal = Journal::open(alloc, first, second, limit)?;
+        let mut journal = match Journal::open(alloc, first, second, limit) {
+            Ok(journal) => journal,
+            Err(unopened) => return Err(unopened),
+        };
         match Event::recover(alloc, &config, &mut journal) {
             Ok(mut event) => {
                 let sent = mem::replace(&mut event.sent, Vec::new(alloc));

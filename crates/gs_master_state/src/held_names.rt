@@ -485,7 +485,10 @@ impl HeldNames {
         ensures refused { IfErr result (λ _. self.new ≡ self.old) }
         ensures kept { IfOk result (λ before. is_kept before ≡ false) }
     {
-        let inverse = self.names.move_keeping_place(edit)?;
+        let inverse = match self.names.move_keeping_place(edit) {
+            Ok(inverse) => inverse,
+            Err(refusal) => return Err(refusal),
+        };
         let TreeInverse::Moved(from, to) = inverse else {
             return Err(Refusal::Memory);
         };

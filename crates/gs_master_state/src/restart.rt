@@ -61,7 +61,10 @@ fn are_told(refs: &Refs, references: &[Reference]) -> bool
 pub fn told_names(alloc: Global, checkpoint: &Checkpoint) -> Result<Names, Refusal>
     ensures { TellsNames (plain_checkpoint checkpoint.now) result }
 {
-    let tree = Tree::of(alloc, &checkpoint.tree)?;
+    let tree = match Tree::of(alloc, &checkpoint.tree) {
+        Ok(tree) => tree,
+        Err(refusal) => return Err(refusal),
+    };
     let refs = told_counts(alloc, &checkpoint.references)?;
     if !are_told(&refs, &checkpoint.references) {
         return Err(Refusal::BadLine);
@@ -240,7 +243,10 @@ impl Recorded {
         if !are_sound(checkpoint) {
             return Err(Refusal::BadLine);
         }
-        let names = told_names(alloc, checkpoint)?;
+        let names = match told_names(alloc, checkpoint) {
+            Ok(names) => names,
+            Err(refusal) => return Err(refusal),
+        };
         let leases = told_leases(alloc, &checkpoint.settled)?;
         if !are_settled(checkpoint, &leases) {
             return Err(Refusal::BadLine);

@@ -133,7 +133,10 @@ impl Recorded {
 fn take_back(alloc: Global, names: &mut Names, listed: &ListedInverse) -> Result<(), Refusal>
     ensures { TakesBackOne (plain_inverse listed.now) names.old result names.new }
 {
-    let inverse = listed.inverse(alloc)?;
+    let inverse = match listed.inverse(alloc) {
+        Ok(inverse) => inverse,
+        Err(refusal) => return Err(refusal),
+    };
     names.undo(&inverse)
 }
 
@@ -255,7 +258,10 @@ impl Recorded {
         if !self.may_commit(epoch) {
             return Err(Refusal::BadLine);
         }
-        let names = self.given_back(back)?;
+        let names = match self.given_back(back) {
+            Ok(names) => names,
+            Err(refusal) => return Err(refusal),
+        };
         let listed = names.refs().entries(self.alloc)?;
         if !self.are_answers(&listed, answered) {
             return Err(Refusal::BadLine);

@@ -1,0 +1,156 @@
+"""Commands that look at names and sizes, and those that change names."""
+
+from argparse import Namespace
+from collections import defaultdict
+from collections.abc import Iterable
+from fnmatch import fnmatchcase
+
+from client.names import child, last, line_path, parent, shown
+from client.output import WELL, for_each, say
+from client.progress import human
+from client.refusals import Failed
+from client.session import Session
+from client.store import Entry, children, found, stat, stats, walk
+
+
+def size_text(size: int, is_human: bool) -> str:
+    return human(size) if is_human else str(size)
+
+
+def entry_line(entry: Entry, asked: Namespace, name: str) -> str:
+    """A line of `ls`: with -l what stands there, the least replicas of a chunk, and the size."""
+    name = shown(name) + ("/" if entry.is_directory and not name.endswith("/") else "")
+    if not asked.long:
+        return name
+    kind = "d" if entry.is_directory else "-"
+    replicas = "-" if entry.replicas is None else str(entry.replicas)
+    size = "-" if entry.is_directory else size_text(entry.size, asked.human)
+    return f"{kind} {replicas:>2} {size:>12} {name}"
+
+
+def ls(session: Session, asked: Namespace) -> int:
+    def list_one(path: str) -> None:
+        top = line_path(path, asked.folder)
+        entry = stat(session, top)
+        if not entry.is_directory:
+            say(entry_line(entry, asked, top))
+        elif asked.recursive:
+            for inner in sorted(walk(session, top), key=lambda inner: inner.path.split("/")):
+                if inner.path != top:
+                    say(entry_line(inner, asked, inner.path))
+        else:
+            names = children(session, top)
+            for name, inner in zip(names, stats(session, (child(top, name) for name in names))):
+                # What can't be told of a file is a refusal, which stands in the place of its line.
+                say(entry_line(inner, asked, name) if isinstance(inner, Entry) else f"? {shown(name)}: {inner.text}")
+
+    return for_each(asked.paths or [asked.folder], list_one)
+
+
+def du(session: Session, asked: Namespace) -> int:
+    """The bytes of what stands in a directory, and those that all replicas of it take."""
+
+    def tell(path: str, entries: Iterable[Entry]) -> None:
+        entries = list(entries)
+        whole = sum(entry.size for entry in entries)
+        stored = sum(stored_bytes(entry, session.sizes.chunk) for entry in entries)
+        say(f"{size_text(whole, asked.human):>12} {size_text(stored, asked.human):>12} {shown(path)}")
+
+    def sum_one(path: str) -> None:
+        top = line_path(path, asked.folder)
+        parts: dict[str, list[Entry]] = defaultdict(list)
+        for entry in walk(session, top):
+            below = entry.path.removeprefix(top).strip("/").split("/")[0]
+            parts[top if asked.summary or not below else child(top, below)].append(entry)
+        if len(parts) > 1:
+            parts.pop(top)
+        for part in sorted(parts):
+            tell(part, parts[part])
+
+    return for_each(asked.paths or [asked.folder], sum_one)
+
+
+def chunk_sizes(entry: Entry, chunk_bytes: int) -> list[int]:
+    """The bytes of each chunk of a file: all but the last are full."""
+    return [min(chunk_bytes, entry.size - at * chunk_bytes) for at in range(len(entry.chunks))]
+
+
+def stored_bytes(entry: Entry, chunk_bytes: int) -> int:
+    return sum(size * len(chunk.servers) for size, chunk in zip(chunk_sizes(entry, chunk_bytes), entry.chunks))
+
+
+def count(session: Session, asked: Namespace) -> int:
+    """Directories, files and bytes."""
+
+    def count_one(path: str) -> None:
+        top = line_path(path, asked.folder)
+        entries = list(walk(session, top))
+        folders = sum(entry.is_directory for entry in entries)
+        whole = size_text(sum(entry.size for entry in entries), asked.human)
+        say(f"{folders:>12} {len(entries) - folders:>12} {whole:>12} {shown(top)}")
+
+    return for_each(asked.paths or [asked.folder], count_one)
+
+
+def tree(session: Session, asked: Namespace) -> int:
+    """A picture of what stands below a path."""
+    top = line_path(asked.path or asked.folder, asked.folder)
+    below: dict[str, list[Entry]] = defaultdict(list)
+    for entry in walk(session, top):
+        if entry.path != top:
+            below[parent(entry.path)].append(entry)
+
+    def draw(folder: str, before: str) -> None:
+        entries = sorted(below[folder], key=lambda entry: entry.path)
+        for entry in entries:
+            is_last = entry is entries[-1]
+            say(f"{before}{'└── ' if is_last else '├── '}{shown(last(entry.path))}{'/' if entry.is_directory else ''}")
+            if entry.is_directory:
+                draw(entry.path, before + ("    " if is_last else "│   "))
+
+    say(shown(top))
+    draw(top, "")
+    return WELL
+
+
+def find(session: Session, asked: Namespace) -> int:
+    top = line_path(asked.path, asked.folder)
+    for entry in sorted(walk(session, top), key=lambda entry: entry.path.split("/")):
+        if asked.name is None or fnmatchcase(shown(last(entry.path)), asked.name):
+            say(shown(entry.path))
+    return WELL
+
+
+def mkdir(session: Session, asked: Namespace) -> int:
+    return for_each(asked.paths, lambda path: session.ask("mkdir", line_path(path, asked.folder)))
+
+
+def mv(session: Session, asked: Namespace) -> int:
+    return to_target(session, asked, "mv")
+
+
+def cp(session: Session, asked: Namespace) -> int:
+    """Copies by a snapshot, which shares the chunks until one side is written to."""
+    return to_target(session, asked, "snapshot")
+
+
+def to_target(session: Session, asked: Namespace, word: str) -> int:
+    """Asks a line for each path but the last one, which is the target: a directory that is there, or where one goes itself."""
+    *sources, target = (line_path(path, asked.folder) for path in asked.paths)
+    entry = found(session, target)
+    is_into = bool(entry and entry.is_directory)
+    if len(sources) > 1 and not is_into:
+        raise Failed(f"{shown(target)}: several paths need a directory that is there")
+    return for_each(sources, lambda source: session.ask(word, source, child(target, last(source)) if is_into else target))
+
+
+def rm(session: Session, asked: Namespace) -> int:
+    def remove(path: str) -> None:
+        path = line_path(path, asked.folder)
+        hidden = session.ask("rm", "-r", path) if asked.recursive else session.ask("rm", path)
+        if hidden == "false" and not asked.force:
+            raise Failed(f"{shown(path)}: nothing stands there")
+        if hidden != "false":
+            say(f"{shown(path)} is in the trash as {shown(hidden)}")
+
+    return for_each(asked.paths, remove)

@@ -1,0 +1,69 @@
+"""How names stand in lines, and how they are shown.
+
+A byte that a name in a line can't have stands there as `%` and two hexadecimal digits in capital letters, and so does `%` itself. Those are a
+space, a colon, each byte below 32, each byte that isn't of a character in UTF-8, and the first point of a name that begins with `.deleted.`."""
+
+import posixpath
+import re
+
+UNFIT = re.compile("[\x00-\x20:%\udc80-\udcff]|^\\.(?=deleted\\.)")
+ESCAPE = re.compile(rb"%([0-9A-F]{2})")
+HIDDEN = re.compile(r"\.deleted\.(?P<moment>\d{20})\.(?P<number>\d{20})\.(?P<name>.+)")
+# A path behind this word is taken as it stands in lines.
+AS_IT_STANDS = "lines:"
+
+
+def bytes_of(name: str) -> bytes:
+    return name.encode("utf-8", "surrogateescape")
+
+
+def escaped(name: str) -> str:
+    """A name as it stands in lines."""
+    return UNFIT.sub(lambda found: f"%{bytes_of(found[0])[0]:02X}", name)
+
+
+def shown(path: str) -> str:
+    """A path of lines as people see it. An element to which no name of a file is escaped is shown as it stands."""
+    return "/".join(shown_element(element) for element in path.split("/"))
+
+
+def shown_element(element: str) -> str:
+    name = ESCAPE.sub(lambda found: bytes.fromhex(found[1].decode()), bytes_of(element)).decode("utf-8", "surrogateescape")
+    return name if escaped(name) == element and "\0" not in name else element
+
+
+def line_path(text: str, folder: str = "/") -> str:
+    """The path in lines of what somebody has typed, which may be relative to a folder of the store. A hidden name is taken as it stands."""
+    if text.startswith(AS_IT_STANDS):
+        return text.removeprefix(AS_IT_STANDS)
+    whole = posixpath.normpath("/" + posixpath.join(shown(folder), text).lstrip("/"))
+    return "/".join(element if HIDDEN.fullmatch(element) else escaped(element) for element in whole.split("/"))
+
+
+def child(folder: str, name: str) -> str:
+    return posixpath.join(folder, name)
+
+
+def parent(path: str) -> str:
+    return posixpath.dirname(path)
+
+
+def last(path: str) -> str:
+    return posixpath.basename(path)
+
+
+def hidden_parts(path: str) -> tuple[int, int, str] | None:
+    """The moment, the number and the old name of a path whose last element is hidden."""
+    hidden = HIDDEN.fullmatch(last(path))
+    return (int(hidden["moment"]), int(hidden["number"]), hidden["name"]) if hidden else None
+
+
+def old_name(element: str) -> str:
+    """The name that an element had before it was hidden, or has."""
+    hidden = HIDDEN.fullmatch(element)
+    return hidden["name"] if hidden else element
+
+
+def old_path(path: str) -> str:
+    """A path with the names that its elements had before they were hidden."""
+    return "/".join(map(old_name, path.split("/")))

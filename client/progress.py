@@ -1,0 +1,46 @@
+"""A line on a terminal that shows how far something is."""
+
+import sys
+import time
+
+UNITS = ("B", "K", "M", "G", "T")
+WIDTH = 30
+SECONDS_BETWEEN = 0.2
+
+
+def human(size: float) -> str:
+    """A count of bytes as people read it."""
+    unit = 0
+    while size >= 1_024 and unit < len(UNITS) - 1:
+        size, unit = size / 1_024, unit + 1
+    return f"{size:.0f} {UNITS[unit]}" if unit == 0 else f"{size:.1f} {UNITS[unit]}"
+
+
+class Progress:
+    """Counts bytes, and shows them with their rate where standard error is a terminal."""
+
+    def __init__(self, whole: int):
+        self.whole, self.done, self.begun, self.shown = whole, 0, time.monotonic(), 0.0
+        self.is_shown = sys.stderr.isatty()
+
+    def __enter__(self) -> "Progress":
+        return self
+
+    def __exit__(self, *_: object) -> None:
+        if self.is_shown:
+            self.show("\n")
+
+    def add(self, count: int) -> None:
+        self.done += count
+        if self.is_shown and time.monotonic() - self.shown >= SECONDS_BETWEEN:
+            self.show("")
+
+    def show(self, end: str) -> None:
+        self.shown = time.monotonic()
+        rate = self.done / max(self.shown - self.begun, 0.001)
+        print(f"\r{self.line(rate)}\x1b[K", end=end, file=sys.stderr, flush=True)
+
+    def line(self, rate: float) -> str:
+        part = self.done / self.whole if self.whole else 1.0
+        bar = "#" * round(WIDTH * min(part, 1.0))
+        return f"[{bar:<{WIDTH}}] {human(self.done)} of {human(self.whole)}, {human(rate)}/s"

@@ -1,0 +1,80 @@
+import os
+import pty
+import select
+import time
+
+from client.tests import TINY, StoreCase
+
+SECONDS = 300
+
+
+class Terminal:
+    """A shell in a pseudo-terminal."""
+
+    def __init__(self, words: list[str], state: str):
+        self.child, self.end = pty.fork()
+        if not self.child:
+            os.execve(words[0], words, {**os.environ, "XDG_STATE_HOME": state, "TERM": "dumb", "INPUTRC": os.devnull})
+        self.told = ""
+
+    def await_text(self, text: str) -> str:
+        """What stands there up to a text, once that comes."""
+        limit = time.monotonic() + SECONDS
+        while text not in self.told:
+            if time.monotonic() > limit or not select.select([self.end], [], [], SECONDS)[0]:
+                raise AssertionError(f"{text!r} doesn't come behind {self.told!r}")
+            self.told += os.read(self.end, 4_096).decode()
+        before, self.told = self.told.split(text, 1)
+        return before
+
+    def type(self, text: str) -> None:
+        os.write(self.end, text.encode())
+
+    def status(self) -> int:
+        return os.waitstatus_to_exitcode(os.waitpid(self.child, 0)[1])
+
+
+class Shells(StoreCase):
+    sizes = TINY
+
+    def test_a_terminal(self) -> None:
+        self.lines("mkdir /photos/2024", "create /photos/two%20words")
+        terminal = Terminal(self.command("shell"), str(self.folder))
+        terminal.await_text("/> ")
+        terminal.type("ls /pho\t\n")
+        self.assertIn("two words", terminal.await_text("/> "))
+        terminal.type("undel\t/nothing\n")
+        self.assertIn("nothing of that name", terminal.await_text("/> "))
+        terminal.type("cd photos\n")
+        terminal.await_text("/photos> ")
+        terminal.type("lines\n")
+        terminal.await_text("lines> ")
+        terminal.type("ls /photos\n")
+        self.assertIn("ok 2024/ two%20words", terminal.await_text("lines> "))
+        terminal.type("\n")
+        terminal.await_text("/photos> ")
+        terminal.type("help ls\n")
+        self.assertIn("what stands in a directory", terminal.await_text("/photos> "))
+        terminal.type("frob\n")
+        self.assertIn("invalid choice", terminal.await_text("/photos> "))
+        terminal.type("\x04")
+        self.assertEqual(terminal.status(), 0)
+        self.assertIn("cd photos\n", (self.folder / "chunkfs" / "history").read_text())
+
+    def test_a_script_ends_where_something_is_wrong(self) -> None:
+        script = self.local("commands", b"# a comment\nmkdir /a /b\n\ncd /a\nmkdir c # and another\nlines create /a/f\nls\nrm /b/nothing\nmkdir /d\n")
+        told = self.fs("shell", "-f", script, status=1)
+        self.assertEqual(told.splitlines()[:3], ["ok", "c/", "f"])
+        self.assertIn("line 8: rm /b/nothing", told)
+        self.assertEqual(self.fs("ls"), "a/\nb/\n")
+
+    def test_standard_input(self) -> None:
+        self.assertEqual(self.fs("shell", said=b"mkdir '/two words'\nls\nlines\nls /\n\ncd\nexit\nmkdir /never\n"), "two words/\nok two%20words/\n")
+        self.assertIn("line 1: lines ls /nothing", self.fs("shell", said=b"lines ls /nothing\n", status=1))
+        self.assertIn("line 1: frob", self.fs("shell", said=b"frob\n", status=2))
+        self.assertEqual(self.fs("ls"), "two words/\n")
+
+    def test_help(self) -> None:
+        told = self.fs("shell", said=b"help\nhelp cd\nhelp upgrade\n")
+        for words in ("brings files and directories into the store", "lines [LINE]", "paths that don't begin with a slash", "upgrade status"):
+            self.assertIn(words, told)

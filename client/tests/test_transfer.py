@@ -1,0 +1,72 @@
+from client.tests import TINY, StoreCase, tree_of
+from client.transfer import COMING, WRITE_BYTES
+
+NAMES = ["two words", "a:b", "100%", "%20", "line\nend", ".deleted.x", "x" * 200, "\udcff"]
+
+
+class Transfers(StoreCase):
+    def test_names_and_bytes_come_out_as_they_went_in(self) -> None:
+        for at, name in enumerate(NAMES):
+            self.local(f"tree/{name}/{name}", name.encode("utf-8", "surrogateescape") * at)
+        for name, size in (("empty", 0), ("one", WRITE_BYTES), ("more", 2 * WRITE_BYTES + 1)):
+            self.local(f"tree/{name}", bytes(at * at % 251 for at in range(size)))
+        self.fs("put", "--verify", "tree", "/")
+        self.fs("get", "/tree", "out")
+        self.assertEqual(tree_of(self.folder / "out"), tree_of(self.folder / "tree"))
+        self.fs("mkdir", "/two words")
+        self.fs("get", "/tree/100%", "/tree/one", self.folder)
+        self.assertEqual((self.folder / "one").read_bytes(), (self.folder / "tree" / "one").read_bytes())
+        self.assertEqual(tree_of(self.folder / "100%"), tree_of(self.folder / "tree" / "100%"))
+
+    def test_what_stands_stays_unless_it_is_forced(self) -> None:
+        self.local("f", b"old")
+        self.fs("put", "f", "/")
+        self.local("f", b"new")
+        self.assertIn("/f: something stands there already", self.fs("put", "f", "/", status=1))
+        self.assertEqual(self.fs("cat", "/f"), "old")
+        self.fs("put", "-f", "f", "/")
+        self.assertEqual(self.fs("cat", "/f"), "new")
+        self.local("g", b"mine")
+        self.assertIn("something stands there already", self.fs("get", "/f", "g", status=1))
+        self.assertEqual((self.folder / "g").read_bytes(), b"mine")
+        self.fs("get", "-f", "/f", "g")
+        self.assertEqual((self.folder / "g").read_bytes(), b"new")
+        self.fs("mkdir", "/d/f")
+        self.assertIn("/d/f: something stands there already", self.fs("put", "-f", "f", "/d", status=1))
+
+    def test_where_it_goes(self) -> None:
+        self.local("d/f", b"f")
+        self.fs("put", "d", "/e")
+        self.fs("put", "d", "/e")
+        self.assertEqual(self.fs("find", "/"), "/\n/e\n/e/d\n/e/d/f\n/e/f\n")
+        self.assertIn("a directory is needed there", self.fs("put", "d/f", "/no/f", status=1))
+        self.assertIn("several files need a directory", self.fs("put", "d/f", "d", "/e/f", status=1))
+        self.assertIn("no file or directory", self.fs("put", "nothing", "/", status=1))
+        self.assertIn(COMING, self.fs("put", self.local(f"f{COMING}", b""), "/", status=1))
+
+    def test_what_a_killed_put_left_is_replaced(self) -> None:
+        self.local("f", b"bytes")
+        self.lines(f"create /f{COMING}", f"write /f{COMING} 0 {'00' * 9}")
+        self.fs("put", "f", "/")
+        self.assertEqual(self.fs("cat", "/f"), "bytes")
+        self.assertEqual(self.fs("ls"), "f\n")
+
+    def test_links_and_odd_files(self) -> None:
+        self.local("d/f", b"f")
+        (self.folder / "d" / "link").symlink_to("f")
+        (self.folder / "d" / "folder").symlink_to(".")
+        self.assertIn("a link to a directory is passed over", self.fs("put", "d", "/"))
+        self.assertEqual(self.fs("cat", "/d/link"), "f")
+        self.assertEqual(self.fs("ls", "/d"), "f\nlink\n")
+
+
+class Ends(StoreCase):
+    sizes = TINY
+
+    def test_ends_of_files(self) -> None:
+        self.fs("append", "/f", said=b"0123456789" * 200)
+        self.fs("append", "/f", self.local("more", b"end"))
+        self.assertEqual(self.fs("tail", "-c", "5", "/f"), "89end")
+        self.assertEqual(len(self.fs("tail", "/f")), 1_024)
+        self.assertEqual(self.fs("cat", "/f", "/f"), ("0123456789" * 200 + "end") * 2)
+        self.assertIn("a directory stands there", self.fs("cat", "/", status=1))

@@ -1,0 +1,64 @@
+import re
+
+from client.tests import TINY, StoreCase
+from client.trash import moves_of
+
+LISTED = re.compile(r"^(\S+ \S+) +(\S+) (\S+) (\S+)$", re.MULTILINE)
+
+
+class Trash(StoreCase):
+    sizes = TINY
+
+    def listed(self) -> list[tuple[str, str]]:
+        """What stands in the trash, by its size and its path of before."""
+        return [found[1:3] for found in LISTED.findall(self.fs("trash"))]
+
+    def test_what_is_deleted_comes_back(self) -> None:
+        self.lines("mkdir /a/b", "create /a/b/f", "write /a/b/f 0 616263", "create /g", "at 86400")
+        self.fs("rm", "-r", "/a/b", "/g")
+        self.assertEqual(self.listed(), [("dir", "/a/b"), ("0", "/g")])
+        self.assertIn("/a/b is back", self.fs("undelete", "/a/b"))
+        self.assertEqual(self.fs("cat", "/a/b/f"), "abc")
+        self.assertEqual(self.listed(), [("0", "/g")])
+        hidden = LISTED.search(self.fs("trash"))[4]
+        self.assertIn("/g is back", self.fs("undelete", hidden))
+        self.assertIn("nothing of that name is in the trash", self.fs("undelete", "/g", status=1))
+
+    def test_the_last_of_a_name_comes_back(self) -> None:
+        for text in (b"first", b"second"):
+            self.fs("append", "/f", said=text)
+            self.fs("rm", "/f")
+        self.fs("undelete", "/f")
+        self.assertEqual(self.fs("cat", "/f"), "second")
+        self.assertEqual(self.listed(), [("5", "/f")])
+
+    def test_where_it_is_follows_what_it_stood_in(self) -> None:
+        self.lines("create /a/f", "create /a/g", "rm /a/f", "mkdir /b", "mv /a /b", "rm /b/a/g", "mv /b /c", "rm -r /c", "rm /nothing")
+        self.assertEqual(self.listed(), [("0", "/c/a/f"), ("0", "/c/a/g"), ("dir", "/c")])
+        self.assertIn("nothing of that name", self.fs("undelete", "/c/a/f", status=1))
+        self.fs("undelete", "/c")
+        self.fs("undelete", "/c/a/f")
+        self.assertEqual(self.fs("ls", "/c/a"), "f\n")
+
+    def test_a_rollback_takes_back_what_the_trash_has(self) -> None:
+        self.lines("create /f", "create /g", "rm /f", "rollingUpgrade prepare", "rm /g")
+        self.assertEqual(self.listed(), [("0", "/f"), ("0", "/g")])
+        self.lines("rollingUpgrade rollback")
+        self.assertEqual(self.listed(), [("0", "/f")])
+
+    def test_expunge(self) -> None:
+        self.lines("create /f", "write /f 0 61", "rm /f")
+        self.assertIn("removed for good: 1 of the trash, and 1 chunks", self.fs("expunge"))
+        self.fs("mkdir", "/new")
+        self.fs("rm", "-r", "/new")
+        self.assertIn("0 of the trash", self.fs("expunge"))
+        self.assertEqual(self.listed(), [("dir", "/new")])
+        self.assertIn("1 of the trash", self.fs("expunge", "--all"))
+        self.assertEqual(self.listed(), [])
+
+    def test_which_lines_move(self) -> None:
+        self.assertEqual(moves_of("mv /a /b", ""), [("/a", "/b"), ("/a", "/b/a")])
+        self.assertEqual(moves_of("rm -r /a", "/.deleted.x"), [("/a", "/.deleted.x")])
+        self.assertEqual(moves_of("undelete /x", "/a"), [("/x", "/a")])
+        for line, told in (("rm /a", "false"), ("mkdir /a", ""), ("ls /a", "b")):
+            self.assertEqual(moves_of(line, told), [])
