@@ -85,7 +85,7 @@ module _ {D : Type 0} (seen : D → List ℕ) (failures : D → ℕ) (law : AreA
 
 -- memory is wanting
 pub lacks_memory : {A : Type 0} (Well : A → Type 0) (many all : ℕ) (refusal : Refusal) → refusal ≡ refusals.Memory → EndsAs Well many all (Err refusal)
-lacks_memory {A} Well many all refusal is = subst (λ r. EndsAs {A} Well many all (Err r)) (sym is) tt
+lacks_memory Well many all refusal is = subst (λ r. EndsAs Well many all (Err r)) (sym is) tt
 
 module _ {D : Type 0} (seen : D → List ℕ) (failures : D → ℕ) (setting : Setting) (given : List (Kept (Role D))) where
   abbrev Whole_of : List (Kept (Role D)) → List (Member (Role D)) → List Notes → Type 0

@@ -1,4 +1,5 @@
-use Rattle.std.proofs.Common.{◌≡◌, ◌∷◌, List, None, Err, ap, inr, refl, rules}
+use Rattle.std.proofs.Common.{◌≡◌, ◌∷◌, List, None, Result, Ok, Err, ap, inr, refl, subst, sym}
+use Rattle.std.specs.Prelude.{IfErr, IsErrAnd}
 use Rattle.gs_cluster.specs.inner.Seeds.{rows_of}
 use Rattle.gs_cluster_core.specs.declared.role.Role.{Role}
 use Rattle.gs_cluster_core.specs.declared.role.Role.TheVariants.{Master}
@@ -23,7 +24,9 @@ returns-clause-master g c =
       rows = ap (λ (seeds : List (Seed (Role g.row.D.Denot))). rows_of seeds) is;
     }
 
+if_err : {T E : Type 0} (r : Result T E) (x : E) (P : E → Type 0) → IsErrAnd r (λ e. e ≡ x) → P x → IfErr r P
+if_err (Ok t) x P h p = tt
+if_err (Err e) x P h p = subst P (sym h) p
+
 pub returns-in_err-master-clause-refused : goal.returns-in_err-master-clause-refused
-returns-in_err-master-clause-refused g c =
-    let e : c.from_residual.result ≡ Err c.in_err-master.field-0.0 = search rules in
-    rw e (inr c.in_err-master.ensures.refused)
+returns-in_err-master-clause-refused g c = if_err c.from_residual.result c.in_err-master.field-0.0 _ c.from_residual.ensures.1 (inr c.in_err-master.ensures.refused)
