@@ -3,6 +3,7 @@ use Rattle.std.proofs.Common.{◌≡◌, ◌∙◌, ◌+◌, ◌++◌, ℕ, fals
 use Rattle.std.proofs.lemmas.Option.{none-some}
 use Rattle.gs_base.specs.declared.config.Config.{Config}
 use Rattle.gs_base.specs.declared.refusal.Refusal.{Refusal}
+use Rattle.gs_base.specs.declared.refusal.Refusal.TheVariants as refusals
 use Rattle.gs_msg.specs.Posts.{Posted}
 use Rattle.gs_msg.specs.declared.event.DiskId.{DiskId}
 use Rattle.gs_msg.specs.declared.node.NodeId.{NodeId}
@@ -18,7 +19,7 @@ use Rattle.gs_cluster_history.specs.Merging.{Place, event_of, merged, places_of}
 use Rattle.gs_cluster_history.specs.Setting.{Setting, all_ids}
 use Rattle.gs_cluster_notes.specs.Notes.{AllKeep, post_of, posts_all}
 use Rattle.gs_cluster_notes.specs.declared.notes.Notes.{Notes}
-use Rattle.gs_cluster_threads.specs.Gathered.{IsWhole}
+use Rattle.gs_cluster_threads.specs.Gathered.{EndsAs, IsWhole}
 use Rattle.gs_cluster_threads.specs.declared.gathering.Member.{Member}
 use Rattle.gs_cluster.specs.Finished.{FinishedWhole, HasWholeRun}
 use Rattle.gs_cluster.specs.declared.gathering.Whole.{Whole}
@@ -82,6 +83,10 @@ module _ {D : Type 0} (seen : D → List ℕ) (failures : D → ℕ) (law : AreA
 
 -- ---- of which nodes
 
+-- memory is wanting
+pub lacks_memory : {A : Type 0} (Well : A → Type 0) (many all : ℕ) (refusal : Refusal) → refusal ≡ refusals.Memory → EndsAs Well many all (Err refusal)
+lacks_memory Well many all refusal is = subst (λ r. EndsAs Well many all (Err r)) (sym is) tt
+
 module _ {D : Type 0} (seen : D → List ℕ) (failures : D → ℕ) (setting : Setting) (given : List (Kept (Role D))) where
   abbrev Whole_of : List (Kept (Role D)) → List (Member (Role D)) → List Notes → Type 0
   Whole_of ks members notes = IsWhole (DoesAs seen failures) (StartsAs seen failures setting) (all_ids setting) ks members notes
@@ -93,4 +98,4 @@ module _ {D : Type 0} (seen : D → List ℕ) (failures : D → ℕ) (setting : 
   pub finishes : (members : List (Member (Role D))) (notes : List Notes) → Whole_of given members notes → (all : ℕ) → length given ≡ all → (result : Result (Whole D) Refusal) → IsStore seen failures setting members notes result
       → FinishedWhole seen failures setting given all result
   finishes members notes w all long (Ok whole) store = (long, store given w)
-  finishes members notes w all long (Err refusal) is = subst (λ r. FinishedWhole seen failures setting given all (Err r)) (sym is) tt
+  finishes members notes w all long (Err refusal) is = lacks_memory (HasWholeRun seen failures setting given) (length given) all refusal is

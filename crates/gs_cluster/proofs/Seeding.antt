@@ -3,7 +3,6 @@ use Rattle.std.proofs.Common.{◌≡◌, ◌∙◌, ◌+◌, ◌<◌, ◌≤◌,
 use Rattle.std.proofs.lemmas.List.{map-append}
 use Rattle.std.proofs.lemmas.Option.{same_Some, slice_get_past}
 use Rattle.gs_base.specs.declared.config.Config.{Config}
-use Rattle.gs_base.specs.declared.refusal.Refusal.TheVariants as refusals
 use Rattle.gs_client.specs.Nodes.{silent}
 use Rattle.gs_msg.specs.declared.message.Message.{Message}
 use Rattle.gs_msg.specs.declared.node.NodeId.{NodeId}
@@ -22,7 +21,7 @@ use Rattle.gs_cluster_history.specs.Setting.{Setting, all_ids, client_ids, serve
 use Rattle.gs_cluster_threads.specs.Wired.{MayBegin, fresh, numbers_of}
 use Rattle.gs_cluster_threads.specs.declared.wiring.Seed.{Seed}
 use Rattle.gs_cluster.specs.Calling.{fresh_clients}
-use Rattle.gs_cluster.specs.Opened.{IsNew, WhyNoMaster, name_at, names_of}
+use Rattle.gs_cluster.specs.Opened.{IsNew, name_at, names_of}
 use Rattle.gs_cluster.specs.inner.Seeds.{BeginsSo, Row, client_rows, row_of, rows_of, server_rows}
 use Rattle.gs_cluster.proofs.Listed.{counted, counted_at, counted_long}
 use Rattle.gs_cluster.proofs.Lists.{at_before, at_behind, at_map, below_or, found, length_map, same_lists}
@@ -114,16 +113,13 @@ module _ {D : Type 0} (seen : D → List ℕ) (failures : D → ℕ) (config : C
   pub is_new : 1 ≤ clients → clients ≤ 16 → IsNew seen failures setting seeds
   is_new some few = record { some = some; few = few; all = all; starts = starts }
 
--- memory is wanting
-pub no_memory : {D : Type 0} (seen : D → List ℕ) (failures : D → ℕ) (config : Config) (disks : D × D) → WhyNoMaster seen failures config disks refusals.Memory
-no_memory seen failures config disks = (record { refusal = refusals.Memory; first = disks.0; second = disks.1 }, refl, inl (refl, refl, refl))
-
--- the master, then the servers, then the clients
-pub rows_joined : {D : Type 0} (config : Config) (clients : ℕ) (none one more all : List (Seed (Role D))) (first : Seed (Role D))
-    → none ≡ [] → one ≡ none ++ first ∷ [] → rows_of more ≡ rows_of one ++ server_rows config config.servers → rows_of all ≡ rows_of more ++ client_rows clients
-    → rows_of all ≡ row_of first ∷ (server_rows config config.servers ++ client_rows clients)
-rows_joined {D} config clients none one more whole first nothing push servers rest =
-    rest ∙ ap (λ (rs : List (Row D)). rs ++ client_rows clients) (servers ∙ ap (λ (ss : List (Seed (Role D))). rows_of ss ++ server_rows config config.servers) (push ∙ ap (λ (ss : List (Seed (Role D))). ss ++ first ∷ []) nothing))
+-- the servers, then the clients
+pub rows_joined : {D : Type 0} (config : Config) (clients : ℕ) (none some all kept : List (Seed (Role D)))
+    → none ≡ [] → rows_of some ≡ rows_of none ++ server_rows config config.servers → rows_of all ≡ rows_of some ++ client_rows clients → kept ≡ all
+    → rows_of kept ≡ server_rows config config.servers ++ client_rows clients
+rows_joined {D} config clients none some all kept nothing servers rest same =
+    ap (λ (ss : List (Seed (Role D))). rows_of ss) same ∙ rest
+    ∙ ap (λ (rs : List (Row D)). rs ++ client_rows clients) (servers ∙ ap (λ (ss : List (Seed (Role D))). rows_of ss ++ server_rows config config.servers) nothing)
 
 -- ---- names, and nodes that have done nothing
 

@@ -1,5 +1,5 @@
 -- What a cluster has come to when its threads have ended.
-use Rattle.std.specs.Prelude.{◌≡◌, ℕ, List, length, map, Result}
+use Rattle.std.specs.Prelude.{◌≡◌, ℕ, Bool, true, false, List, length, map, Option, Some, None, Result}
 use Rattle.gs_base.specs.declared.refusal.Refusal.{Refusal}
 use Rattle.gs_msg.specs.declared.event.DiskId.{DiskId}
 use Rattle.gs_nodes.specs.Nodes.{nodes_of}
@@ -39,3 +39,12 @@ module _ {D : Type 0} (seen : D → List ℕ) (failures : D → ℕ) (setting : 
   -- It is given only where these are so many, and `Stray` is said only where they aren't.
   abbrev pub FinishedWhole : ℕ → Result (Whole D) Refusal → Type 0
   FinishedWhole all result = EndsAs HasWholeRun (length given) all result
+
+  -- Nodes that were to keep notes are given with their run. If no notes were wanted there is none, and that is said.
+  abbrev pub HasWholeIfNoted : Bool → Option (Whole D) → Type 0
+  HasWholeIfNoted noted None = noted ≡ false
+  HasWholeIfNoted noted (Some whole) = (noted ≡ true) × HasWholeRun whole
+
+  -- Either is given only where these are so many, and `Stray` is said only where they aren't.
+  abbrev pub FinishedIfNoted : Bool → ℕ → Result (Option (Whole D)) Refusal → Type 0
+  FinishedIfNoted noted all result = EndsAs (HasWholeIfNoted noted) (length given) all result

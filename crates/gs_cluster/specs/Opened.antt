@@ -1,7 +1,6 @@
 -- The nodes of a store that has begun new, each with a channel into it, and the names of these channels.
 use Rattle.std.specs.Prelude.{◌≡◌, ◌⊎◌, ◌<◌, ◌≤◌, ◌+◌, ℕ, List, Option, Some, None, slice_get}
 use Rattle.gs_base.specs.declared.config.Config.{Config}
-use Rattle.gs_base.specs.declared.refusal.Refusal.{Refusal}
 use Rattle.gs_base.specs.declared.refusal.Refusal.TheVariants as refusals
 use Rattle.gs_journal.specs.declared.journal.Unopened.{Unopened}
 use Rattle.gs_msg.specs.declared.node.NodeId.{NodeId}
@@ -23,14 +22,12 @@ pub record IsNew {D : Type 0} (seen : D → List ℕ) (failures : D → ℕ) (se
   pub all : numbers_of seeds ≡ all_ids setting
   pub starts : (s : Seed (Role D)) → Among seeds s → StartsAs seen failures setting s.line.me s.core s.turn.sent.items
 
--- Why there is none of these disks: memory is wanting, or they can't be opened.
-abbrev pub WhyNoMaster : {D : Type 0} → (D → List ℕ) → (D → ℕ) → Config → D × D → Refusal → Type 0
-WhyNoMaster {D} seen failures config disks refusal = (u : Unopened D) × (refusal ≡ u.refusal) × WhyNotBegun seen failures config disks u
-
--- Why there is none: `Config` where there are no clients or more than 16, whatever the disks are, and else that.
-abbrev pub WhyNotOpened : {D : Type 0} → (D → List ℕ) → (D → ℕ) → Config → ℕ → D × D → Refusal → Type 0
-WhyNotOpened seen failures config clients disks refusal =
-    ((refusal ≡ refusals.Config) × ((clients ≡ 0) ⊎ (16 < clients))) ⊎ ((1 ≤ clients) × (clients ≤ 16) × WhyNoMaster seen failures config disks refusal)
+-- Why there is none: `Config` where there are no clients or more than 16, whatever the disks are, and these are as they were; and else that
+-- memory is wanting, or they can't be opened.
+abbrev pub WhyNotOpened : {D : Type 0} → (D → List ℕ) → (D → ℕ) → Config → ℕ → D × D → Unopened D → Type 0
+WhyNotOpened seen failures config clients disks u =
+    ((u.refusal ≡ refusals.Config) × ((clients ≡ 0) ⊎ (16 < clients)) × (u.first ≡ disks.0) × (u.second ≡ disks.1))
+    ⊎ ((1 ≤ clients) × (clients ≤ 16) × WhyNotBegun seen failures config disks u)
 
 -- where the node of a number stands, with so many servers
 abbrev pub place_in : ℕ → NodeId → ℕ

@@ -1,5 +1,5 @@
 ghost use Rattle.std.specs.Prelude.{◌≡◌, ◌+◌, ◌++◌, ◌≤◌, All, IfOk, length, map, vec_len};
-ghost use Rattle.gs_cluster.specs.Finished.{Finished, FinishedWhole};
+ghost use Rattle.gs_cluster.specs.Finished.{Finished, FinishedIfNoted};
 ghost use Rattle.gs_cluster.specs.Opened.{IsNew, names_of};
 ghost use Rattle.gs_cluster.specs.Calling.{fresh_clients};
 ghost use Rattle.gs_cluster.specs.declared.caller.Caller.{Caller as ACaller};
@@ -32,6 +32,7 @@ where
 {
     alloc: Global,
     config: Config,
+    are_noted: bool,
     pub hosts: Hosts<N, Role<D>>,
     ghost sizes: { config ≡ N.setting.config },
     pub ghost many: { vec_len hosts.handles + N.setting.clients ≡ length (all_ids N.setting) },
@@ -132,6 +133,7 @@ impl<N: Plan + Send + Sync + 'static, D: Disk + Drop + Send + 'static> Cluster<N
         requires names { N.names ≡ names_of N.setting.config.servers opened.seeds.items }
         requires config { opened.config ≡ N.setting.config }
         requires new { IsNew D.seen D.failures N.setting opened.seeds.items }
+        ensures noted { IfOk result (λ started. started.0.are_noted ≡ opened.are_noted) }
         ensures clients { IfOk result (λ started. map (λ (c : ACaller N D R). c.node) started.1.items ≡ fresh_clients N.setting.clients) }
         ensures moments { IfOk result (λ started. All (λ (c : ACaller N D R). c.moment ≡ record { 0 = 0 }) started.1.items) }
     {
@@ -147,6 +149,7 @@ impl<N: Plan + Send + Sync + 'static, D: Disk + Drop + Send + 'static> Cluster<N
         let cluster = Cluster {
             alloc,
             config,
+            are_noted,
             hosts,
         };
         Ok((cluster, callers))
@@ -165,6 +168,7 @@ impl<N: Plan + Send + Sync + 'static, D: Disk + Drop + Send + 'static> Cluster<N
         let Cluster {
             alloc,
             config,
+            are_noted: _,
             hosts,
         } = self;
         let Gathered { members, notes: _ } = ended(rt, alloc, hosts, callers)?;
@@ -173,21 +177,28 @@ impl<N: Plan + Send + Sync + 'static, D: Disk + Drop + Send + 'static> Cluster<N
     }
 
     /// Ends the threads as `finish` does, of nodes that were to keep notes, and gives with the nodes all that they have ever sent, and the events
-    /// that led to them: in the order of the clocks they are a run of a store from its beginning to this one. `Memory` too where no notes were
-    /// wanted, or memory was wanting for one. It is given only where no caller is missing.
+    /// that led to them: in the order of the clocks they are a run of a store from its beginning to this one. Where no notes were wanted there
+    /// is none. `Memory` too where memory was wanting for a note. Either is given only where no caller is missing.
     pub fn finish_whole<R: Threads + Wait + Clock + Drop>(
         self,
         rt: &R,
         callers: Vec<Caller<N, D, R>>,
-    ) -> Result<Whole<D>, Refusal>
-        ensures { FinishedWhole D.seen D.failures N.setting (map (λ (c : ACaller N D R). c.node) callers.items) N.setting.clients result }
+    ) -> Result<Option<Whole<D>>, Refusal>
+        ensures { FinishedIfNoted D.seen D.failures N.setting (map (λ (c : ACaller N D R). c.node) callers.items) self.are_noted N.setting.clients result }
     {
         let Cluster {
             alloc,
             config,
+            are_noted,
             hosts,
         } = self;
         let gathered = ended(rt, alloc, hosts, callers)?;
-        whole_of::<N, D>(alloc, config, gathered)
+        if !are_noted {
+            return Ok(None);
+        }
+        match whole_of::<N, D>(alloc, config, gathered) {
+            Ok(whole) => Ok(Some(whole)),
+            Err(refusal) => Err(refusal),
+        }
     }
 }

@@ -2,6 +2,7 @@ ghost use Rattle.gs_cluster.specs.Opened.{IsNew, names_of};
 ghost use Rattle.gs_journal.specs.Memory.{bytes_of, times_failed};
 ghost use Rattle.std.specs.Prelude.{◌≡◌};
 
+use crate::opening::opened_over_empty;
 use crate::whole::{delivered, many_sent, sends_the_same};
 use gs_base::{ClientId, Config, Handle, Moment, Refusal, ReqId, ServerId, Stamp};
 use gs_client::Reply;
@@ -11,7 +12,7 @@ use gs_cluster_node::{Node, Open, Plan};
 use gs_cluster_threads::wire;
 use gs_journal::MemoryDisk;
 use gs_msg::{Answer, Asked, Call, Event, Happening, NodeId, Request};
-use gs_nodes::{Nodes, empty_disks};
+use gs_nodes::Nodes;
 use gs_path::Path;
 use std::alloc::Global;
 use std::marker::Brand;
@@ -124,7 +125,7 @@ fn whole_of<R: Wait>(
     are_noted: bool,
     many: usize,
 ) -> Result<Whole<MemoryDisk>, Refusal> {
-    let mut opened = Opened::new(alloc, sizes()?, 4, empty_disks(alloc))?;
+    let mut opened = opened_over_empty(alloc, sizes()?, 4)?;
     opened.are_noted = are_noted;
     gathered::<Brand, R>(rt, alloc, opened, many)
 }

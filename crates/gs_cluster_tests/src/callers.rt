@@ -2,12 +2,14 @@ ghost use Rattle.gs_cluster.specs.Opened.{IsNew, names_of};
 ghost use Rattle.gs_journal.specs.Memory.{bytes_of, times_failed};
 ghost use Rattle.std.specs.Prelude.{◌≡◌};
 
+use crate::opening::opened_over_empty;
 use crate::whole::{delivered, many_sent, sends_the_same};
 use gs_base::{ClientId, Config, Moment, Refusal};
 use gs_cluster::{Caller, Cluster, Opened, Whole};
 use gs_cluster_node::{Open, Plan};
-use gs_journal::MemoryDisk;
+use gs_journal::{MemoryDisk, Unopened};
 use gs_nodes::{Nodes, empty_disks};
+use gs_path::Path;
 use gs_shell_desk::{Desk as OneThread, Wire};
 use gs_shell_script::Answering;
 use gs_shell_threads::Desk;
@@ -22,6 +24,10 @@ use std::time::Clock;
 
 /// How many writes each caller makes.
 const WRITES: u64 = 50;
+
+/// A path of 64 elements, the most that one has that is read.
+const DEEPEST: &'static str =
+    "/d/d/d/d/d/d/d/d/d/d/d/d/d/d/d/d/d/d/d/d/d/d/d/d/d/d/d/d/d/d/d/d/d/d/d/d/d/d/d/d/d/d/d/d/d/d/d/d/d/d/d/d/d/d/d/d/d/d/d/d/d/d/d/d";
 
 /// What a caller was answered: how many lines were accepted, how many were unsure, and whether a read gave all that was written in the end.
 #[derive(Drop)]
@@ -223,8 +229,7 @@ fn four_write<
         links,
         first,
     } = told_by(rt, alloc, handles)?;
-    let whole = cluster.finish_whole(rt, links)?;
-    let Some(caller) = first else {
+    let (Some(whole), Some(caller)) = (cluster.finish_whole(rt, links)?, first) else {
         return Err(Refusal::Stray);
     };
     Ok(Written {
@@ -242,7 +247,7 @@ fn four_write<
 fn four_callers_write_at_once(rt: HostRuntime) -> Result<(), Fail> {
     let alloc = rt.alloc();
     let config = Config::new(3, 1, 3, 64, 256)?;
-    let mut opened = Opened::new(alloc, config, 4, empty_disks(alloc))?;
+    let mut opened = opened_over_empty(alloc, config, 4)?;
     opened.are_noted = true;
     let Written {
         accepted,
@@ -288,18 +293,76 @@ fn finished_alone<
 fn a_caller_that_is_missing_is_missed(rt: HostRuntime) -> Result<(), Fail> {
     let alloc = rt.alloc();
     let config = Config::new(1, 1, 1, 4, 16)?;
-    let opened = Opened::new(alloc, config, 1, empty_disks(alloc))?;
+    let opened = opened_over_empty(alloc, config, 1)?;
     assert!(rt; finished_alone::<Brand, HostRuntime>(&rt, alloc, opened)?);
     Ok(())
 }
 
+/// Whether a call that names a path of 65 elements is refused for that, and one that names a path of 64 is taken.
+fn takes_64<N: Plan, T: Wait + Clock + Drop>(
+    alloc: Global,
+    config: Config,
+    link: &mut Caller<N, MemoryDisk, T>,
+) -> Result<bool, Refusal> {
+    let mut caller = gs_shell_calls::Caller::new(alloc, ClientId(1), config);
+    let path = Path::parse(alloc, DEEPEST)?;
+    let Some(name) = path.name() else {
+        return Ok(false);
+    };
+    let deep = path.join(alloc, name)?;
+    let refused = caller.client.mkdirs(link, deep);
+    let taken = caller.client.mkdirs(link, path);
+    Ok(matches!(refused, Err(Refusal::BadPath)) && taken.is_ok())
+}
+
+/// The same of the one caller of a cluster, which is finished behind it.
+fn cluster_takes_64<
+    N: Plan + Send + Sync + 'static,
+    T: Threads + Wait + Clock + Copy + Drop + Send + Sync + 'static,
+>(rt: &T, alloc: Global, opened: Opened<MemoryDisk>) -> Result<bool, Refusal>
+    requires names { N.names ≡ names_of N.setting.config.servers opened.seeds.items }
+    requires config { opened.config ≡ N.setting.config }
+    requires new { IsNew bytes_of times_failed N.setting opened.seeds.items }
+{
+    let config = opened.config;
+    let (cluster, callers) = Cluster::<N, MemoryDisk>::start(rt, alloc, Open, opened)?;
+    let mut callers = callers;
+    let Some(link) = callers.first_mut() else {
+        return Err(Refusal::Stray);
+    };
+    let takes = takes_64(alloc, config, link)?;
+    let _nodes = cluster.finish(rt, callers)?;
+    Ok(takes)
+}
+
+#[test]
+fn a_path_of_65_elements_is_refused(rt: HostRuntime) -> Result<(), Fail> {
+    let alloc = rt.alloc();
+    let config = Config::new(1, 1, 1, 4, 16)?;
+    let opened = opened_over_empty(alloc, config, 1)?;
+    assert!(rt; cluster_takes_64::<Brand, HostRuntime>(&rt, alloc, opened)?);
+    Ok(())
+}
+
+/// Too few and too many are refused. The disks that come back are opened with as many as there may be.
 #[test]
 fn there_are_one_to_sixteen_clients(rt: HostRuntime) -> Result<(), Fail> {
     let alloc = rt.alloc();
     let config = Config::new(1, 1, 1, 4, 16)?;
     for clients in [0, 17] {
         let refused = Opened::new(alloc, config, clients, empty_disks(alloc)).err();
-        assert!(rt; matches!(refused, Some(Refusal::Config)));
+        let Some(
+            Unopened {
+                refusal,
+                first,
+                second,
+            },
+        ) = refused
+        else {
+            return Err(Fail::new("they were taken"));
+        };
+        assert!(rt; matches!(refusal, Refusal::Config));
+        assert!(rt; Opened::new(alloc, config, 16, (first, second)).is_ok());
     }
     Ok(())
 }

@@ -2,12 +2,12 @@ ghost use Rattle.gs_cluster.specs.Opened.{IsNew, names_of};
 ghost use Rattle.gs_journal.specs.Memory.{bytes_of, times_failed};
 ghost use Rattle.std.specs.Prelude.{◌≡◌};
 
+use crate::opening::opened_over_empty;
 use gs_base::{ClientId, Config, Refusal};
 use gs_cluster::{Cluster, Opened};
 use gs_cluster_node::{Gate, Plan};
 use gs_journal::MemoryDisk;
 use gs_msg::NodeId;
-use gs_nodes::empty_disks;
 use gs_shell_calls::Caller;
 use gs_shell_script::Answering;
 use gs_shell_threads::Desk;
@@ -133,7 +133,7 @@ fn steps_of_two_nodes_and_of_two_threads_of_one_node_overlap(rt: HostRuntime) ->
     let gate = Held {
         steps: Arc::try_clone(&steps)?,
     };
-    let opened = Opened::new(alloc, config, 1, empty_disks(alloc))?;
+    let opened = opened_over_empty(alloc, config, 1)?;
     let answers = written::<Brand, HostRuntime>(&rt, alloc, gate, opened)?;
     assert_eq!(rt; answers.as_str(), "ok\nok\nok 61");
     assert!(rt; steps.other_went.load(Ordering::SeqCst));

@@ -9,6 +9,8 @@ mod callers;
 #[cfg(test)]
 mod gate;
 #[cfg(test)]
+mod opening;
+#[cfg(test)]
 mod script;
 #[cfg(test)]
 mod whole;

@@ -7,12 +7,13 @@ use Rattle.gs_base.specs.declared.refusal.Refusal.{Refusal}
 use Rattle.gs_base.specs.declared.refusal.Refusal.TheVariants as refusals
 use Rattle.gs_cluster.specs.Calling.{fresh_clients}
 use Rattle.gs_cluster.specs.Finished.{Finished, HasRun}
-use Rattle.gs_cluster.specs.Opened.{WhyNoMaster, WhyNotOpened}
+use Rattle.gs_cluster.specs.Opened.{WhyNotOpened}
 use Rattle.gs_cluster.specs.declared.caller.Caller.{Caller}
 use Rattle.gs_cluster_core.specs.declared.role.Role.{Role}
 use Rattle.gs_cluster_history.specs.Histories.{Kept}
 use Rattle.gs_cluster_history.specs.Setting.{Setting}
 use Rattle.gs_journal.specs.Memory.{bytes_of, times_failed}
+use Rattle.gs_journal.specs.declared.journal.Unopened.{Unopened}
 use Rattle.gs_journal.specs.declared.memory.MemoryDisk.{MemoryDisk}
 use Rattle.gs_nodes.specs.NewDisks.{AreEmpty, OverEmpty}
 use Rattle.gs_nodes.specs.declared.nodes.Nodes.{Nodes}
@@ -21,7 +22,7 @@ use Rattle.gs_shell_script.specs.Run.{RunFails, Writes}
 use Rattle.gs_shell_script.specs.declared.RunFault.{RunFault}
 use Rattle.gs_shell_script.specs.declared.RunFault.TheVariants as fault
 use Rattle.gs_shell_threads.specs.Answering.{AnswersText}
-use Rattle.gs_shell_threads.specs.Serving.{Asks, AsksInARun, Ends, ServeFails, Serves}
+use Rattle.gs_shell_threads.specs.Serving.{Asks, AsksInARun, Ends, ServeFails, Serves, WhyNoStore}
 use Rattle.gs_shell_threads.specs.declared.desk.Desk.{Desk}
 
 -- what is said of an input that is known, where a run ends well
@@ -117,17 +118,17 @@ module _ {N D T : Type 0} (seen : D → List ℕ) (failures : D → ℕ) (settin
 -- ---- no store is begun
 
 -- one client is neither none nor too many
-pub no_master : {D : Type 0} (seen : D → List ℕ) (failures : D → ℕ) (config : Config) (disks : D × D) (refusal : Refusal) → WhyNotOpened seen failures config 1 disks refusal → WhyNoMaster seen failures config disks refusal
-no_master seen failures config disks refusal (inl (is, inl none)) = absurd (omega (arith, none))
-no_master seen failures config disks refusal (inl (is, inr many)) = absurd (omega (arith, many))
-no_master seen failures config disks refusal (inr (some, few, why)) = why
+pub no_store : {D : Type 0} (seen : D → List ℕ) (failures : D → ℕ) (config : Config) (disks : D × D) (u : Unopened D) → WhyNotOpened seen failures config 1 disks u → WhyNoStore seen failures config disks u.refusal
+no_store seen failures config disks u (inl (is, inl none, first, second)) = absurd (omega (arith, none))
+no_store seen failures config disks u (inl (is, inr many, first, second)) = absurd (omega (arith, many))
+no_store seen failures config disks u (inr (some, few, why)) = (u, refl, why)
 
 -- memory is wanting to begin one over these disks
-by_memory : {D : Type 0} (seen : D → List ℕ) (failures : D → ℕ) (config : Config) (disks : D × D) (refusal : Refusal) → refusal ≡ refusals.Memory → WhyNoMaster seen failures config disks refusal
+by_memory : {D : Type 0} (seen : D → List ℕ) (failures : D → ℕ) (config : Config) (disks : D × D) (refusal : Refusal) → refusal ≡ refusals.Memory → WhyNoStore seen failures config disks refusal
 by_memory seen failures config disks refusal is = (record { refusal = refusal; first = disks.0; second = disks.1 }, refl, inl (is, refl, refl))
 
 begins_over : (N T : Type 0) {D : Type 0} (seen : D → List ℕ) (failures : D → ℕ) (setting : Setting) (disks : D × D) (e : RunFault) (before unread old new : Option (List ℕ))
-    → ServeFails N T seen failures setting (λ refusal. refusal ≡ refusals.Memory) e before unread old new → ServeFails N T seen failures setting (WhyNoMaster seen failures setting.config disks) e before unread old new
+    → ServeFails N T seen failures setting (λ refusal. refusal ≡ refusals.Memory) e before unread old new → ServeFails N T seen failures setting (WhyNoStore seen failures setting.config disks) e before unread old new
 begins_over N T seen failures setting disks fault.Read before unread old new fails = fails
 begins_over N T seen failures setting disks fault.Write before unread old new fails = fails
 begins_over N T seen failures setting disks (fault.Refused refusal) before unread old new (inl not) = inl (record { why = by_memory seen failures setting.config disks refusal not.why; unread = not.unread; unwritten = not.unwritten })
@@ -136,6 +137,6 @@ begins_over N T seen failures setting disks (fault.Refused refusal) before unrea
 -- over disks in memory with nothing on them
 pub fails_over : (N T : Type 0) (setting : Setting) (disks : MemoryDisk × MemoryDisk) → AreEmpty disks → (r : Result (Unit {0}) RunFault) (before unread old new : Option (List ℕ))
     → IfErr r (λ e. ServeFails N T bytes_of times_failed setting (λ refusal. refusal ≡ refusals.Memory) e before unread old new)
-    → IfErr r (λ e. OverEmpty (λ d. ServeFails N T bytes_of times_failed setting (WhyNoMaster bytes_of times_failed setting.config d) e before unread old new))
+    → IfErr r (λ e. OverEmpty (λ d. ServeFails N T bytes_of times_failed setting (WhyNoStore bytes_of times_failed setting.config d) e before unread old new))
 fails_over N T setting disks empty (Ok x) before unread old new fails = tt
 fails_over N T setting disks empty (Err e) before unread old new fails = (disks, empty, begins_over N T bytes_of times_failed setting disks e before unread old new fails)

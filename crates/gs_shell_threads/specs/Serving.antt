@@ -1,16 +1,23 @@
 -- What a run of the shell writes where the nodes run in threads.
 use Rattle.std.specs.Prelude.{◌≡◌, ◌⊎◌, ℕ, List, [], ◌∷◌, Option, IfSome, Result, Ok, Err}
+use Rattle.gs_base.specs.declared.config.Config.{Config}
 use Rattle.gs_base.specs.declared.refusal.Refusal.{Refusal}
 use Rattle.gs_base.specs.declared.refusal.Refusal.TheVariants as refusals
 use Rattle.gs_cluster.specs.Calling.{fresh_clients}
 use Rattle.gs_cluster.specs.Finished.{HasRun}
 use Rattle.gs_cluster_history.specs.Setting.{Setting}
+use Rattle.gs_journal.specs.declared.journal.Unopened.{Unopened}
+use Rattle.gs_nodes.specs.Happenings.{WhyNotBegun}
 use Rattle.gs_nodes.specs.declared.nodes.Nodes.{Nodes}
 use Rattle.gs_shell_script.specs.Run.{RunFails, Writes}
 use Rattle.gs_shell_script.specs.declared.RunFault.{RunFault}
 use Rattle.gs_shell_script.specs.declared.RunFault.TheVariants as fault
 use Rattle.gs_shell_threads.specs.Answering.{AnswersText}
 use Rattle.gs_shell_threads.specs.declared.desk.Desk.{Desk}
+
+-- Why none is begun over these disks: memory is wanting, or they can't be opened.
+abbrev pub WhyNoStore : {D : Type 0} → (D → List ℕ) → (D → ℕ) → Config → D × D → Refusal → Type 0
+WhyNoStore {D} seen failures config disks refusal = (u : Unopened D) × (refusal ≡ u.refusal) × WhyNotBegun seen failures config disks u
 
 -- For the types of the desk, what is seen of a disk, how often one has failed, and with what the store begins.
 module _ (N T : Type 0) {D : Type 0} (seen : D → List ℕ) (failures : D → ℕ) (setting : Setting) where

@@ -3,10 +3,10 @@
 #![tactic(auto)]
 
 ghost use Rattle.std.specs.Prelude.{◌≡◌, [], IfErr, IfSome, OnOk};
-ghost use Rattle.gs_cluster.specs.Opened.{IsNew, WhyNoMaster, names_of};
+ghost use Rattle.gs_cluster.specs.Opened.{IsNew, names_of};
 ghost use Rattle.gs_journal.specs.Memory.{bytes_of, times_failed};
 ghost use Rattle.gs_nodes.specs.NewDisks.{OverEmpty};
-ghost use Rattle.gs_shell_threads.specs.Serving.{ServeFails, Serves};
+ghost use Rattle.gs_shell_threads.specs.Serving.{ServeFails, Serves, WhyNoStore};
 ghost use Rattle.std.specs.declared.marker.Brand.{Brand as TheBrand};
 
 mod answering;
@@ -88,12 +88,12 @@ pub fn run_threads<
     ensures ok { OnOk result (IfSome (R.remaining reader.old) (λ input.
         Serves TheBrand T bytes_of times_failed (record { config = config; clients = 1; texts = ([], []) }) input (W.contents writer.old) (W.contents writer.new))) }
     ensures err { IfErr result (λ e. OverEmpty (λ disks.
-        ServeFails TheBrand T bytes_of times_failed (record { config = config; clients = 1; texts = ([], []) }) (WhyNoMaster bytes_of times_failed config disks) e (R.remaining reader.old) (R.remaining reader.new) (W.contents writer.old) (W.contents writer.new))) }
+        ServeFails TheBrand T bytes_of times_failed (record { config = config; clients = 1; texts = ([], []) }) (WhyNoStore bytes_of times_failed config disks) e (R.remaining reader.old) (R.remaining reader.new) (W.contents writer.old) (W.contents writer.new))) }
 {
     let disks = empty_disks(alloc);
     let opened = match Opened::new(alloc, config, 1, disks) {
         Ok(opened) => opened,
-        Err(refusal) => return Err(RunFault::Refused(refusal)),
+        Err(unopened) => return Err(RunFault::Refused(unopened.refusal)),
     };
     serve::<Brand, MemoryDisk, T, Open, R, W>(rt, alloc, Open, opened, reader, writer)
 }

@@ -38,3 +38,9 @@ pub record BeginsSo {D : Type 0} (seen : D → List ℕ) (failures : D → ℕ) 
   pub turn : Turn
   pub row : row_of s ≡ (ids.Master, (Master place, turn.sent.items))
   pub opens : Opens seen failures config disks (Ok turn) place
+
+-- that master, and behind it these
+pub record HasMaster {D : Type 0} (seen : D → List ℕ) (failures : D → ℕ) (config : Config) (disks : D × D) (behind : List (Row D)) (seeds : List (Seed (Role D))) : Type 0 where
+  pub master : Seed (Role D)
+  pub begins : BeginsSo seen failures config disks master
+  pub rows : rows_of seeds ≡ row_of master ∷ behind

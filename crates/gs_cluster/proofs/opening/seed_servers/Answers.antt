@@ -16,9 +16,8 @@ loop-number-preserved g c =
     let id = found_number c.new.result _ _ c.new.ensures.number c.unwrap-id.ensures in
     let row =
     c.in_ok-seed_of.ensures
-    ∙ ap (λ k. (ids.Server k, (AServer c.in_ok-new.field-0, c.new-in-loop-number-2.result.items))) id
-    ∙ ap (λ s. (ids.Server n, (AServer s, c.new-in-loop-number-2.result.items))) (c.in_ok-new.ensures ∙ ap (λ k. servers.new k config.block config.chunk) id)
-    ∙ ap (λ ms. (ids.Server n, (AServer made, ms))) c.new-in-loop-number-2.ensures.items in
+    ∙ ap (λ k. (ids.Server k, (AServer c.in_ok-new.field-0, []))) id
+    ∙ ap (λ s. (ids.Server n, (AServer s, []))) (c.in_ok-new.ensures ∙ ap (λ k. servers.new k config.block config.chunk) id) in
     ap rows_of c.in_ok-push.ensures.items ∙ map-append row_of before (c.in_ok-seed_of.field-0 ∷ [])
     ∙ ap (λ r. rows_of before ++ r ∷ []) row
     ∙ ap (λ rs. rs ++ (ids.Server n, (AServer made, [])) ∷ []) c.loop-number.invariant
