@@ -25,16 +25,6 @@ class Restorable:
     servers: int
 
 
-def prepared_chunks(session: Session) -> dict[int, list[str]]:
-    """The chunks of all files in a store that stands just behind its prepare, with their paths."""
-    told: dict[int, list[str]] = defaultdict(list)
-    for path, is_directory in list(walk_names(session, "/")):
-        if not is_directory:
-            for chunk in read_entry(path, session.ask("stat", path)).chunks:
-                told[chunk.handle].append(path)
-    return told
-
-
 def runs_to_prepare(again: Session, lines: Iterable[str], epoch: int) -> None:
     """Runs lines in a store without a file up to the prepare that began an epoch. No line behind it is sent."""
     waiting = []
