@@ -1,6 +1,7 @@
 """What stands in a store: its names, files and chunks, by the lines that tell of them."""
 
 import hashlib
+import itertools
 from collections.abc import Iterable, Iterator
 from dataclasses import dataclass
 
@@ -10,6 +11,8 @@ from client.session import Answer, Session
 
 # A server gives so many bytes of a file in one answer.
 READ_BYTES = 524_288
+# So many answers of that size are waited for where somebody leaves off.
+READS_AHEAD = 16
 NOT_FOUND = 3
 
 
@@ -120,11 +123,13 @@ def need_directory(session: Session, path: str) -> None:
 
 def read_bytes(session: Session, path: str, start: int, size: int) -> Iterator[bytes]:
     """The bytes of a file from a place on, up to its size, all of which have to come."""
-    for answer in session.ask_all(f"read {path} {at} {min(READ_BYTES, size - at)}" for at in range(start, size, READ_BYTES)):
-        part = bytes.fromhex(answer.value)
-        if len(part) != int(answer.line.split(" ")[3]):
-            raise Failed(f"{shown(path)}: fewer bytes come than its size says")
-        yield part
+    lines = (f"read {path} {at} {min(READ_BYTES, size - at)}" for at in range(start, size, READ_BYTES))
+    while some := list(itertools.islice(lines, READS_AHEAD)):
+        for answer in session.ask_all(some):
+            part = bytes.fromhex(answer.value)
+            if len(part) != int(answer.line.split(" ")[3]):
+                raise Failed(f"{shown(path)}: fewer bytes come than its size says")
+            yield part
 
 
 def sha256_of(parts: Iterable[bytes]) -> str:
