@@ -2,7 +2,6 @@
 
 from argparse import Namespace
 from collections import defaultdict
-from collections.abc import Iterable
 from fnmatch import fnmatchcase
 
 from client.names import child, last, line_path, parent, shown
@@ -13,8 +12,8 @@ from client.session import Answer, Session
 from client.store import Entry, children, is_directory, stat, stats, told_below, walk, walk_names
 
 
-def size_text(size: int, is_human: bool) -> str:
-    return human(size) if is_human else str(size)
+def size_text(size: int, asked: Namespace) -> str:
+    return human(size) if asked.human else str(size)
 
 
 def entry_line(entry: Entry | Answer, asked: Namespace, name: str) -> str:
@@ -26,7 +25,7 @@ def entry_line(entry: Entry | Answer, asked: Namespace, name: str) -> str:
         return name
     kind = "d" if entry.is_directory else "-"
     replicas = "-" if entry.replicas is None else str(entry.replicas)
-    size = "-" if entry.is_directory else size_text(entry.size, asked.human)
+    size = "-" if entry.is_directory else size_text(entry.size, asked)
     return f"{kind} {replicas:>2} {size:>12} {name}"
 
 
@@ -51,11 +50,10 @@ def ls(session: Session, asked: Namespace) -> int:
 def du(session: Session, asked: Namespace) -> int:
     """The bytes of what stands in a directory, and those that all replicas of it take."""
 
-    def tell(path: str, entries: Iterable[Entry]) -> None:
-        entries = list(entries)
+    def tell(path: str, entries: list[Entry]) -> None:
         whole = sum(entry.size for entry in entries)
         stored = sum(stored_bytes(entry, session.sizes.chunk) for entry in entries)
-        say(f"{size_text(whole, asked.human):>12} {size_text(stored, asked.human):>12} {shown(path)}")
+        say(f"{size_text(whole, asked):>12} {size_text(stored, asked):>12} {shown(path)}")
 
     def sum_one(path: str) -> None:
         top = line_path(path, asked.folder)
@@ -87,7 +85,7 @@ def count(session: Session, asked: Namespace) -> int:
         top = line_path(path, asked.folder)
         entries = list(walk(session, top))
         folders = sum(entry.is_directory for entry in entries)
-        whole = size_text(sum(entry.size for entry in entries), asked.human)
+        whole = size_text(sum(entry.size for entry in entries), asked)
         say(f"{folders:>12} {len(entries) - folders:>12} {whole:>12} {shown(top)}")
 
     return for_each(asked.paths or [asked.folder], count_one)

@@ -16,9 +16,7 @@ from client.output import WELL, for_each, warn
 from client.progress import Progress
 from client.refusals import Failed
 from client.session import Answer, Session
-from client.store import (
-    Entry, file_sha256, found, is_directory, names_in, need_directory, read_bytes, read_entry, sha256_of, stat, told_below,
-)  # fmt: skip
+from client.store import Entry, file_sha256, found, is_directory, names_in, need_directory, read_bytes, read_entry, sha256_of, stat, told_below
 
 # The bytes of a line: whole blocks of the greatest size, which fit into a line as hexadecimal digits.
 WRITE_BYTES = 7 * 65_536

@@ -17,7 +17,7 @@ class Listing(StoreCase):
         self.assertIn("Nothing stands at the path.", self.fs("ls", "/nothing", "/h", status=1))
 
     def test_a_lost_file_hides_no_other(self) -> None:
-        self.lines(*(f"lose {server} 2" for server in (0, 2)))
+        self.lines("lose 0 2", "lose 2 2")
         self.assertIn("? f: refused 28", self.fs("ls", "-l", "/a"))
         self.assertEqual(self.fs("ls", "-R", "/a"), "/a/b/\n/a/b/two words\n/a/f\n")
         self.assertEqual(self.fs("find", "/a", "-name", "f"), "/a/f\n")
