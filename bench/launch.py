@@ -152,10 +152,7 @@ def build_unproved(name: str) -> Path:
         shutil.copy(ROOT / "HANDLES", copy)
         made.mkdir()
         place.mkdir()
-        try:
-            building.build(str(copy / "crates" / name), str(place / name), str(made))
-        except subprocess.CalledProcessError as failed:
-            raise SystemExit(f"{name}: the program can't be built: {failed}") from None
+        building.build(str(copy / "crates" / name), str(place / name), str(made))
         kept = kept_at(name, digest_of(copy, crates))
         with contextlib.suppress(FileExistsError):
             place.rename(kept.parent)
@@ -166,13 +163,18 @@ def unproved_program(name: str) -> Path:
     """The unproved program of the code as it stands, which is built where it isn't kept yet."""
     kept = kept_at(name, digest_of(ROOT, crates_of(ROOT, name)))
     if kept.exists():
-        os.utime(kept)
+        # It runs from a cache that can't be written too.
+        with contextlib.suppress(OSError):
+            os.utime(kept)
         return kept
     need_kit(name)
     say(f"{name}: building it unproved, once for this code, which takes {UNPROVED_TAKES} ", end="")
-    with dots(), one_at_a_time(name):
-        if not kept.exists():
-            kept = build_unproved(name)
+    try:
+        with dots(), one_at_a_time(name):
+            if not kept.exists():
+                kept = build_unproved(name)
+    except (OSError, subprocess.CalledProcessError) as failed:
+        raise SystemExit(f"{name}: the program can't be built in {CACHE}, which XDG_CACHE_HOME can move: {failed}") from None
     say(f"{name}: what runs isn't proved; ./{name} --build proves it, in {PROVED_TAKES}")
     return kept
 

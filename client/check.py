@@ -1,5 +1,6 @@
 """Whether all is sound, and how the store stands."""
 
+import glob
 from argparse import Namespace
 from collections import defaultdict
 from collections.abc import Iterator
@@ -9,10 +10,10 @@ from pathlib import Path
 
 from client.listing import chunk_sizes
 from client.names import line_path, shown
-from client.output import WELL, WRONG, say
+from client.output import WELL, WRONG, say, warn
 from client.progress import human
 from client.session import Answer, Session
-from client.store import Chunk, Entry, heal, phase, report_all, stats, walk_names
+from client.store import Chunk, Entry, heal, phase, report_all, told_below
 
 # So often all is healed and looked at anew, since a look finds damage that a copy has to follow.
 MOST_ROUNDS = 8
@@ -46,12 +47,12 @@ class Found:
 def looked_at(session: Session, tops: list[str]) -> Found:
     """What stands at each file below some paths, as the master knows it."""
     found = Found()
-    files = [path for top in tops for path, is_directory in walk_names(session, top) if not is_directory]
-    for path, entry in zip(files, stats(session, files)):
-        if isinstance(entry, Answer):
-            found.wrong.append((path, f"its size can't be told: {entry.text}"))
-        else:
-            found.entries.append(entry)
+    for top in tops:
+        for path, told in told_below(session, top):
+            if isinstance(told, Answer):
+                found.wrong.append((path, f"its size can't be told: {told.text}"))
+            elif not told.is_directory:
+                found.entries.append(told)
     return found
 
 
@@ -79,8 +80,9 @@ def checked(session: Session, tops: list[str]) -> Found:
     return found
 
 
-def repaired(session: Session, tops: list[str]) -> tuple[Found, int]:
-    """Heals until nothing is short and nothing is wrong, or no copy helps any more. Tells how many copies were made too."""
+def repaired(session: Session, tops: list[str]) -> tuple[Found, int, str | None]:
+    """Heals until nothing is short and nothing is wrong, or no copy helps any more. Tells how many copies were made too, and what refused the
+    last one, if anything did."""
     found, made = checked(session, tops), 0
     for _ in range(MOST_ROUNDS):
         copies, refused = heal(session)
@@ -88,14 +90,14 @@ def repaired(session: Session, tops: list[str]) -> tuple[Found, int]:
         found = checked(session, tops)
         if not copies and (refused or not found.short(session.sizes.replicas)):
             break
-    return found, made
+    return found, made, refused
 
 
 def fsck(session: Session, asked: Namespace) -> int:
     tops = [line_path(path, asked.folder) for path in asked.paths or ["/"]]
     if asked.handle is not None:
         return paths_of_chunk(session, tops, asked.handle)
-    found, made = repaired(session, tops) if asked.repair else (checked(session, tops), 0)
+    found, made, refused = repaired(session, tops) if asked.repair else (checked(session, tops), 0, None)
     paths, wanted = found.paths(), session.sizes.replicas
     if asked.verbose:
         for entry in found.entries:
@@ -106,6 +108,10 @@ def fsck(session: Session, asked: Namespace) -> int:
     for path, what in found.wrong:
         say(f"{shown(path)}: {what}")
     say(f"{len(found.entries)} files, {len(found.chunks)} chunks, {found.blocks} blocks asked, {len(short)} chunks short, {made} copies made")
+    if refused:
+        # The store takes the chunk first that lacks the most, also where nothing can be copied of it.
+        blocked = "\nWhat can't be read keeps other chunks from being copied, until its files are deleted and no longer in the trash."
+        warn(f"no more copies: {refused}{blocked if found.wrong else ''}")
     is_sound = not short and not found.wrong
     say("all is sound" if is_sound else "not all is sound" + ("" if asked.repair else "; fsck --repair heals what can be healed"))
     return WELL if is_sound else WRONG
@@ -142,7 +148,7 @@ def report(session: Session, asked: Namespace) -> int:
 
 def report_files(log: Path) -> None:
     say(f"log {log}: {human(log.stat().st_size)}")
-    images = sorted(log.parent.glob(f"{log.name}.image.*"))
+    images = sorted(log.parent.glob(f"{glob.escape(log.name)}.image.*"))
     for image in images:
         made = datetime.fromtimestamp(image.stat().st_mtime).strftime("%Y-%m-%d %H:%M:%S")
         say(f"image {image}: {human(image.stat().st_size)}, made {made}")

@@ -19,6 +19,8 @@ def flag(short: str, long: str, help: str) -> tuple[tuple[str, ...], dict[str, o
 
 SOME = word("paths", nargs="+", metavar="PATH")
 ANY = word("paths", nargs="*", metavar="PATH")
+SOURCES = word("sources", nargs="+", metavar="PATH")
+TARGET = word("target", metavar="TARGET", help="a directory that is there, or the new path itself")
 ONE = word("path", metavar="PATH")
 HUMAN = flag("-h", "--human", "sizes with units")
 FORCE = flag("-f", "--force", "puts files in the place of others")
@@ -44,11 +46,13 @@ UPGRADES = (
 )
 COMMANDS = (
     Command("put", transfer.put, "brings files and directories into the store", "put notes.txt photos /", (
-        word("paths", nargs="+", metavar="LOCAL", help="what is brought in; the last one is the path in the store"), FORCE,
+        word("sources", nargs="+", metavar="LOCAL", help="what is brought in"),
+        word("target", metavar="PATH", help="a directory of the store, or the new path itself"), FORCE,
         word("--verify", action="store_true", help="reads back what came in and compares its SHA-256"),
     ), True),
     Command("get", transfer.get, "brings files and directories out of the store", "get /photos .", (
-        word("paths", nargs="+", metavar="PATH", help="what is brought out; the last one is the place on this machine"), FORCE)),
+        word("sources", nargs="+", metavar="PATH", help="what is brought out"),
+        word("target", metavar="LOCAL", help="a directory of this machine, or the new place itself"), FORCE)),
     Command("cat", transfer.cat, "writes files to standard output", "cat /notes.txt", (SOME,)),
     Command("tail", transfer.tail, "writes the end of a file to standard output", "tail -c 100 /notes.txt", (
         ONE, word("-c", dest="bytes", type=int, default=transfer.TAIL_BYTES, help="how many bytes"))),
@@ -63,8 +67,8 @@ COMMANDS = (
     Command("find", listing.find, "paths by their names", "find / -name '*.txt'", (
         ONE, word("-name", metavar="PATTERN", help="as a shell's"))),
     Command("mkdir", listing.mkdir, "makes directories, with those above them", "mkdir /photos/2024", (SOME,), True),
-    Command("mv", listing.mv, "moves", "mv /notes.txt /photos", (SOME,)),
-    Command("cp", listing.cp, "copies, which copies no byte until one side is written to", "cp /photos /photos.old", (SOME,)),
+    Command("mv", listing.mv, "moves", "mv /notes.txt /photos", (SOURCES, TARGET)),
+    Command("cp", listing.cp, "copies, which copies no byte until one side is written to", "cp /photos /photos.old", (SOURCES, TARGET)),
     Command("rm", listing.rm, "deletes, into the trash", "rm -r /photos", (
         SOME, flag("-r", "--recursive", "directories with all in them"), flag("-f", "--force", "says nothing of what isn't there"))),
     Command("trash", trash.trash, "what was deleted, when, where it stood, and under which hidden name", "trash"),

@@ -2,29 +2,30 @@
 
 from argparse import Namespace
 from collections import defaultdict
-from collections.abc import Iterable
 from fnmatch import fnmatchcase
 
 from client.names import child, last, line_path, parent, shown
 from client.output import WELL, for_each, say
 from client.progress import human
 from client.refusals import Failed
-from client.session import Session
-from client.store import Entry, children, found, stat, stats, walk
+from client.session import Answer, Session
+from client.store import Entry, children, is_directory, stat, stats, told_below, walk, walk_names
 
 
-def size_text(size: int, is_human: bool) -> str:
-    return human(size) if is_human else str(size)
+def size_text(size: int, asked: Namespace) -> str:
+    return human(size) if asked.human else str(size)
 
 
-def entry_line(entry: Entry, asked: Namespace, name: str) -> str:
-    """A line of `ls`: with -l what stands there, the least replicas of a chunk, and the size."""
+def entry_line(entry: Entry | Answer, asked: Namespace, name: str) -> str:
+    """A line of `ls`: with -l what stands there, the least replicas of a chunk, and the size. The refusal where that can't be told."""
+    if isinstance(entry, Answer):
+        return f"? {shown(name)}: {entry.text}" if asked.long else shown(name)
     name = shown(name) + ("/" if entry.is_directory and not name.endswith("/") else "")
     if not asked.long:
         return name
     kind = "d" if entry.is_directory else "-"
     replicas = "-" if entry.replicas is None else str(entry.replicas)
-    size = "-" if entry.is_directory else size_text(entry.size, asked.human)
+    size = "-" if entry.is_directory else size_text(entry.size, asked)
     return f"{kind} {replicas:>2} {size:>12} {name}"
 
 
@@ -35,14 +36,13 @@ def ls(session: Session, asked: Namespace) -> int:
         if not entry.is_directory:
             say(entry_line(entry, asked, top))
         elif asked.recursive:
-            for inner in sorted(walk(session, top), key=lambda inner: inner.path.split("/")):
-                if inner.path != top:
-                    say(entry_line(inner, asked, inner.path))
+            for path, told in sorted(told_below(session, top), key=lambda told: told[0].split("/")):
+                if path != top:
+                    say(entry_line(told, asked, path))
         else:
             names = children(session, top)
-            for name, inner in zip(names, stats(session, (child(top, name) for name in names))):
-                # What can't be told of a file is a refusal, which stands in the place of its line.
-                say(entry_line(inner, asked, name) if isinstance(inner, Entry) else f"? {shown(name)}: {inner.text}")
+            for name, told in zip(names, stats(session, (child(top, name) for name in names))):
+                say(entry_line(told, asked, name))
 
     return for_each(asked.paths or [asked.folder], list_one)
 
@@ -50,11 +50,10 @@ def ls(session: Session, asked: Namespace) -> int:
 def du(session: Session, asked: Namespace) -> int:
     """The bytes of what stands in a directory, and those that all replicas of it take."""
 
-    def tell(path: str, entries: Iterable[Entry]) -> None:
-        entries = list(entries)
+    def tell(path: str, entries: list[Entry]) -> None:
         whole = sum(entry.size for entry in entries)
         stored = sum(stored_bytes(entry, session.sizes.chunk) for entry in entries)
-        say(f"{size_text(whole, asked.human):>12} {size_text(stored, asked.human):>12} {shown(path)}")
+        say(f"{size_text(whole, asked):>12} {size_text(stored, asked):>12} {shown(path)}")
 
     def sum_one(path: str) -> None:
         top = line_path(path, asked.folder)
@@ -86,7 +85,7 @@ def count(session: Session, asked: Namespace) -> int:
         top = line_path(path, asked.folder)
         entries = list(walk(session, top))
         folders = sum(entry.is_directory for entry in entries)
-        whole = size_text(sum(entry.size for entry in entries), asked.human)
+        whole = size_text(sum(entry.size for entry in entries), asked)
         say(f"{folders:>12} {len(entries) - folders:>12} {whole:>12} {shown(top)}")
 
     return for_each(asked.paths or [asked.folder], count_one)
@@ -95,18 +94,17 @@ def count(session: Session, asked: Namespace) -> int:
 def tree(session: Session, asked: Namespace) -> int:
     """A picture of what stands below a path."""
     top = line_path(asked.path or asked.folder, asked.folder)
-    below: dict[str, list[Entry]] = defaultdict(list)
-    for entry in walk(session, top):
-        if entry.path != top:
-            below[parent(entry.path)].append(entry)
+    below: dict[str, list[tuple[str, bool]]] = defaultdict(list)
+    for path, is_folder in walk_names(session, top):
+        if path != top:
+            below[parent(path)].append((path, is_folder))
 
     def draw(folder: str, before: str) -> None:
-        entries = sorted(below[folder], key=lambda entry: entry.path)
-        for entry in entries:
-            is_last = entry is entries[-1]
-            say(f"{before}{'└── ' if is_last else '├── '}{shown(last(entry.path))}{'/' if entry.is_directory else ''}")
-            if entry.is_directory:
-                draw(entry.path, before + ("    " if is_last else "│   "))
+        paths = sorted(below[folder])
+        for path, is_folder in paths:
+            is_last = path == paths[-1][0]
+            say(f"{before}{'└── ' if is_last else '├── '}{shown(last(path))}{'/' if is_folder else ''}")
+            draw(path, before + ("    " if is_last else "│   "))
 
     say(shown(top))
     draw(top, "")
@@ -115,9 +113,9 @@ def tree(session: Session, asked: Namespace) -> int:
 
 def find(session: Session, asked: Namespace) -> int:
     top = line_path(asked.path, asked.folder)
-    for entry in sorted(walk(session, top), key=lambda entry: entry.path.split("/")):
-        if asked.name is None or fnmatchcase(shown(last(entry.path)), asked.name):
-            say(shown(entry.path))
+    for path, _ in sorted(walk_names(session, top), key=lambda told: told[0].split("/")):
+        if asked.name is None or fnmatchcase(shown(last(path)), asked.name):
+            say(shown(path))
     return WELL
 
 
@@ -135,10 +133,9 @@ def cp(session: Session, asked: Namespace) -> int:
 
 
 def to_target(session: Session, asked: Namespace, word: str) -> int:
-    """Asks a line for each path but the last one, which is the target: a directory that is there, or where one goes itself."""
-    *sources, target = (line_path(path, asked.folder) for path in asked.paths)
-    entry = found(session, target)
-    is_into = bool(entry and entry.is_directory)
+    """Asks a line for each path, with its target: in a directory that is there, or the target itself."""
+    sources, target = [line_path(path, asked.folder) for path in asked.sources], line_path(asked.target, asked.folder)
+    is_into = is_directory(session, target)
     if len(sources) > 1 and not is_into:
         raise Failed(f"{shown(target)}: several paths need a directory that is there")
     return for_each(sources, lambda source: session.ask(word, source, child(target, last(source)) if is_into else target))

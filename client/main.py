@@ -2,7 +2,7 @@
 
 import os
 import sys
-from argparse import ArgumentParser, Namespace
+from argparse import ArgumentParser
 from pathlib import Path
 
 from client import shell
@@ -27,18 +27,14 @@ def words_of() -> ArgumentParser:
     return parser
 
 
-def place_of(asked: Namespace) -> Place:
-    given = {name: getattr(asked, name) for name in vars(Sizes()) if getattr(asked, name) is not None}
-    return Place(None if asked.store == MEMORY else asked.store, given)
-
-
 def main(words: list[str]) -> int:
     """0 where all was done, 1 where something wasn't, and 2 where the words are no command."""
     # This word stands in the place of a file, so it isn't read as an option.
     asked = words_of().parse_args([str(MEMORY) if word == "--memory" else word for word in words])
     asked.folder = "/"
+    given = {name: getattr(asked, name) for name in vars(Sizes()) if getattr(asked, name) is not None}
     try:
-        with place_of(asked).opened(asked.makes) as session:
+        with Place(None if asked.store == MEMORY else asked.store, given).opened(asked.makes) as session:
             session.set_moment()
             return asked.run(session, asked)
     except BrokenPipeError:

@@ -11,6 +11,8 @@ ESCAPE = re.compile(rb"%([0-9A-F]{2})")
 HIDDEN = re.compile(r"\.deleted\.(?P<moment>\d{20})\.(?P<number>\d{20})\.(?P<name>.+)")
 # A path behind this word is taken as it stands in lines.
 AS_IT_STANDS = "lines:"
+# The path of a name in a directory, and the two parts of a path.
+child, parent, last = posixpath.join, posixpath.dirname, posixpath.basename
 
 
 def bytes_of(name: str) -> bytes:
@@ -38,18 +40,6 @@ def line_path(text: str, folder: str = "/") -> str:
         return text.removeprefix(AS_IT_STANDS)
     whole = posixpath.normpath("/" + posixpath.join(shown(folder), text).lstrip("/"))
     return "/".join(element if HIDDEN.fullmatch(element) else escaped(element) for element in whole.split("/"))
-
-
-def child(folder: str, name: str) -> str:
-    return posixpath.join(folder, name)
-
-
-def parent(path: str) -> str:
-    return posixpath.dirname(path)
-
-
-def last(path: str) -> str:
-    return posixpath.basename(path)
 
 
 def hidden_parts(path: str) -> tuple[int, int, str] | None:

@@ -4,6 +4,7 @@ It has the lines of the store itself. Its last line is the SHA-256 of all lines 
 `refused 34 BadLine` and changes nothing."""
 
 import hashlib
+import os
 import sys
 from argparse import Namespace
 from collections import defaultdict
@@ -76,12 +77,14 @@ def target(file: Path | None) -> Iterator[BinaryIO]:
         sys.stdout.buffer.flush()
         return
     coming = file.with_name(f"{file.name}.coming")
-    try:
-        with open(coming, "xb") as out:
+    with open(coming, "xb") as out:
+        try:
             yield out
-        coming.replace(file)
-    finally:
-        coming.unlink(missing_ok=True)
+            out.flush()
+            os.fsync(out.fileno())
+            coming.replace(file)
+        finally:
+            coming.unlink(missing_ok=True)
 
 
 def export(session: Session, asked: Namespace) -> int:
@@ -96,7 +99,7 @@ def export(session: Session, asked: Namespace) -> int:
 def checked_lines(file: Path) -> Iterator[str]:
     """The lines of a script, the last of which has to be the digest of the others."""
     summed, waiting = hashlib.sha256(), None
-    with open(file, newline="\n") as lines:
+    with open(file, newline="\n", encoding="utf-8") as lines:
         for line in lines:
             if waiting is not None:
                 summed.update(waiting.encode())

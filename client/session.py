@@ -4,6 +4,7 @@ import fcntl
 import os
 import re
 import select
+import signal
 import subprocess
 import sys
 import tempfile
@@ -98,6 +99,11 @@ def next_piece(unsent: bytes) -> bytes:
     return bytes(unsent[: end or unsent.find(b"\n") + 1])
 
 
+def ignore_interrupts() -> None:
+    """What is typed at a terminal is for the client, which ends the program itself."""
+    signal.signal(signal.SIGINT, signal.SIG_IGN)
+
+
 class Session:
     """A program that is asked lines, many of them before their answers come, so that its log is synced seldom."""
 
@@ -106,7 +112,7 @@ class Session:
         # The lines of a store that has no file, by which it can be run again.
         self.recorded: list[str] = []
         self.said = tempfile.TemporaryFile()
-        how = {"stdin": subprocess.PIPE, "stdout": subprocess.PIPE, "stderr": self.said, "bufsize": 0}
+        how = {"stdin": subprocess.PIPE, "stdout": subprocess.PIPE, "stderr": self.said, "bufsize": 0, "preexec_fn": ignore_interrupts}
         self.program = subprocess.Popen([launch.program_of(name).path, *words], **how)
         for pipe in (self.program.stdin, self.program.stdout):
             fcntl.fcntl(pipe, F_SETPIPE_SZ, PIPE_BYTES)
@@ -144,6 +150,12 @@ class Session:
         asked: deque[str] = deque()
         try:
             yield from self.exchange(iter(lines), asked)
+        except KeyboardInterrupt:
+            # Nobody waits for what was asked. The store goes on from wherever its program is killed.
+            self.program.kill()
+            asked.clear()
+            self.heard.clear()
+            raise
         finally:
             deque(self.exchange(iter(()), asked), maxlen=0)
 
@@ -206,7 +218,7 @@ class Session:
         if self.place.file is None:
             yield from list(self.recorded)
             return
-        with open(self.place.file, newline="\n") as log:
+        with open(self.place.file, newline="\n", encoding="utf-8") as log:
             next(log)
             yield from (line.removesuffix("\n") for line in log)
 

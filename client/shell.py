@@ -86,6 +86,7 @@ class Shell:
     def complete(self, text: str, state: int) -> str | None:
         """The word with which a typed one may go on: a command, or a path in the store."""
         if state == 0:
+            self.fitting = []
             with contextlib.suppress(Failed):
                 self.fitting = self.words(text)
         return self.fitting[state] if state < len(self.fitting) else None
@@ -122,7 +123,8 @@ def run(session: Session, asked: Namespace) -> int:
     """At a terminal it goes on where something is wrong. A script ends there, and its line's number is told."""
     shell = Shell(session)
     is_script = bool(asked.file) or not sys.stdin.isatty()
-    with open(asked.file) if asked.file else contextlib.nullcontext(sys.stdin) as source:
+    sys.stdin.reconfigure(encoding="utf-8", errors="surrogateescape")
+    with open(asked.file, encoding="utf-8", errors="surrogateescape") if asked.file else contextlib.nullcontext(sys.stdin) as source:
         for number, typed in enumerate((line.rstrip("\n") for line in source) if is_script else typed_lines(shell), 1):
             if typed.strip() == "exit":
                 break

@@ -1,6 +1,7 @@
 """What stands in a store: its names, files and chunks, by the lines that tell of them."""
 
 import hashlib
+import itertools
 from collections.abc import Iterable, Iterator
 from dataclasses import dataclass
 
@@ -10,6 +11,8 @@ from client.session import Answer, Session
 
 # A server gives so many bytes of a file in one answer.
 READ_BYTES = 524_288
+# So many answers of that size are waited for where somebody leaves off.
+READS_AHEAD = 16
 NOT_FOUND = 3
 
 
@@ -94,25 +97,39 @@ def walk_names(session: Session, top: str) -> Iterator[tuple[str, bool]]:
         level = below
 
 
+def told_below(session: Session, top: str) -> Iterator[tuple[str, Entry | Answer]]:
+    """The paths of what stands at a path and of all below it, directories first, with what stands there, or the answer where that is refused."""
+    paths = list(walk_names(session, top))
+    yield from ((path, Entry(path, True)) for path, is_folder in paths if is_folder)
+    files = [path for path, is_folder in paths if not is_folder]
+    yield from zip(files, stats(session, files))
+
+
 def walk(session: Session, top: str) -> Iterator[Entry]:
     """What stands at a path and all below it. Where it can't be told of a file, that is refused."""
-    found = list(walk_names(session, top))
-    yield from (Entry(path, True) for path, is_directory in found if is_directory)
-    for entry in stats(session, (path for path, is_directory in found if not is_directory)):
-        yield entry if isinstance(entry, Entry) else read_entry("", entry.value)
+    for path, told in told_below(session, top):
+        yield told if isinstance(told, Entry) else read_entry(path, told.value)
+
+
+def is_directory(session: Session, path: str) -> bool:
+    entry = found(session, path)
+    return entry is not None and entry.is_directory
 
 
 def need_directory(session: Session, path: str) -> None:
-    entry = found(session, path)
-    if entry is None or not entry.is_directory:
+    if not is_directory(session, path):
         raise Failed(f"{shown(path)}: a directory is needed there")
 
 
 def read_bytes(session: Session, path: str, start: int, size: int) -> Iterator[bytes]:
-    """The bytes of a file from a place on, up to its size."""
+    """The bytes of a file from a place on, up to its size, all of which have to come."""
     lines = (f"read {path} {at} {min(READ_BYTES, size - at)}" for at in range(start, size, READ_BYTES))
-    for answer in session.ask_all(lines):
-        yield bytes.fromhex(answer.value)
+    while some := list(itertools.islice(lines, READS_AHEAD)):
+        for answer in session.ask_all(some):
+            part = bytes.fromhex(answer.value)
+            if len(part) != int(answer.line.split(" ")[3]):
+                raise Failed(f"{shown(path)}: fewer bytes come than its size says")
+            yield part
 
 
 def sha256_of(parts: Iterable[bytes]) -> str:

@@ -1,19 +1,22 @@
 """Files and directories into the store and out of it."""
 
+import contextlib
 import itertools
 import os
 import sys
 from argparse import Namespace
+from collections import Counter
 from collections.abc import Iterable, Iterator
 from dataclasses import dataclass
 from pathlib import Path
+from typing import BinaryIO
 
 from client.names import bytes_of, child, escaped, last, line_path, parent, shown
 from client.output import WELL, for_each, warn
 from client.progress import Progress
 from client.refusals import Failed
-from client.session import Session
-from client.store import Entry, children, file_sha256, found, need_directory, read_bytes, sha256_of, stat, walk
+from client.session import Answer, Session
+from client.store import Entry, file_sha256, found, is_directory, names_in, need_directory, read_bytes, read_entry, sha256_of, stat, told_below
 
 # The bytes of a line: whole blocks of the greatest size, which fit into a line as hexadecimal digits.
 WRITE_BYTES = 7 * 65_536
@@ -22,6 +25,7 @@ FILES_AT_ONCE = 256
 # A file stands under such a name until all of it is there.
 COMING = "._COPYING_"
 MOST_NAME_BYTES = 200
+MOST_ELEMENTS = 64
 TAIL_BYTES = 1_024
 
 
@@ -42,10 +46,13 @@ class Local:
         return child(parent(self.path), name + COMING)
 
 
-def pieces(file: Path) -> Iterator[bytes]:
+def pieces(source: BinaryIO) -> Iterator[bytes]:
+    return iter(lambda: source.read(WRITE_BYTES), b"")
+
+
+def file_pieces(file: Path) -> Iterator[bytes]:
     with open(file, "rb") as source:
-        while piece := source.read(WRITE_BYTES):
-            yield piece
+        yield from pieces(source)
 
 
 def write_lines(path: str, start: int, parts: Iterable[bytes], progress: Progress) -> Iterator[str]:
@@ -74,25 +81,31 @@ def local_tree(file: Path, path: str) -> Iterator[Local | str]:
 
 def check_new(session: Session, folders: set[str], files: list[Local], is_forced: bool) -> set[str]:
     """What stands already where files are to come. Only where that is meant they may be in the place of other files."""
-    standing: set[str] = set()
-    for folder in sorted({parent(local.path) for local in files} - folders):
-        need_directory(session, folder)
-    for folder in sorted({parent(local.path) for local in files}):
-        entry = found(session, folder)
-        names = children(session, folder) if entry and entry.is_directory else {}
-        standing |= {child(folder, name) for name in names}
-        for local in files:
-            if parent(local.path) == folder and last(local.path) in names:
-                if names[last(local.path)] or not is_forced:
-                    raise Failed(f"{shown(local.path)}: something stands there already" + ("" if is_forced else "; -f puts a file in its place"))
-    return standing
+    for path, count in Counter([*folders, *(local.path for local in files)]).items():
+        elements = path.split("/")[1:]
+        if count > 1:
+            raise Failed(f"{shown(path)}: more than one would come there")
+        if len(elements) > MOST_ELEMENTS or any(len(bytes_of(element)) > MOST_NAME_BYTES for element in elements):
+            raise Failed(f"{shown(path)}: a name has {MOST_NAME_BYTES} bytes at most as it stands in lines, and a path {MOST_ELEMENTS} elements")
+    parents = sorted({parent(local.path) for local in files})
+    for folder in parents:
+        if folder not in folders:
+            need_directory(session, folder)
+    standing: dict[str, bool] = {}
+    for folder, answer in zip(parents, session.ask_all(f"ls {folder}" for folder in parents)):
+        if answer.is_ok:
+            standing |= {child(folder, name.rstrip("/")): name.endswith("/") for name in names_in(answer.value)}
+    for local in files:
+        if local.path in standing and (standing[local.path] or not is_forced):
+            raise Failed(f"{shown(local.path)}: something stands there already" + ("" if is_forced else "; -f puts a file in its place"))
+    return set(standing)
 
 
 def put_files(session: Session, files: list[Local], standing: set[str], asked: Namespace, progress: Progress) -> None:
     """Brings files in under names of their coming. Then each gets its own name, and what stood there is deleted."""
     session.try_all(f"rm {local.coming}" for local in files if local.coming in standing)
     session.try_all(f"create {local.coming}" for local in files)
-    session.try_all(line for local in files for line in write_lines(local.coming, 0, pieces(local.file), progress))
+    session.try_all(line for local in files for line in write_lines(local.coming, 0, file_pieces(local.file), progress))
     for local in files:
         if asked.verify:
             verify(session, local)
@@ -102,19 +115,17 @@ def put_files(session: Session, files: list[Local], standing: set[str], asked: N
 
 def verify(session: Session, local: Local) -> None:
     """Compares what is read back with what stands on this machine."""
-    if sha256_of(pieces(local.file)) != file_sha256(session, local.coming):
+    if sha256_of(file_pieces(local.file)) != file_sha256(session, local.coming):
         raise Failed(f"{local.file}: what came into the store isn't what stands here")
 
 
 def put(session: Session, asked: Namespace) -> int:
-    *sources, path = map(str, asked.paths)
-    path = line_path(path, asked.folder)
-    entry = found(session, path)
-    is_into = bool(entry and entry.is_directory)
-    if len(sources) > 1 and not is_into:
+    path = line_path(asked.target, asked.folder)
+    is_into = is_directory(session, path)
+    if len(asked.sources) > 1 and not is_into:
         raise Failed(f"{shown(path)}: several files need a directory that is there")
     found_here: list[Local | str] = []
-    for source in map(Path, sources):
+    for source in map(Path, asked.sources):
         name = escaped(Path(os.path.abspath(source)).name)
         found_here += local_tree(source, child(path, name) if is_into else path)
     files = [local for local in found_here if isinstance(local, Local)]
@@ -127,8 +138,9 @@ def put(session: Session, asked: Namespace) -> int:
     return WELL
 
 
-def save(session: Session, entry: Entry, file: Path, is_forced: bool, progress: Progress) -> None:
+def save(session: Session, told: Entry | Answer, file: Path, is_forced: bool, progress: Progress) -> None:
     """Writes a file of the store to this machine, under a name of its coming until all of it is there."""
+    entry = told if isinstance(told, Entry) else read_entry("", told.value)
     if entry.is_directory:
         file.mkdir(exist_ok=True)
         return
@@ -146,21 +158,22 @@ def save(session: Session, entry: Entry, file: Path, is_forced: bool, progress: 
 
 
 def get(session: Session, asked: Namespace) -> int:
-    *sources, target = asked.paths
-    target = Path(target)
-    if len(sources) > 1 and not target.is_dir():
+    """Brings out all that can be: where a file can't be read, the others come all the same."""
+    target = Path(asked.target)
+    if len(asked.sources) > 1 and not target.is_dir():
         raise Failed(f"{target}: several paths need a directory that is there")
+    coming: list[tuple[Entry | Answer, Path]] = []
 
-    def get_one(source: str) -> None:
+    def look_at(source: str) -> None:
         top = line_path(source, asked.folder)
-        entries = list(walk(session, top))
         base = target / shown(last(top)) if target.is_dir() and last(top) else target
-        with Progress(sum(entry.size for entry in entries)) as progress:
-            for entry in entries:
-                below = entry.path.removeprefix(top).strip("/")
-                save(session, entry, base / shown(below) if below else base, asked.force, progress)
+        for path, told in told_below(session, top):
+            below = path.removeprefix(top).strip("/")
+            coming.append((told, base / shown(below) if below else base))
 
-    return for_each(sources, get_one)
+    looked = for_each(asked.sources, look_at)
+    with Progress(sum(told.size for told, _ in coming if isinstance(told, Entry))) as progress:
+        return max(looked, for_each(coming, lambda one: save(session, *one, asked.force, progress)))
 
 
 def cat(session: Session, asked: Namespace) -> int:
@@ -193,12 +206,14 @@ def write_out(session: Session, path: str, start: int, size: int) -> None:
 
 
 def append(session: Session, asked: Namespace) -> int:
-    """Puts bytes of files, or of standard input, at the end of a file."""
+    """Puts bytes of files, or of standard input, at the end of a file. One line is answered before the next is asked, so that no gap is left where
+    one is refused."""
     path = line_path(asked.path, asked.folder)
-    if found(session, path) is None:
-        session.ask("create", path)
-    parts = itertools.chain.from_iterable(map(pieces, asked.files)) if asked.files else iter(lambda: sys.stdin.buffer.read(WRITE_BYTES), b"")
-    whole = sum(file.stat().st_size for file in asked.files)
-    with Progress(whole) as progress:
-        session.try_all(write_lines(path, file_size(session, path), parts, progress))
+    with contextlib.ExitStack() as opened:
+        sources = [opened.enter_context(open(file, "rb")) for file in asked.files] or [sys.stdin.buffer]
+        progress = opened.enter_context(Progress(sum(file.stat().st_size for file in asked.files)))
+        if found(session, path) is None:
+            session.ask("create", path)
+        for line in write_lines(path, file_size(session, path), itertools.chain.from_iterable(map(pieces, sources)), progress):
+            session.ask(line)
     return WELL

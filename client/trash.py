@@ -4,8 +4,6 @@ No line lists hidden names. So the lines of the store are run again in a store w
 deleted, and the store itself is asked which of them stand."""
 
 from argparse import Namespace
-from collections.abc import Iterator
-from contextlib import contextmanager
 from dataclasses import dataclass
 from datetime import datetime
 
@@ -35,15 +33,6 @@ class Removed:
     def is_within_other(self) -> bool:
         """Whether what it stood in was deleted too, and has to come back first."""
         return any(hidden_parts(element) for element in parent(self.entry.path).split("/"))
-
-
-@contextmanager
-def run_again(session: Session) -> Iterator[Session]:
-    """A store without a file in which all has happened that happened in this one."""
-    with session.again() as again:
-        for _ in again.ask_all(session.history()):
-            pass
-        yield again
 
 
 def moves_of(line: str, told: str) -> list[tuple[str, str]]:

@@ -10,7 +10,6 @@ from client.output import WELL, WRONG, say, warn
 from client.refusals import Failed, Refused
 from client.session import AHEAD_LINES, Session
 from client.store import heal, phase, report_all, walk
-from client.trash import run_again
 
 NOT_QUIET, UNRESTORED = 15, 16
 PREPARES = ("rollingUpgrade prepare", "prepare-commit")
@@ -23,16 +22,6 @@ class Restorable:
     handle: int
     paths: list[str]
     servers: int
-
-
-def prepared_chunks(session: Session) -> dict[int, list[str]]:
-    """The chunks of all files in a store that stands just behind its prepare, with their paths."""
-    told: dict[int, list[str]] = defaultdict(list)
-    for path, is_directory in list(walk_names(session, "/")):
-        if not is_directory:
-            for chunk in read_entry(path, session.ask("stat", path)).chunks:
-                told[chunk.handle].append(path)
-    return told
 
 
 def runs_to_prepare(again: Session, lines: Iterable[str], epoch: int) -> None:
@@ -64,7 +53,9 @@ def what_a_rollback_finds(session: Session) -> list[Restorable]:
     The store itself isn't touched. While it rolls back its epoch is already the one behind the upgrade's."""
     name, epoch = phase(session)
     chunks = prepared_chunks(session, epoch if name == "upgrade" else epoch - 1)
-    with run_again(session) as again:
+    with session.again() as again:
+        for _ in again.ask_all(session.history()):
+            pass
         unrestored = rolled_back(again, name)
         report_all(again)
         servers: Counter[int] = Counter()

@@ -34,6 +34,15 @@ class Checks(StoreCase):
         self.assertIn("not all is sound", told)
         self.assertIn("all is sound", self.fs("fsck", "/a"))
 
+    def test_why_no_more_is_copied_is_told(self) -> None:
+        self.lines("lose 1 3", "lose 2 3", "beat 1", "beat 2", "damage 0 3 0", "lose 1 1", "beat 1")
+        told = self.fs("fsck", "--repair", status=1)
+        self.assertIn("no more copies: replicate: ", told)
+        self.assertIn("keeps other chunks from being copied", told)
+        self.lines("rm /h")
+        self.fs("expunge", "--all")
+        self.assertIn("1 copies made\nall is sound", self.fs("fsck", "--repair"))
+
     def test_paths_of_a_chunk(self) -> None:
         self.assertEqual(self.fs("fsck", "--chunk", "1"), "/g\n/a/f\n")
         self.assertEqual(self.fs("fsck", "--chunk", "9", status=1), "")

@@ -16,6 +16,13 @@ class Listing(StoreCase):
         self.assertEqual(self.fs("ls", "-R"), "/a/\n/a/b/\n/a/b/two words\n/a/f\n/h\n")
         self.assertIn("Nothing stands at the path.", self.fs("ls", "/nothing", "/h", status=1))
 
+    def test_a_lost_file_hides_no_other(self) -> None:
+        self.lines("lose 0 2", "lose 2 2")
+        self.assertIn("? f: refused 28", self.fs("ls", "-l", "/a"))
+        self.assertEqual(self.fs("ls", "-R", "/a"), "/a/b/\n/a/b/two words\n/a/f\n")
+        self.assertEqual(self.fs("find", "/a", "-name", "f"), "/a/f\n")
+        self.assertIn("28 NoReplica", self.fs("count", "/a", status=1))
+
     def test_sums(self) -> None:
         self.assertEqual(self.fs("du", "/").split(), ["20", "56", "/a", "0", "0", "/h"])
         self.assertEqual(self.fs("du", "-s", "-h", "/").split(), ["20", "B", "56", "B", "/"])

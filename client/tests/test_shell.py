@@ -78,3 +78,17 @@ class Shells(StoreCase):
         told = self.fs("shell", said=b"help\nhelp cd\nhelp upgrade\n")
         for words in ("brings files and directories into the store", "lines [LINE]", "paths that don't begin with a slash", "upgrade status"):
             self.assertIn(words, told)
+
+    def test_odd_bytes(self) -> None:
+        script = self.local("script", b"mkdir /\xff\nls\n")
+        self.assertEqual(self.fs("shell", "-f", script), "\udcff/\n")
+        self.assertEqual(self.fs("shell", said=b"find / -name \xff\n"), "/\udcff\n")
+
+    def test_an_interrupt_ends_it_well(self) -> None:
+        terminal = Terminal(self.command("shell"), str(self.folder))
+        terminal.await_text("/> ")
+        terminal.type("mkdir /a\n")
+        terminal.await_text("/> ")
+        terminal.type("\x03")
+        self.assertEqual(terminal.status(), 0)
+        self.assertEqual(self.fs("ls"), "a/\n")

@@ -44,6 +44,25 @@ class Transfers(StoreCase):
         self.assertIn("no file or directory", self.fs("put", "nothing", "/", status=1))
         self.assertIn(COMING, self.fs("put", self.local(f"f{COMING}", b""), "/", status=1))
 
+    def test_a_target_is_needed(self) -> None:
+        self.local("f", b"")
+        for words in (("put", "f"), ("get", "/f"), ("mv", "/f"), ("cp", "/f")):
+            self.assertIn("the following arguments are required", self.fs(*words, status=2))
+
+    def test_what_has_no_place_is_refused_before_a_byte_comes(self) -> None:
+        self.local("a/f", b"a")
+        self.local("b/f", b"b")
+        self.assertIn("/f: more than one would come there", self.fs("put", "a/f", "b/f", "/", status=1))
+        self.local(f"a/{'x' * 199} ", b"")
+        self.assertIn("a name has 200 bytes at most", self.fs("put", "a", "/", status=1))
+        self.assertIn("more than one", self.fs("put", "a", "b/f", "./a", "/", status=1))
+        self.assertEqual(self.fs("ls"), "")
+
+    def test_what_can_be_read_comes_out(self) -> None:
+        self.lines("mkdir /d", "create /d/a", "write /d/a 0 61", "create /d/b", "write /d/b 0 62", *(f"damage {server} 1 0" for server in range(3)))
+        self.assertIn("27 Damaged", self.fs("get", "/d", "/nothing", ".", status=1))
+        self.assertEqual(tree_of(self.folder / "d"), {"b": b"b"})
+
     def test_what_a_killed_put_left_is_replaced(self) -> None:
         self.local("f", b"bytes")
         self.lines(f"create /f{COMING}", f"write /f{COMING} 0 {'00' * 9}")
@@ -70,3 +89,10 @@ class Ends(StoreCase):
         self.assertEqual(len(self.fs("tail", "/f")), 1_024)
         self.assertEqual(self.fs("cat", "/f", "/f"), ("0123456789" * 200 + "end") * 2)
         self.assertIn("a directory stands there", self.fs("cat", "/", status=1))
+
+    def test_a_refused_append_leaves_no_gap(self) -> None:
+        self.assertIn("No such file", self.fs("append", "/new", "nothing", status=1))
+        self.assertEqual(self.fs("ls"), "")
+        self.lines("create /f", "write /f 0 61", *(f"damage {server} 1 0" for server in range(3)))
+        self.fs("append", "/f", self.local("more", bytes(2 * WRITE_BYTES)), status=1)
+        self.assertEqual(self.fs("shell", said=b"lines stat /f\n").split(" ")[2], "1")
