@@ -1,6 +1,7 @@
 import os
 import pty
 import select
+import signal
 import time
 
 from client.tests import TINY, StoreCase
@@ -14,6 +15,8 @@ class Terminal:
     def __init__(self, words: list[str], state: str):
         self.child, self.end = pty.fork()
         if not self.child:
+            # (whoever runs the tests in the background has interrupts ignored, and a child would go on so)
+            signal.signal(signal.SIGINT, signal.SIG_DFL)
             os.execve(words[0], words, {**os.environ, "XDG_STATE_HOME": state, "TERM": "dumb", "INPUTRC": os.devnull})
         self.told = ""
 
@@ -31,7 +34,16 @@ class Terminal:
         os.write(self.end, text.encode())
 
     def status(self) -> int:
-        return os.waitstatus_to_exitcode(os.waitpid(self.child, 0)[1])
+        """How it ends, which it has to within some time."""
+        limit = time.monotonic() + SECONDS
+        while time.monotonic() < limit:
+            child, status = os.waitpid(self.child, os.WNOHANG)
+            if child:
+                return os.waitstatus_to_exitcode(status)
+            time.sleep(0.05)
+        os.kill(self.child, signal.SIGKILL)
+        os.waitpid(self.child, 0)
+        raise AssertionError(f"it doesn't end behind {self.told!r}")
 
 
 class Shells(StoreCase):
