@@ -18,6 +18,7 @@ import argparse
 import atexit
 import fcntl
 import functools
+import hashlib
 import os
 import random
 import re
@@ -36,6 +37,8 @@ SIZES = ["--block", "4", "--chunk", "16"]
 # The most seconds before a kill; a start takes a few thousandths.
 MOST_SECONDS = 0.1
 LINES = 400
+# The bytes of a mark with its end.
+MARK_BYTES = 153
 F_SETPIPE_SZ = 1031
 PIPE_BYTES = 1_048_576
 
@@ -154,14 +157,37 @@ def killed(program, path, lines, chance):
     return talked(run, lines, chance, LINES + 1, chance.random() * MOST_SECONDS)
 
 
+def mark(text, count, answers):
+    """The mark behind a text of so many lines, which were answered so."""
+    return f"# {count:020} {hashlib.sha256(text).hexdigest()} {hashlib.sha256(answers).hexdigest()}\n".encode()
+
+
+def marked(batches, head=None):
+    """The file of a store that has answered lines in batches, each a list of a line and its answer, without their ends."""
+    text, count, answers = (HEAD if head is None else head) + b"\n", 0, b""
+    for batch in batches:
+        for line, answer in batch:
+            text, count, answers = text + line + b"\n", count + 1, answers + answer + b"\n"
+        text += mark(text, count, answers)
+    return text
+
+
+def is_mark(line):
+    return line.startswith(b"#") and len(line) == MARK_BYTES and line.endswith(b"\n")
+
+
+def unmarked(text):
+    """A file without its marks."""
+    return b"".join(line for line in text.splitlines(keepends=True) if not is_mark(line))
+
+
 def logged(path):
-    """The whole lines of a file behind its first, and the bytes behind its last line."""
+    """The lines of a file up to its last mark, but for its first line and the marks, and the bytes behind."""
     if not os.path.exists(path):
         return [], b""
-    with open(path, "rb") as file:
-        text = file.read()
-    whole = text[: text.rfind(b"\n") + 1]
-    return whole.decode().splitlines()[1:], text[len(whole) :]
+    lines = bytes_of(path).splitlines(keepends=True)[1:]
+    last = max((number for number, line in enumerate(lines) if is_mark(line)), default=-1)
+    return unmarked(b"".join(lines[: last + 1])).decode().splitlines(), b"".join(lines[last + 1 :])
 
 
 def first_difference(program, path, plain, lines, answered, asked):
@@ -174,8 +200,8 @@ def first_difference(program, path, plain, lines, answered, asked):
         return f"{len(answered)} lines were answered, and {len(kept)} are kept"
     if kept != lines[: len(kept)]:
         return "what is kept isn't what was asked"
-    if kept and not text_of(lines[len(kept) :]).startswith(rest):
-        return "what stands behind the last whole line is no beginning of the next"
+    if b"#" not in rest and not text_of(lines[len(kept) :]).startswith(rest):
+        return "what stands behind the last mark is no beginning of the next lines"
     if answers_of(program, [path, *SIZES], asked[len(kept) :]) != plain[len(kept) :]:
         return "an answer behind the kill isn't that of a store that went on"
     return None
@@ -200,15 +226,27 @@ def crash(program, plain_program, path, chance):
 
 
 def cut(program, plain_program, path, chance):
-    """Answers a part of a script, puts a beginning of what comes next behind it, and goes on."""
+    """Answers a part of a script, puts a beginning of what comes next behind it, and goes on. Some of its bytes may be others or missing."""
     lines = [one_line(chance) for _ in range(LINES)]
     asked = lines + probes()
     plain = answers_of(plain_program, SIZES, asked)
     count = chance.randint(0, LINES - 1)
     answered = answers_of(program, [path, *SIZES], lines[:count])
-    behind = text_of(lines[count : count + chance.choice((1, 10, 100))])
+    more = lines[count : count + chance.choice((1, 10, 100))]
+    text, before = bytes_of(path) + text_of(more), bytes_of(path)
+    behind = text_of(more) + mark(text, count + len(more), text_of(plain[: count + len(more)]))
+    behind = bytearray(behind[: chance.randint(0, len(behind) - 1)])
+    if behind and chance.random() < 0.5:
+        at = chance.randrange(len(behind))
+        hole = behind[at : at + chance.choice((1, 40, 512))]
+        behind[at : at + len(hole)] = chance.choice((bytes(len(hole)), chance.randbytes(len(hole))))
     with open(path, "ab") as file:
-        file.write(behind[: chance.randint(0, len(behind))])
+        file.write(behind)
+    status, said = ended(program, [path, *SIZES])[::2]
+    if status or (behind and f"{len(behind)} bytes behind what was answered are cut off" not in said):
+        return f"a start has status {status}: {said}", count
+    if bytes_of(path) != before:
+        return "what was answered was changed by a start", count
     return first_difference(program, path, plain, lines, answered, asked), count
 
 
@@ -262,16 +300,16 @@ def wrong_end(program, words, path, status, pattern):
 
 def foreign(program, path, chance):
     """A file that isn't the program's."""
-    count = chance.choice((1, 10, 1_000, 300_000))
+    count = chance.choice((1, 10, 1_000, 600_000))
     kind = chance.randint(0, 3)
     if kind == 0:
         text = b"#" + chance.randbytes(count)
     elif kind == 1:
         text = b"mkdir /a\ncreate /a/f\n" * count
     elif kind == 2:
-        text = b"chunkkeep 1 --servers 3 --racks 1 --replicas 3 --chunk 67108864 --block  65536\n" + b"mkdir /a\n"
+        text = b"chunkkeep 2 --servers 3 --racks 1 --replicas 3 --chunk 67108864 --block  65536\n" + b"mkdir /a\n"
     else:
-        text = b"chunkkeep 1 --servers 3 --racks 1 --replicas 3 --chunk 67108864 --block 0\n"
+        text = b"chunkkeep %d --servers 3 --racks 1 --replicas 3 --chunk 67108864 --block 0\n" % chance.choice((1, 2))
     with open(path, "wb") as file:
         file.write(text)
     return wrong_end(program, [path], path, 1, "line 1 isn't that of a store")
@@ -279,21 +317,23 @@ def foreign(program, path, chance):
 
 def other_version(program, path, chance):
     with open(path, "wb") as file:
-        file.write(f"chunkkeep {chance.randint(2, 99)} --servers 3 --whatever\nmkdir /a\n".encode())
+        file.write(f"chunkkeep {chance.randint(3, 99)} --servers 3 --whatever\nmkdir /a\n".encode())
     return wrong_end(program, [path], path, 1, "another version")
 
 
 def broken_line(program, path, chance):
-    """A line in the midst of a file is none."""
+    """A line in the midst of a file is none, or another one."""
     lines = [one_line(chance) for _ in range(LINES)]
     answers_of(program, [path, *SIZES], lines)
-    number = chance.randint(0, LINES - 1)
-    lines[number] = chance.choice(("", " ", "mkdir", "ls  /", "\x00" * 40, "create /a/f ", "write /a/f 0 6"))
-    with open(path, "rb") as file:
-        head = file.readline()
-    with open(path, "wb") as file:
-        file.write(head + text_of(lines))
-    return wrong_end(program, [path], path, 1, f"line {number + 2} is none of a script")
+    stands = bytes_of(path).splitlines(keepends=True)
+    number = chance.choice([number for number, line in enumerate(stands) if number and not is_mark(line)])
+    stands[number] = chance.choice((b"", b" ", b"mkdir", b"ls  /", b"\x00" * 40, b"create /a/f ", b"write /a/f 0 6")) + b"\n"
+    if chance.random() < 0.5:
+        # As the first form has it.
+        stands = [b"chunkkeep 1" + stands[0][11:], *(line for line in stands[1:] if not is_mark(line))]
+        number = next(at for at, line in enumerate(stands) if at and line.decode(errors="replace")[:-1] not in lines)
+    kept_file(path, b"".join(stands))
+    return wrong_end(program, [path], path, 1, f"line {number + 1} is none of a script")
 
 
 def other_sizes(program, path, chance):
@@ -359,9 +399,10 @@ def tried(name, how, count, programs, folder, seed):
 # ---- what an operator breaks
 
 
-# The first line of the stores here, without its end.
-HEAD = b"chunkkeep 1 --servers 3 --racks 1 --replicas 3 --chunk 16 --block 4"
-KEPT = HEAD + b"\nmkdir /a\nmkdir /b\n"
+# The first line of the stores here, without its end, and that of the first form.
+HEAD = b"chunkkeep 2 --servers 3 --racks 1 --replicas 3 --chunk 16 --block 4"
+FIRST_HEAD = b"chunkkeep 1" + HEAD[11:]
+KEPT = marked([[(b"mkdir /a", b"ok")], [(b"mkdir /b", b"ok")]])
 MORE = b"mkdir /c\nmkdir /d\n"
 STANDARD = ("standard input", "standard output", "standard error")
 # Errors of the system, as numbers.
@@ -384,6 +425,12 @@ def unlike(path, text):
     """Says how a file differs from what it is meant to hold."""
     found = bytes_of(path)
     return None if found == text else f"the file holds {found!r} where {text!r} is meant"
+
+
+def lines_unlike(path, text):
+    """Says how the lines of a file differ from those that it is meant to hold, the marks aside."""
+    found = bytes_of(path)
+    return None if found is not None and unmarked(found) == unmarked(text) else f"the file holds {found!r} where the lines of {text!r} are meant"
 
 
 def goes_on(program, path, names):
@@ -425,7 +472,7 @@ def is_closed(*numbers):
         if 0 not in numbers and 1 not in numbers and run.stdout != b"ok\nok\n":
             return f"it answers {run.stdout!r}"
         names = "ab" if 0 in numbers else "abcd"
-        return unlike(path, KEPT if 0 in numbers else KEPT + MORE) or goes_on(program, path, names)
+        return lines_unlike(path, KEPT if 0 in numbers else KEPT + MORE) or goes_on(program, path, names)
 
     return tries
 
@@ -565,7 +612,7 @@ def left_beside(program, path, chance):
         return f"the status is {status}: {answered!r} {said}"
     if os.path.exists(beside):
         return "the file beside the name stays"
-    wrong = unlike(path, KEPT)
+    wrong = lines_unlike(path, KEPT)
     if wrong:
         return wrong
     # A crash between the two names of the file leaves both.
@@ -592,7 +639,7 @@ def killed_while_made(program, path, chance):
     status, answered, said = ended(program, [path, *SIZES], b"mkdir /a\nmkdir /b\n")
     if (status, answered) != (0, b"ok\nok\n"):
         return f"the next start has status {status}: {answered!r} {said}"
-    return unlike(path, KEPT) or (os.path.exists(f"{path}.new") and "the file beside the name stays")
+    return lines_unlike(path, KEPT) or (os.path.exists(f"{path}.new") and "the file beside the name stays")
 
 
 def is_shown(word, pattern):
@@ -641,7 +688,7 @@ def is_failed_once(name, error, makes_part=False):
             if run.returncode != 1 or not re.search("it can't be (written|opened|made|read)", said.decode()):
                 return f"{name} {number} fails, and the status is {run.returncode}: {said!r}"
             stands = KEPT + b"".join(MORE.splitlines(keepends=True)[:answers])
-            wrong = unlike(path, stands) or goes_on(program, path, "abcd"[: 2 + answers])
+            wrong = lines_unlike(path, stands) or goes_on(program, path, "abcd"[: 2 + answers])
             if wrong:
                 return f"{name} {number} fails: {wrong}"
         return f"{name} fails again and again"
@@ -661,9 +708,9 @@ def is_killed_at(name):
             if run.returncode == 0:
                 return None if number > 1 else f"no {name} was made"
             stands = bytes_of(path)
-            if stands is not None and not (stands.startswith(HEAD + b"\n") and KEPT.startswith(stands)):
+            if stands is not None and not (stands.startswith(HEAD + b"\n") and unmarked(KEPT).startswith(unmarked(stands))):
                 return f"killed at {name} {number}: the file holds {stands!r}"
-            kept = len((stands or b"\n").splitlines()) - 1
+            kept = len(logged(path)[0])
             if kept < run.stdout.count(b"\n"):
                 return f"killed at {name} {number}: a line that was answered isn't kept"
             status, answered, said = ended(program, [path, *SIZES], b"ls /\n")
@@ -696,7 +743,7 @@ def many_at_once(program, path, chance):
         for run in runs:
             run.kill()
             run.communicate()
-    return unlike(path, KEPT) or (os.path.exists(f"{path}.new") and "the file beside the name stays")
+    return lines_unlike(path, KEPT) or (os.path.exists(f"{path}.new") and "the file beside the name stays")
 
 
 def late_answer(program, path, asked):
@@ -750,7 +797,109 @@ def slow_input(program, path, chance):
                 return "a line isn't answered"
         os.close(write)
         run.wait(timeout=60)
-    return f"the status is {run.returncode}" if run.returncode else unlike(path, KEPT + MORE)
+    return f"the status is {run.returncode}" if run.returncode else lines_unlike(path, KEPT + MORE)
+
+
+def goes_unchanged(program, path, answers):
+    """What is wrong with a start that has to serve what stands in a file."""
+    text = bytes_of(path)
+    run = subprocess.run([program, path], input=b"", stdout=subprocess.PIPE, stderr=subprocess.PIPE, timeout=60)
+    if run.returncode or bytes_of(path) != text:
+        return f"the status is {run.returncode}: {run.stderr!r}"
+    return answers and goes_on(program, path, answers)
+
+
+def is_refused(program, path, text):
+    """What is wrong with a start on a file that has to be refused, of which no byte may be changed."""
+    kept_file(path, text)
+    run = subprocess.run([program, path], input=b"ls /\n", stdout=subprocess.PIPE, stderr=subprocess.PIPE, timeout=60)
+    if run.returncode not in (1, 2) or run.stdout or not run.stderr:
+        return f"the status is {run.returncode}, and it answers {run.stdout!r}: {run.stderr!r}, of {text!r}"
+    return unlike(path, text)
+
+
+def small_log():
+    """A log of some batches, as the definition of its form has it."""
+    made = [[(b"mkdir /a", b"ok"), (b"create /a/f", b"ok")], [(b"append /a/f 3030", b"ok 0")], [(b"append /a/f 3131", b"ok 2"), (b"read /a/f 0 9", b"ok 30303131")]]
+    return marked(made)
+
+
+def a_bit_is_flipped(program, path, chance):
+    """A log of which one bit is another is refused, whichever it is. Of each byte one is tried."""
+    text = small_log()
+    kept_file(path, text)
+    wrong = goes_unchanged(program, path, "")
+    for at in range(len(text)):
+        if wrong:
+            return wrong
+        flipped = bytearray(text)
+        flipped[at] ^= 1 << chance.randint(0, 7)
+        wrong = is_refused(program, path, bytes(flipped))
+    return wrong
+
+
+def lines_are_moved(program, path, chance):
+    """A log that lacks a line, has one twice or two in each other's place is refused. Marks are lines too."""
+    lines = small_log().splitlines(keepends=True)
+    for at in range(1, len(lines)):
+        lost = lines[:at] + lines[at + 1 :]
+        doubled = lines[:at] + lines[at : at + 1] + lines[at:]
+        swapped = lines[:at] + lines[at + 1 : at + 2] + lines[at : at + 1] + lines[at + 2 :]
+        # Without its last mark a batch was never answered.
+        for changed in [doubled] if at == len(lines) - 1 else [lost, doubled, swapped]:
+            wrong = is_refused(program, path, b"".join(changed))
+            if wrong:
+                return wrong
+    return None
+
+
+def first_form(program, path, chance):
+    """A log of the first form is taken up: its lines are run, and it goes on with marks, from whatever a crash leaves of the first of them."""
+    text = FIRST_HEAD + b"\nmkdir /a\nmkdir /b\n"
+    kept_file(path, text + chance.choice((b"", b"mkd")))
+    wrong = goes_on(program, path, "ab")
+    if wrong:
+        return wrong
+    answers = b"ok\nok\n"
+    wanted = text + mark(text, 2, answers) + b"ls /\n"
+    wanted += mark(wanted, 3, answers + b"ok a/ b/\n")
+    wrong = unlike(path, wanted) or goes_on(program, path, "ab")
+    if wrong:
+        return wrong
+    torn = text + mark(text, 2, answers)[: chance.randint(1, MARK_BYTES - 1)]
+    kept_file(path, torn)
+    return goes_on(program, path, "ab")
+
+
+def torn_line(program, path, chance):
+    """A last line of the input that lacks its end isn't run, and the run says so."""
+    kept_file(path)
+    status, answered, said = ended(program, [path], b"mkdir /c\nmkdir /d")
+    if status != 1 or answered != b"ok\n" or "lacks its end" not in said:
+        return f"the status is {status}, and it answers {answered!r}: {said}"
+    return lines_unlike(path, KEPT + b"mkdir /c\n") or goes_on(program, path, "abc")
+
+
+def less_memory(program, path, chance):
+    """A start that lacks memory for what was answered is refused."""
+    lines = b"create /f\nwrite /f 30000000 21\nappend /f 2e\nstat /f\n"
+    status, answered, said = ended(program, [path, "--chunk", "67108864", "--block", "65536"], lines)
+    if status or b"refused" in answered:
+        return f"the status is {status}, and it answers {answered!r}: {said}"
+    text = bytes_of(path)
+
+    def limit():
+        resource.setrlimit(resource.RLIMIT_AS, (60_000 << 10, 60_000 << 10))
+
+    run = subprocess.run([program, path], input=b"stat /f\n", stdout=subprocess.PIPE, stderr=subprocess.PIPE, preexec_fn=limit, timeout=60)
+    if run.returncode == 0 or run.stdout:
+        return f"the status is {run.returncode}, and it answers {run.stdout!r}"
+    return unlike(path, text)
+
+
+def marks_are_lost(program, path, chance):
+    """A log that has more behind its last mark than a crash may leave is refused."""
+    return is_refused(program, path, KEPT + b"mkdir /c\n" * 600_000)
 
 
 BREAKS = {
@@ -794,6 +943,12 @@ BREAKS = {
     "many at once": many_at_once,
     "answers come behind the sync": answers_behind_a_sync,
     "an input that would block": slow_input,
+    "a bit is flipped": a_bit_is_flipped,
+    "lines are lost, doubled or swapped": lines_are_moved,
+    "a log of the first form": first_form,
+    "a last line without its end": torn_line,
+    "less memory at a start": less_memory,
+    "more behind the last mark than a crash leaves": marks_are_lost,
 }
 
 
@@ -899,9 +1054,9 @@ def run_again(program, plain_program, folder, count, times):
     """A log of so many lines is run again, and its lines are answered by the plain program, by turns."""
     path, script, lines = os.path.join(folder, "again"), os.path.join(folder, "script"), speed_lines(count)
     timed([program, path])
-    for name, how in ((path, "ab"), (script, "wb")):
-        with open(name, how) as file:
-            file.write(text_of(lines))
+    kept_file(script, text_of(lines))
+    text = bytes_of(path) + text_of(lines)
+    kept_file(path, text + mark(text, len(lines), b"ok\n" * len(lines)))
     kept, plain = [], []
     for _ in range(times):
         kept.append(timed([program, path]))

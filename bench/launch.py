@@ -6,6 +6,11 @@
     ./chunkkeep FILE [OPTIONS] < SCRIPT   answers each line of a script, and keeps the store in a file
     ./NAME --build                        proves the program and builds it; from then on the proved one runs
     ./NAME --version                      says whether the proved program runs or an unproved one, and of which commit
+    ./NAME --help                         says which options and lines there are
+    ./NAME --explain [OPTIONS] < SCRIPT   tells besides, on standard error, what is wrong with each line that is refused 34
+
+Where standard error is a terminal, --explain is meant. It is of chunkstore alone: chunkkeep looks whether its file is one of the standard ones, and
+a trace has more than one line for each.
 
 A proved program runs where one stands and no source is newer. Else an unproved one runs. The first run builds that, and keeps it in the
 user's cache under a name that comes of its code and the kit's version. So each later run finds it, until the code is another."""
@@ -26,6 +31,7 @@ from dataclasses import dataclass
 from pathlib import Path
 
 import building
+import explain
 
 ROOT = Path(__file__).resolve().parent.parent
 CACHE = Path(os.environ.get("XDG_CACHE_HOME") or Path.home() / ".cache") / "chunkstore"
@@ -46,7 +52,9 @@ class Program:
 
 
 def say(text: str, end: str = "\n") -> None:
-    print(text, end=end, file=sys.stderr, flush=True)
+    """Tells people something, where there is a standard error."""
+    if sys.stderr:
+        print(text, end=end, file=sys.stderr, flush=True)
 
 
 def crates_of(top: Path, name: str) -> dict[str, str]:
@@ -240,6 +248,12 @@ def version(name: str) -> str:
     return f"{name}: {kind}, of commit {commit}{changed}"
 
 
+def is_explained(name: str, words: list[str]) -> bool:
+    """Whether it is to be told what is wrong with lines."""
+    streams = (sys.stdin, sys.stdout, sys.stderr)
+    return name == "chunkstore" and None not in streams and ("--explain" in words or sys.stderr.isatty())
+
+
 def main(name: str, words: list[str]) -> int:
     for number in (signal.SIGTERM, signal.SIGHUP):
         signal.signal(number, lambda number, _: sys.exit(128 + number))
@@ -248,7 +262,13 @@ def main(name: str, words: list[str]) -> int:
     if words == ["--version"]:
         print(version(name))
         return 0
+    # The program tells its own options, and only those: nothing on standard output, status 2.
+    if name != "chunkkeep" and {"--help", "-h"} & set(words):
+        say(explain.usage(name))
+        return 2
     program = program_of(name)
+    if is_explained(name, words):
+        return explain.run_explaining(program.path, name, [word for word in words if word != "--explain"])
     # Python ignores these, and a program that it becomes would too.
     for number in (signal.SIGPIPE, signal.SIGXFSZ):
         signal.signal(number, signal.SIG_DFL)

@@ -412,6 +412,9 @@ class Judge:
         if self.is_too_long(edit):
             return [], [*ends, state] if self.told.is_refused("TooLong") else ends
         done = [(before, before.with_edit(edit, (), size)) for before in settlings(text, size)]
+        if edit.offset is None:
+            # Where the text of whoever leads the chunk is full a record passes, and no other member is asked. So what fills it up may be owed still.
+            done += [(before, left) for left in settlings(text, size) for before in settlings(left, size) if len(before.content) == size]
         return [(before, replace(state, tree=with_text(state.tree, path, index, behind))) for before, behind in done], ends
 
     def is_too_long(self, edit: Edit) -> bool:

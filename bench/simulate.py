@@ -26,6 +26,7 @@ ENDED = re.compile(r"^(\d+) seeds held, (\d+) events in all$", re.M)
 NEEDED = (
     "edits acknowledged",
     "files read back",
+    "files written to by the client",
     "prepares accepted",
     "rollbacks accepted",
     "chunks rolled back from a copy with an image",

@@ -4,7 +4,7 @@
     bench/simulated.py [--seeds N] [--steps N] [--only WORD]
 
 prints for each wrong body the number of steps at which it was found, over all seeds, and what was said. The simulator is built once, with
-all of them: a run has the one whose number it is given, and else what stands. The last line is 'N passed, M failed': each is to be found
+all of them: a run has the one whose number it is given, and else what stands. There the master writes a checkpoint behind 24 records. The last line is 'N passed, M failed': each is to be found
 within the seeds, which are 100 of 2,000 steps if nothing is said, 200,000 steps, and without any of them nothing may be found. A run that
 crashes or takes too long fails by itself."""
 
@@ -49,7 +49,43 @@ WRONG = {
     "a commit that can't be recorded has no answer": "gs_master_guard/must-fail/a_commit_with_a_prepared_chunk_unanswered.edit",
     "promises go back at a rollback": "gs_store_seal/must-fail/promises_go_back_at_a_rollback.edit",
     "a client is told before every member has its edit": "gs_server_lease/must-fail/a_client_is_told_before_every_member_has_its_edit.edit",
+    "a repeated edit is told done early": (
+        "gs_server",
+        "src/editing.rt",
+        "if !self.is_known_of_all(handle, req) {",
+        "if !self.is_known_of_all(handle, req) && req.number == 0 {",
+    ),
+    "a replica is dropped while rolling back": "gs_master_guard/must-fail/a_replica_is_dropped_while_rolling_back.edit",
+    "a restart tells nobody of a rollback": (
+        "gs_master",
+        "src/restart.rt",
+        "tell_all(alloc, config, recorded.epoch, EpochEnd::Rollback)",
+        "Ok(Vec::new(alloc))",
+    ),
+    "a dropped copy loses its trashed image": (
+        "gs_store",
+        "src/slot.rt",
+        "trash_behind(live.replica, self.trash.take())",
+        "trash_behind(live.replica, None)",
+    ),
+    "a checkpoint loses an inverse": (
+        "gs_master_state",
+        "src/checkpoint.rt",
+        "copied_inverses(alloc, &self.inverses)?",
+        "copied_inverses(alloc, &self.inverses[..self.inverses.len().saturating_sub(1)])?",
+    ),
+    "a recovery forgets the replies of a checkpoint": (
+        "gs_master_state",
+        "src/restart.rt",
+        "told_replies(alloc, &checkpoint.replies)?",
+        "told_replies(alloc, &checkpoint.replies[..0])?",
+    ),
+    "a client's write skips a part": "gs_client/wrong-bodies/a_write_skips_a_part.edit",
+    "a client's append answers the offset in its chunk": "gs_client_part/must-fail/an_append_answers_the_wrong_offset.edit",
+    "a client reads each chunk from the first offset": "gs_client/wrong-bodies/each_chunk_is_read_from_the_first_offset.edit",
 }
+# So many records make the next tick write a checkpoint: as many as stand, and as many as a seed comes to.
+MANY_RECORDS = ("const MANY_RECORDS: u64 = 4096;", "const MANY_RECORDS: u64 = 24;")
 # The lowest crate tells all others which wrong body a run has.
 LOWEST = "gs_base"
 ASKED = """// Which wrong body a run has.
@@ -103,6 +139,8 @@ def either(number, old, new):
         return f"if (if {asked} {{ {new[3:-2]} }} else {{ {old[3:-2]} }}) {{"
     if old.startswith("return "):
         return f"if {asked} {{ {new} }}\n{old}"
+    if old.endswith(";"):
+        return f"if {asked} {{ {new} }} else {{ {old} }}"
     return f"(if {asked} {{ {new} }} else {{ {old} }})"
 
 
@@ -122,19 +160,21 @@ def turn(number, wrong):
         replaced(os.path.join(beside.COPY, "crates", crate, file), old.strip(), either(number, old, new))
 
 
-def built():
-    """Builds the simulator with all wrong bodies, and answers its path."""
-    beside.placed("chunksim", ("src",))
+def built(name="chunksim", wrong_bodies=WRONG):
+    """Builds the simulator, or another program, with all wrong bodies, and answers its path."""
+    beside.placed(name, ("src",))
     lowest = os.path.join(beside.COPY, "crates", LOWEST, "src")
     with open(os.path.join(lowest, "wrong.rt"), "w") as file:
         file.write(ASKED)
     replaced(os.path.join(lowest, "lib.rt"), "mod config;\n", "mod config;\nmod wrong;\n\npub use wrong::is_wrong;\n")
-    for number, wrong in enumerate(WRONG.values(), 1):
+    if name == "chunksim":
+        replaced(os.path.join(beside.COPY, "crates", "gs_master_plan", "src", "checkpoint.rt"), *MANY_RECORDS)
+    for number, wrong in enumerate(wrong_bodies.values(), 1):
         turn(number, wrong)
     try:
-        return beside.native("chunksim", "chunksim-wrong")
+        return beside.native(name, f"{name}-wrong")
     finally:
-        beside.placed("chunksim", ("src",))
+        beside.placed(name, ("src",))
 
 
 def found(program, number, seeds, steps):

@@ -5,6 +5,8 @@
     bench/threads.py size [--writes N] [--callers N]
     bench/threads.py growths [--runs N] [--limit SECONDS] [--seed N]
     bench/threads.py soak [--runs N] [--limit SECONDS] [--seed N]
+    bench/threads.py held [--limit SECONDS]
+    bench/threads.py faults [--limit SECONDS]
 
 Without programs each builds what it runs as it stands, unproved: `--program PATH` names a built chunkstore, `--callers-program PATH` a
 built gs_callers. Each ends with status 1 where something is wrong.
@@ -20,9 +22,13 @@ growths  A script of names, writes and an upgrade that is rolled back runs on `c
          turns as they like. A run has to end within its limit: with status 0 and an answer to each line; with status 1 where the store
          couldn't be begun or ended; or with 2 where the words couldn't be read. The first answer that differs from those on one thread has
          to be a refusal. The last line is 'N passed, M failed'.
-soak     Many runs, on one processor and on all, with `nice` and without: by turns such a script, whose answers have to be those of one
-         thread, and four callers that write 50 blocks each at once, all of which have to be accepted. Wrong is a run that differs, ends
-         badly or isn't over by its limit. The last line is 'N passed, M failed'."""
+soak     Many runs, on one processor and on all, with `nice` and without: by turns such a script with 3, 8 or 16 servers, whose answers have
+         to be those of one thread, and four callers that write 50 blocks each at once, all of which have to be accepted. Wrong is a run that
+         differs, ends badly or isn't over by its limit. The last line is 'N passed, M failed'.
+held     A step of a node is held for longer than it takes until a clock ticks, in each run another one (gs_held). The answers have to be
+         those of one thread: no server that is slow is taken for one that doesn't answer.
+faults   A program with wrong bodies, one of which a run has (as those of bench/simulated.py): each has to be found by a script with 16
+         servers, by steps that are held, or by growths that are refused, and without any of them nothing may be found."""
 
 import argparse
 import os
@@ -34,8 +40,12 @@ import sys
 import tempfile
 import time
 
+from concurrent.futures import ThreadPoolExecutor
+
 import beside
 import growths
+import launch
+import simulated
 
 KINDS = [("write", "writes of 64 KB"), ("append", "appends of 100 bytes")]
 CALLERS = [1, 2, 4]
@@ -44,6 +54,8 @@ SIZES = ["--servers", "3", "--racks", "2", "--block", "4", "--chunk", "16"]
 DISTURBED = [[], ["nice", "-n", "19"], ["taskset", "-c", "0"], ["taskset", "-c", "0", "nice", "-n", "19"]]
 SOAKED_WRITES, SOAKED_CALLERS = 50, 4
 FEW = 50
+# With how many servers scripts run by turns.
+SERVERS = [3, 8, 16]
 PARTS = [("seconds", "{:.2f}"), ("busy", "{:.2f}"), ("peak", "{:,}"), ("events", "{:,}"), ("sent", "{:,}")]
 
 
@@ -52,6 +64,8 @@ def program_of(asked, name):
     given = asked.program if name == "chunkstore" else asked.callers_program
     if given:
         return given
+    if name == "chunkstore":
+        return launch.unproved_program(name)
     beside.placed(name, ("src",))
     return beside.native(name)
 
@@ -165,12 +179,16 @@ def ended(words, limit, data=b""):
     return (done.stdout, None) if done.returncode == 0 else (None, f"status {done.returncode}: {done.stderr[-200:]!r}")
 
 
-def script_run(program, before, seed, limit):
+def sizes_of(servers):
+    return ["--servers", str(servers), *SIZES[2:]]
+
+
+def script_run(program, before, servers, seed, limit):
     data = script_of(random.Random(seed))
-    wanted, why = ended([program, *SIZES], limit, data)
+    wanted, why = ended([program, *sizes_of(servers)], limit, data)
     if why:
         return f"on one thread: {why}"
-    told, why = ended([*before, program, *SIZES, "--threads"], limit, data)
+    told, why = ended([*before, program, *sizes_of(servers), "--threads"], limit, data)
     if why or told == wanted:
         return why
     lines = zip(data.splitlines(), wanted.splitlines(), told.splitlines())
@@ -189,11 +207,13 @@ def soak(asked):
     failed, begun = 0, time.monotonic()
     for number in range(asked.runs):
         before = DISTURBED[number // 2 % len(DISTURBED)]
+        servers = SERVERS[number // 2 % len(SERVERS)]
         is_script = number % 2 == 0
-        why = script_run(program, before, asked.seed + number, asked.limit) if is_script else callers_run(callers, before, asked.limit)
+        why = script_run(program, before, servers, asked.seed + number, asked.limit) if is_script else callers_run(callers, before, asked.limit)
         if why:
             failed += 1
-            print(f"run {number} ({'script' if is_script else 'callers'}, {' '.join(before) or 'as it is'}): {why}", flush=True)
+            what = f"script with {servers} servers" if is_script else "callers"
+            print(f"run {number} ({what}, {' '.join(before) or 'as it is'}): {why}", flush=True)
     print(f"{asked.runs - failed} passed, {failed} failed, in {time.monotonic() - begun:.0f} seconds", flush=True)
     return not failed
 
@@ -261,8 +281,132 @@ def refused_growths(asked):
     return not failed
 
 
+# ---- steps that are held
+
+SNAPSHOT = b"create /f\nwrite /f 0 61\nsnapshot /f /g\nwrite /f 0 62\nread /g 0 3\nread /f 0 3\nstat /f\n"
+# A step is held so long, and a clock ticks some two seconds behind the last step.
+HELD_MILLIS = 8_000
+# The servers of a store, which of its nodes is held, and how many of that one's first steps are, each in a run of its own.
+HELD = [(1, "server 0", 1, 20), (3, "server 1", 2, 20), (3, "the master", 0, 32)]
+BESIDE_EACH_OTHER = 16
+
+
+def held_program():
+    beside.placed("gs_held", ("src",))
+    return beside.native("gs_held")
+
+
+def held_wrong(words, steps, wanted, limit, settings):
+    """The steps at which the answers are others where they are held."""
+
+    def answers(step):
+        try:
+            how = {"input": SNAPSHOT, "capture_output": True, "timeout": limit, "env": {**os.environ, **settings}}
+            return subprocess.run([*words, str(step), str(HELD_MILLIS)], **how).stdout
+        except subprocess.TimeoutExpired:
+            return None
+
+    with ThreadPoolExecutor(BESIDE_EACH_OTHER) as runs:
+        return [step for step, told in enumerate(runs.map(answers, range(steps))) if told != wanted]
+
+
+def answers_on_one_thread(asked, servers):
+    words = [program_of(asked, "chunkstore"), "--servers", str(servers), "--racks", "2", "--replicas", str(servers)]
+    return subprocess.run(words, input=SNAPSHOT, capture_output=True, check=True).stdout
+
+
+def held(asked):
+    program, passed, failed = held_program(), 0, 0
+    for servers, name, node, steps in HELD:
+        wanted = answers_on_one_thread(asked, servers)
+        wrong = held_wrong([program, str(servers), str(node)], steps, wanted, asked.limit, {})
+        print(f"{servers} servers, {name} held at each of its first {steps} steps in turn: wrong at {wrong or 'none'}", flush=True)
+        passed, failed = passed + steps - len(wrong), failed + len(wrong)
+    print(f"{passed} passed, {failed} failed", flush=True)
+    return not failed
+
+
+# ---- wrong bodies
+
+WRONG = {
+    "a message to a node behind the eighth is dropped": (
+        "gs_cluster_node",
+        "src/posting.rt",
+        "let way = &mut ways[at];",
+        "if at > 8 { return None; }; let way = &mut ways[at];",
+    ),
+    "a clock never ticks": ("gs_cluster_threads", "src/work.rt", "if !node.core().is_waiting() {", "if true {"),
+    "a caller asks nothing again": ("gs_cluster", "src/caller.rt", "node.again(rt, alloc)", "node.let_go(alloc)"),
+    "a clock ticks while a node is at work": (
+        "gs_cluster_threads",
+        "src/work.rt",
+        "let may_tick = looks >= QUIET && watch.rounds.are_behind(since);",
+        "let may_tick = looks >= QUIET;",
+    ),
+}
+# In how many runs a growth is refused.
+FEW_GROWTHS = 96
+HUNG_SECONDS = 40
+
+
+def by_servers(asked, program, settings):
+    """A run with many servers that isn't over, or whose answers are others."""
+    servers = SERVERS[-1]
+    words = ["env", *(f"{name}={value}" for name, value in settings.items()), program, str(servers), "0", "0", "0"]
+    told, why = ended(words, HUNG_SECONDS, SNAPSHOT)
+    if why or told != answers_on_one_thread(asked, servers):
+        return f"{servers} servers: {why or told}"
+    return None
+
+
+def by_held_steps(asked, program, settings):
+    servers, name, node, steps = HELD[0]
+    wrong = held_wrong([program, str(servers), str(node)], steps, answers_on_one_thread(asked, servers), asked.limit, settings)
+    return f"{name} held at step {wrong[0]}" if wrong else None
+
+
+def by_growths(asked, program, settings):
+    """A run that isn't over where one growth is refused."""
+    words = [program, str(SERVERS[0]), "0", "0", "0"]
+    with tempfile.TemporaryDirectory() as folder:
+        preload = {**os.environ, **settings, "LD_PRELOAD": growths.library(folder)}
+
+        def said(refused, limit=HUNG_SECONDS):
+            how = {"input": SNAPSHOT, "capture_output": True, "timeout": limit, "env": {**preload, "REFUSED": str(refused)}}
+            try:
+                return subprocess.run(words, **how).stderr.decode()
+            except subprocess.TimeoutExpired:
+                return None
+
+        many = int(re.search(r"^growths (\d+)$", said(0) or "growths 0", re.MULTILINE)[1])
+        refused = [1 + number * many // FEW_GROWTHS for number in range(FEW_GROWTHS)]
+        with ThreadPoolExecutor(BESIDE_EACH_OTHER) as runs:
+            hung = [growth for growth, told in zip(refused, runs.map(said, refused)) if told is None]
+    return f"hung where growth {hung[0]} of {many} is refused, of {len(hung)} that do" if hung else None
+
+
+FINDERS = [by_servers, by_held_steps, by_growths]
+
+
+def faults(asked):
+    program, passed = simulated.built("gs_held", WRONG), 0
+    for number, name in enumerate(("what stands", *WRONG)):
+        found = next(filter(None, (find(asked, program, {"WRONG_BODY": str(number)}) for find in FINDERS)), None)
+        print(f"{name}: {found or 'nothing found'}", flush=True)
+        passed += bool(found) == (number > 0)
+    print(f"{passed} passed, {len(WRONG) + 1 - passed} failed", flush=True)
+    return passed == len(WRONG) + 1
+
+
 # Each part, with the runs that it makes where none is said.
-ASKED = {"speed": (speed, None), "size": (size, None), "growths": (refused_growths, 100), "soak": (soak, 1_000)}
+ASKED = {
+    "speed": (speed, None),
+    "size": (size, None),
+    "growths": (refused_growths, 100),
+    "soak": (soak, 1_000),
+    "held": (held, None),
+    "faults": (faults, None),
+}
 
 
 def main():

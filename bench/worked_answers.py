@@ -22,6 +22,25 @@ def rows(text: str) -> tuple[tuple[str, str], ...]:
 
 WORKED = (
     Worked(
+        "a block has bytes that were only owed when a record passed them",
+        "refused 25 Range",
+        rows(
+            """
+            create /f                                ok
+            write /f 0 6161616161616161616161616161  ok
+            hold on forward                          ok
+            append /f 626262                         refused 29 Unsure
+            hold off                                 ok
+            append /f 63                             ok 16
+            digest /f 0 3                            ok f2b78158a64c5b11cd49120f689a1811517565801188d000a1fb6b24a51b2172
+            lose 0 1                                 ok
+            at 100000                                ok
+            write /f 0 64                            ok
+            digest /f 0 3                            ok 961b6dd3ede3cb8ecbaacbd68de040cd78eb2ed5889130cceb4c49268ea4d506
+            """
+        ),
+    ),
+    Worked(
         "another file was written",
         "ok 62",
         rows(

@@ -114,6 +114,8 @@ def fsck(session: Session, asked: Namespace) -> int:
         warn(f"no more copies: {refused}{blocked if found.wrong else ''}")
     is_sound = not short and not found.wrong
     say("all is sound" if is_sound else "not all is sound" + ("" if asked.repair else "; fsck --repair heals what can be healed"))
+    if phase(session)[0] != "ordinary":
+        say("an upgrade stands, of which this says nothing: upgrade status tells what a rollback would find")
     return WELL if is_sound else WRONG
 
 

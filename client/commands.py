@@ -24,7 +24,7 @@ TARGET = word("target", metavar="TARGET", help="a directory that is there, or th
 ONE = word("path", metavar="PATH")
 HUMAN = flag("-h", "--human", "sizes with units")
 FORCE = flag("-f", "--force", "puts files in the place of others")
-ANYWAY = word("--anyway", action="store_true", help="begins it also where it can't be done")
+ANYWAY = word("--anyway", action="store_true", help="begins it also where it can't be done, which closes the store for good")
 
 
 @dataclass(frozen=True)

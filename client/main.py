@@ -10,6 +10,7 @@ from client.commands import Command, add_commands, word
 from client.output import WRONG, warn
 from client.refusals import Failed
 from client.session import Ended, Place, Sizes
+from client.transfer import need_local, put
 
 SHELL = Command("shell", shell.run, "a prompt for these commands", "shell -f commands.txt", (
     word("-f", dest="file", type=Path, metavar="FILE", help="takes the commands of a file"),), True)  # fmt: skip
@@ -34,6 +35,8 @@ def main(words: list[str]) -> int:
     asked.folder = "/"
     given = {name: getattr(asked, name) for name in vars(Sizes()) if getattr(asked, name) is not None}
     try:
+        if asked.run is put:
+            need_local(asked)
         with Place(None if asked.store == MEMORY else asked.store, given).opened(asked.makes) as session:
             session.set_moment()
             return asked.run(session, asked)

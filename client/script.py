@@ -45,6 +45,8 @@ def made_again(session: Session, entry: Entry, path: str, hidden: dict[str, list
     if path != "/":
         yield f"mkdir {path}"
     for one in hidden[entry.path]:
+        if not one.is_told:
+            raise Failed(f"{shown(one.comes_back_to)}, which is in the trash, can't be read; expunge --all removes it for good")
         old = child(path, old_name(last(one.entry.path)))
         yield from made_again(session, one.entry, old, hidden)
         yield f"at {one.moment}"

@@ -17,6 +17,7 @@ from pathlib import Path
 import launch
 
 from client.names import shown
+from client.output import warn
 from client.refusals import Failed, Refused
 
 F_SETPIPE_SZ = 1031
@@ -190,6 +191,8 @@ class Session:
         part = os.read(self.program.stdout.fileno(), PIPE_BYTES)
         if not part:
             raise self.ended()
+        if not self.is_heard:
+            self.tell_start()
         self.is_heard = True
         self.unread += part
         whole, end, rest = self.unread.rpartition(b"\n")
@@ -204,6 +207,12 @@ class Session:
             return
         except BrokenPipeError:
             raise self.ended() from None
+
+    def tell_start(self) -> None:
+        """Says what a start has cut off its log."""
+        for line in os.pread(self.said.fileno(), 2_000, 0).decode(errors="replace").splitlines():
+            if line.endswith(" cut off"):
+                warn(line)
 
     def last_said(self) -> str:
         size = os.fstat(self.said.fileno()).st_size
@@ -220,7 +229,8 @@ class Session:
             return
         with open(self.place.file, newline="\n", encoding="utf-8") as log:
             next(log)
-            yield from (line.removesuffix("\n") for line in log)
+            # A line that begins with # is a mark.
+            yield from (line.removesuffix("\n") for line in log if not line.startswith("#"))
 
     def again(self) -> "Session":
         """A store without a file, that is asked nothing yet, for the lines of this one to be run again."""

@@ -119,6 +119,13 @@ def verify(session: Session, local: Local) -> None:
         raise Failed(f"{local.file}: what came into the store isn't what stands here")
 
 
+def need_local(asked: Namespace) -> None:
+    """What is to be brought in has to be there before a store is made for it."""
+    for source in map(Path, asked.sources):
+        if not source.exists():
+            raise Failed(f"{source}: no file or directory stands there")
+
+
 def put(session: Session, asked: Namespace) -> int:
     path = line_path(asked.target, asked.folder)
     is_into = is_directory(session, path)

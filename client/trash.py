@@ -11,7 +11,7 @@ from client.names import child, hidden_parts, last, line_path, old_path, parent,
 from client.output import WELL, for_each, say
 from client.refusals import Failed
 from client.session import Session
-from client.store import Entry, report_all, stats
+from client.store import NOT_FOUND, Entry, report_all, stats
 
 # What was deleted longer ago than this is removed for good by a scan.
 KEPT_SECONDS = 259_200
@@ -24,6 +24,8 @@ class Removed:
     entry: Entry
     moment: int
     number: int
+    # Whether it is known how long it is: not, where nobody has a chunk of it any more.
+    is_told: bool = True
 
     @property
     def comes_back_to(self) -> str:
@@ -58,8 +60,13 @@ def hidden_paths(session: Session) -> list[str]:
 
 def removed(session: Session) -> list[Removed]:
     """What stands in the trash, in the order in which it was deleted."""
-    found = [entry for entry in stats(session, hidden_paths(session)) if isinstance(entry, Entry)]
-    return sorted((Removed(entry, *hidden_parts(entry.path)[:2]) for entry in found), key=lambda one: one.number)
+    found, paths = [], hidden_paths(session)
+    for path, told in zip(paths, stats(session, paths)):
+        if isinstance(told, Entry):
+            found.append(Removed(told, *hidden_parts(path)[:2]))
+        elif not told.text.startswith(f"refused {NOT_FOUND} "):
+            found.append(Removed(Entry(path, False), *hidden_parts(path)[:2], is_told=False))
+    return sorted(found, key=lambda one: one.number)
 
 
 def when(moment: int) -> str:
@@ -69,7 +76,7 @@ def when(moment: int) -> str:
 def trash(session: Session, asked: Namespace) -> int:
     """When it was deleted, where it stood, and its hidden name."""
     for one in removed(session):
-        size = "dir" if one.entry.is_directory else str(one.entry.size)
+        size = "dir" if one.entry.is_directory else str(one.entry.size) if one.is_told else "?"
         say(f"{when(one.moment)} {size:>12} {shown(one.comes_back_to)} {shown(one.entry.path)}")
     return WELL
 

@@ -122,7 +122,9 @@ def status(session: Session, asked: Namespace) -> int:
         of = f"on {chunk.servers} of {session.sizes.servers} servers as it was at the prepare"
         say(f"chunk {chunk.handle}, {of}: {', '.join(map(shown, chunk.paths))}")
     lost = lost_lines(found)
-    say("a rollback would be refused" if lost else "a rollback would give all back")
+    if name == "rolling":
+        say("a rollback is begun: until it is done the store answers nothing else")
+    say("a rollback would be refused; `upgrade finalize` keeps what stands now" if lost and name == "upgrade" else "a rollback would be refused" if lost else "a rollback would give all back")
     return WRONG if lost else WELL
 
 
@@ -130,7 +132,7 @@ def rollback(session: Session, asked: Namespace) -> int:
     name, _ = phase(session)
     if name in ("upgrade", "rolling") and not asked.anyway:
         if lost := lost_lines(what_a_rollback_finds(session)):
-            raise Failed("\n".join(["a rollback can't be done, and begun it would close the store; --anyway begins it:", *lost]))
+            raise Failed("\n".join(["a rollback can't be done. Begun by --anyway, the store would answer nothing else, for good. `upgrade finalize` keeps what stands now.", *lost]))
     unrestored = rolled_back(session, name)
     if unrestored is not None:
         raise Failed(f"the rollback is begun and can't be done: nobody has chunk {unrestored} as it was at the prepare")

@@ -6,14 +6,17 @@
 
 Time goes down. Each node has a line of its own, each message is an arrow; the lines of the script stand at the left with their
 answers, and at the right, behind each line of the script, which chunks each server holds if all has arrived that was sent to it: what
-it has told of them, and what epochs and forwards make of that. Texts of messages are cut.
+it has told of them, and what epochs and forwards make of that. Texts of messages and of lines are cut.
 """
+import argparse
 import html
 import re
 import sys
 
 ROW, LEFT, GAP, RIGHT = 15, 300, 170, 330
 LONGEST = 44
+# Of a line of the script and its answer so many characters are shown each.
+LONGEST_LINE = 26
 
 
 class Held:
@@ -84,6 +87,11 @@ def changes(held, told):
     return rows
 
 
+def cut(text, most):
+    """A text of that many characters at most, which tells where something is left out."""
+    return text if len(text) <= most else f"{text[: most - 1]}…"
+
+
 def draw(servers, rows):
     nodes = ["C1", "M"] + servers
     place = {node: LEFT + 60 + GAP * i for i, node in enumerate(nodes)}
@@ -100,20 +108,23 @@ def draw(servers, rows):
         y = 45 + ROW * i
         if row[0] == "line":
             out.append(f'<line x1="0" y1="{y - 11}" x2="{width}" y2="{y - 11}" stroke="#ddd"/>')
-            out.append(f'<text x="8" y="{y}"><tspan font-weight="bold">{html.escape(row[1])}</tspan> {html.escape(row[2])}</text>')
+            line, answer = (html.escape(cut(text, LONGEST_LINE)) for text in row[1:])
+            out.append(f'<text x="8" y="{y}"><tspan font-weight="bold">{line}</tspan> {answer}</text>')
         elif row[0] == "held":
             out.append(f'<text x="{place[servers[-1]] + 60}" y="{y}" fill="#060">{row[1]}: {html.escape(row[2])}</text>')
         else:
             _, kind, sender, receiver, rest = row
             a, b = place.get(sender, LEFT), place.get(receiver, LEFT)
             out.append(f'<line x1="{a}" y1="{y}" x2="{b}" y2="{y}" stroke="#333" marker-end="url(#a)"/>')
-            text = (kind + " " + rest)[:LONGEST]
+            text = cut(f"{kind} {rest}", LONGEST)
             out.append(f'<text x="{min(a, b) + 6}" y="{y - 2}" fill="#036" font-size="9">{html.escape(text)}</text>')
     return "\n".join(out + ["</svg>"])
 
 
 def main():
-    with open(sys.argv[1], encoding="utf-8") as script:
+    parser = argparse.ArgumentParser(description="Draws what the nodes of a store say to one another: a trace on standard input, a picture on standard output.")
+    parser.add_argument("script", help="the script of which `./chunktrace < SCRIPT` told the trace")
+    with open(parser.parse_args().script, encoding="utf-8") as script:
         servers, rows = read(script, sys.stdin.readlines())
     print(draw(servers, rows))
 

@@ -26,7 +26,7 @@ class Words(StoreCase):
 
     def test_sizes_are_those_of_a_new_store(self) -> None:
         self.fs("mkdir", "/a")
-        self.assertEqual(self.store.read_text().splitlines()[0], "chunkkeep 1 --servers 3 --racks 1 --replicas 3 --chunk 16 --block 4")
+        self.assertEqual(self.store.read_text().splitlines()[0], "chunkkeep 2 --servers 3 --racks 1 --replicas 3 --chunk 16 --block 4")
 
     def test_a_store_in_memory(self) -> None:
         script = self.local("commands", b"append /f commands\ncat /f\nrm /f\ntrash\n")

@@ -1,4 +1,4 @@
-use gs_keep::{KeepFault, ReplayFault, StoreFault};
+use gs_keep::{KeepFault, ReplayFault, StoreFault, Wrong};
 use gs_keep_file::{FileFault, FileLog, LogFile, OpenFault};
 use std::io;
 use thiserror::Error;
@@ -34,6 +34,12 @@ pub(crate) enum Fault {
     Other,
     #[error("line {0} is none of a script; nothing is changed")]
     BadLine(u64),
+    #[error("line {line} is a mark that says otherwise of {wrong}; nothing is changed")]
+    Mark { line: u64, wrong: Wrong },
+    #[error("a mark of it is damaged; nothing is changed")]
+    Damaged,
+    #[error("no mark stands in its last {0} bytes, and a crash leaves fewer; nothing is changed")]
+    Unmarked(u64),
     #[error("{0}")]
     Run(StoreFault),
 }
@@ -65,11 +71,17 @@ impl Fault {
     /// Why a run over a log ended.
     pub(crate) fn of_run<F: LogFile + Drop>(fault: StoreFault, log: FileLog<F>) -> Fault {
         match fault {
-            StoreFault::Cut | StoreFault::Serve(KeepFault::Log) => Fault::of_log(log),
+            StoreFault::Cut
+            | StoreFault::Begin(KeepFault::Log)
+            | StoreFault::Serve(KeepFault::Log) => Fault::of_log(log),
             // The first line stands before those that are counted.
             StoreFault::Replay(ReplayFault::BadLine(before)) => {
                 Fault::BadLine(before.saturating_add(2))
             }
+            StoreFault::Replay(ReplayFault::Mark(before, wrong)) => Fault::Mark {
+                line: before.saturating_add(2),
+                wrong,
+            },
             fault => Fault::Run(fault),
         }
     }

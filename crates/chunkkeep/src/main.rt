@@ -13,12 +13,13 @@ mod telling;
 use fault::Fault;
 use gs_base::{Config, Refusal};
 use gs_journal::MemoryDisk;
-use gs_keep::{StoreFault, keep_on};
+use gs_keep::{Answers, keep_on};
 use gs_keep_desk::KeptDesk;
 use gs_keep_file::{FileLog, LogFile, fill_standard};
 use gs_keep_options::{Asked, Shown, explanation, read_words, what_to_show};
 use gs_nodes::empty_disks;
 use gs_shell_desk::Desk;
+use gs_shell_line::EndedLines;
 use opening::{Kept, opened};
 use patient::Patient;
 use quoting::line_text;
@@ -34,7 +35,7 @@ use telling::Teller;
 const INPUT_BYTES: usize = 1_048_576;
 
 /// What `--version` shows.
-const VERSION: &str = "chunkkeep, of form 1 of the file";
+const VERSION: &str = "chunkkeep, of form 2 of the file";
 
 /// What is to be shown for words that are refused, and its text.
 fn shown_text(alloc: Global, words: &[String]) -> Result<(Shown, String), AllocError> {
@@ -123,27 +124,29 @@ fn serve<'a, R: Files<File = File> + Input + Print + Eprint + Clock + AllocGloba
     let Kept {
         mut log,
         config,
-        measure,
+        head,
+        extent,
         mut lines,
     } = kept;
     let input = Patient::new(rt, rt.reader());
-    let Ok(mut reader) = BufReader::with_capacity(alloc, INPUT_BYTES, input) else {
+    let Ok(reader) = BufReader::with_capacity(alloc, INPUT_BYTES, input) else {
         return Err(Fault::Memory);
     };
-    let Ok(mut writer) = BufWriter::new(alloc, io::writer(rt)) else {
+    let Ok(writer) = BufWriter::new(alloc, io::writer(rt)) else {
         return Err(Fault::Memory);
     };
     let mut desk = new_desk(alloc, config)?;
-    let mut teller = Teller::new(rt, path, measure);
+    let mut teller = Teller::new(rt, path, extent);
     match keep_on(
         alloc,
         &mut desk,
         &mut log,
-        measure.whole,
+        &head,
+        extent.whole,
         &mut lines,
         &mut teller,
-        &mut reader,
-        &mut writer,
+        &mut EndedLines::new(reader),
+        &mut Answers::new(writer),
     ) {
         Ok(()) => Ok(()),
         Err(fault) => {

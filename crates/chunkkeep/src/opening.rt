@@ -3,10 +3,10 @@ ghost use Rattle.std.specs.Prelude.{◌≡◌, true, false, IfOk, is_some};
 use crate::fault::Fault;
 use gs_base::Config;
 use gs_keep_file::{FileLog, NamedFile, OpenFault, Opened, Standing, make, open, what_stands};
-use gs_keep_head::{HeadFault, head, read_head};
-use gs_keep_measure::{Measure, measure_all};
+use gs_keep_head::{Form, HeadFault, HeadLine, head, read_head};
+use gs_keep_measure::{Measure, MeasureFault, is_nearly_mark, measure_all};
 use gs_keep_options::{Asked, Sizes};
-use gs_shell_line::{Line, next_line};
+use gs_shell_line::{EndedLine, EndedLines, Line, content_of, next_line};
 use std::alloc::{AllocError, Global};
 use std::fs::File;
 use std::io::{self, BufReader, Read, Seek, SeekFrom, Take};
@@ -18,14 +18,32 @@ const FILE_BYTES: usize = 65_536;
 /// What the beginning of each first line is.
 const HEAD_WORD: &[u8] = b"chunkkeep ";
 
+/// The bytes of a mark.
+const MARK_BYTES: u64 = 153;
+
+/// The most bytes that a crash may leave behind the last mark: above those of a batch with its mark, which has at most one line behind a
+/// mebibyte of lines.
+const MOST_BEHIND: u64 = 4_194_304;
+
+/// How much of a file is run again.
+#[derive(Clone, Copy)]
+pub(crate) struct Extent {
+    /// The bytes that are run again, and those of the first line.
+    pub(crate) whole: u64,
+    /// The bytes behind them.
+    pub(crate) rest: u64,
+}
+
 /// A file that a store is kept in.
 #[derive(Drop)]
 pub(crate) struct Kept<'a, R> {
     pub(crate) log: FileLog<NamedFile<'a, R>>,
     pub(crate) config: Config,
-    pub(crate) measure: Measure,
-    /// The whole lines of the file behind the first one.
-    pub(crate) lines: BufReader<Take<File>>,
+    /// The first line, with its end.
+    pub(crate) head: Vec<u8>,
+    pub(crate) extent: Extent,
+    /// What is run again.
+    pub(crate) lines: EndedLines<BufReader<Take<File>>>,
 }
 
 /// The first bytes of a file.
@@ -35,10 +53,55 @@ fn front(alloc: Global, mut file: File, len: u64) -> io::Result<BufReader<Take<F
 }
 
 /// Measures a file, which is left at its end.
-fn measured(alloc: Global, file: File) -> io::Result<(File, Measure)> {
-    let mut reader = BufReader::with_capacity(alloc, FILE_BYTES, file)?;
-    let measure = measure_all(&mut reader)?;
-    Ok((reader.into_inner(), measure))
+fn measured(alloc: Global, file: File) -> Result<(File, Measure), Fault> {
+    let mut reader = BufReader::with_capacity(alloc, FILE_BYTES, file).map_err(Fault::Read)?;
+    match measure_all(alloc, &mut EndedLines::new(&mut reader)) {
+        Ok(measure) => Ok((reader.into_inner(), measure)),
+        Err(MeasureFault::Read(error)) => Err(Fault::Read(error)),
+        Err(MeasureFault::Memory) => Err(Fault::Memory),
+        Err(MeasureFault::Damaged) => Err(Fault::Damaged),
+    }
+}
+
+/// Whether a file of so many bytes ends with what is a mark but for one byte.
+fn ends_with_nearly_mark(alloc: Global, file: &mut File, len: u64) -> io::Result<bool> {
+    let mut bytes = Vec::new(alloc);
+    file.seek(SeekFrom::Start(len.saturating_sub(MARK_BYTES)))?;
+    file.read_to_end(&mut bytes)?;
+    Ok(is_nearly_mark(&bytes))
+}
+
+/// The bytes of a file that are run again, and those of its first line. In a log of form 1 without a mark they are all whole lines, else
+/// all up to the last mark.
+fn whole_of(form: Form, measure: Measure, head_len: u64) -> Result<u64, Fault> {
+    if form == Form::Two || measure.marked > 0 {
+        return Ok(measure.marked.max(head_len));
+    }
+    if measure.is_lost {
+        return Err(Fault::Damaged);
+    }
+    Ok(measure.whole)
+}
+
+/// How much of a file is run again. A file that ends with what is a mark but for one byte is refused: a bit of it may have flipped. So is
+/// one with more behind its last mark than a crash may leave.
+fn extent_of(
+    alloc: Global,
+    file: &mut File,
+    form: Form,
+    measure: Measure,
+    head_len: u64,
+) -> Result<Extent, Fault> {
+    let whole = whole_of(form, measure, head_len)?;
+    let len = file.seek(SeekFrom::End(0)).map_err(Fault::Read)?;
+    let rest = len.saturating_sub(whole);
+    if rest > MOST_BEHIND {
+        return Err(Fault::Unmarked(rest));
+    }
+    if rest > 0 && ends_with_nearly_mark(alloc, file, len).map_err(Fault::Read)? {
+        return Err(Fault::Damaged);
+    }
+    Ok(Extent { whole, rest })
 }
 
 /// Refuses sizes that are asked for and aren't the store's.
@@ -52,15 +115,19 @@ fn compare(sizes: &Sizes, config: &Config) -> Result<(), Fault> {
     }
 }
 
-/// The store of a first line.
-fn config_of(alloc: Global, line: &Line) -> Result<Config, Fault> {
-    let text = match line {
-        Line::Text(text) => text,
-        Line::NoMemory => return Err(Fault::Memory),
-        _ => return Err(Fault::Other),
-    };
-    match read_head(alloc, text) {
-        Ok(config) => Ok(config),
+/// A first line, with its end.
+fn first_line(line: EndedLine) -> Result<Vec<u8>, Fault> {
+    match line {
+        EndedLine::Text(line) => Ok(line),
+        EndedLine::NoMemory => Err(Fault::Memory),
+        _ => Err(Fault::Other),
+    }
+}
+
+/// What a first line says.
+fn head_of(alloc: Global, line: &[u8]) -> Result<HeadLine, Fault> {
+    match read_head(alloc, content_of(line)) {
+        Ok(head) => Ok(head),
         Err(HeadFault::Memory) => Err(Fault::Memory),
         Err(HeadFault::Version) => Err(Fault::OtherVersion),
         Err(HeadFault::Other) => Err(Fault::Other),
@@ -69,7 +136,7 @@ fn config_of(alloc: Global, line: &Line) -> Result<Config, Fault> {
 
 /// The first line of a log, with its end.
 fn head_line(alloc: Global, config: &Config) -> Result<String, AllocError> {
-    let mut text = head(alloc, config)?;
+    let mut text = head(alloc, Form::Two, config)?;
     text.push('\n')?;
     Ok(text)
 }
@@ -89,7 +156,7 @@ fn unfinished(alloc: Global, lines: &mut BufReader<Take<File>>) -> Fault {
     }
 }
 
-/// Takes up the store of a file, of which so many bytes are whole lines.
+/// Takes up the store of a file.
 fn taken_up<'a, R: Files<File = File> + AllocGlobal>(
     rt: &R,
     opened: Opened<'a, R>,
@@ -100,19 +167,26 @@ fn taken_up<'a, R: Files<File = File> + AllocGlobal>(
 {
     let alloc = rt.alloc();
     let Opened { log, reader } = opened;
-    let (file, measure) = measured(alloc, reader).map_err(Fault::Read)?;
+    let (file, measure) = measured(alloc, reader)?;
+    let mut first = front(alloc, file, u64::MAX).map_err(Fault::Read)?;
     if measure.whole == 0 {
-        let mut lines = front(alloc, file, measure.rest).map_err(Fault::Read)?;
-        return Err(unfinished(alloc, &mut lines));
+        return Err(unfinished(alloc, &mut first));
     }
-    let mut lines = front(alloc, file, measure.whole).map_err(Fault::Read)?;
-    let next = next_line(alloc, &mut lines).map_err(Fault::Read)?;
-    let config = config_of(alloc, &next.line)?;
+    let next = EndedLines::new(&mut first)
+        .next(alloc)
+        .map_err(Fault::Read)?;
+    let line = first_line(next.line)?;
+    let HeadLine { form, config } = head_of(alloc, &line)?;
     compare(sizes, &config)?;
+    let mut file = first.into_inner().into_inner();
+    let extent = extent_of(alloc, &mut file, form, measure, line.len() as u64)?;
+    let mut lines = EndedLines::new(front(alloc, file, extent.whole).map_err(Fault::Read)?);
+    lines.next(alloc).map_err(Fault::Read)?;
     Ok(Kept {
         log,
         config,
-        measure,
+        head: line,
+        extent,
         lines,
     })
 }

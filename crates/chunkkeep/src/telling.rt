@@ -1,5 +1,5 @@
+use crate::opening::Extent;
 use gs_keep::{Progress, Replayed};
-use gs_keep_measure::Measure;
 use std::rt::Clock;
 use std::time::Instant;
 
@@ -11,18 +11,18 @@ const LINES: u64 = 16;
 pub(crate) struct Teller<'a, R> {
     rt: &'a R,
     path: &'a str,
-    measure: Measure,
+    extent: Extent,
     begun: Option<Instant>,
     /// How many seconds had passed when it told last.
     told: u64,
 }
 
 impl<'a, R: Eprint + Clock> Teller<'a, R> {
-    pub(crate) fn new(rt: &'a R, path: &'a str, measure: Measure) -> Teller<'a, R> {
+    pub(crate) fn new(rt: &'a R, path: &'a str, extent: Extent) -> Teller<'a, R> {
         Teller {
             rt,
             path,
-            measure,
+            extent,
             begun: Instant::now(rt).ok(),
             told: 0,
         }
@@ -59,22 +59,16 @@ impl<R: Eprint + Clock> Progress for Teller<'_, R> {
     fn ended(&mut self, replayed: Replayed) {
         let path = self.path;
         let lines = replayed.lines;
-        let lacking = replayed.lacking;
         let millis = self.passed_millis();
         let _ = eprintln!(self.rt; "chunkkeep: {path}: {lines} lines run again in {millis} ms");
-        if lacking > 0 {
-            let _ = eprintln!(self.rt;
-                "chunkkeep: {path}: memory was lacking for {lacking} of them, which may not have come out as they did first"
-            );
-        }
     }
 
     fn cut(&mut self) {
         let path = self.path;
-        let rest = self.measure.rest;
+        let rest = self.extent.rest;
         if rest > 0 {
             let _ = eprintln!(self.rt;
-                "chunkkeep: {path}: {rest} bytes behind the last whole line are cut off"
+                "chunkkeep: {path}: {rest} bytes behind what was answered are cut off"
             );
         }
     }

@@ -3,6 +3,8 @@ ghost use Rattle.gs_cluster_history.specs.Setting.{all_ids};
 ghost use Rattle.gs_cluster_threads.specs.Gathered.{Gathers};
 
 use crate::gathering::{Gathered, gather};
+use crate::rounds::Rounds;
+use crate::watch::Watch;
 use crate::work::host;
 use gs_base::Refusal;
 use gs_cluster_history::Core;
@@ -18,6 +20,7 @@ use std::time::Clock;
 pub struct Hosts<N: Plan, C: Core + Drop> {
     alloc: Global,
     end: Arc<AtomicBool, Global>,
+    rounds: Arc<Rounds, Global>,
     pub handles: Vec<JoinHandle<Node<N, C>>>,
 }
 
@@ -26,6 +29,7 @@ impl<N: Plan, C: Core + Drop> Drop for Hosts<N, C> {
         let Self {
             alloc: _,
             end,
+            rounds: _,
             handles: _,
         } = self;
         end.store(true, Ordering::SeqCst);
@@ -41,14 +45,11 @@ fn host_of<
 >(
     rt: &R,
     alloc: Global,
-    gate: &Arc<G, Global>,
-    end: &Arc<AtomicBool, Global>,
+    watch: Watch<G>,
     node: Node<N, C>,
 ) -> Result<JoinHandle<Node<N, C>>, AllocError> {
-    let gate = Arc::try_clone(gate)?;
-    let end = Arc::try_clone(end)?;
     let own = *rt;
-    let handle = thread::spawn(rt, move || host(&own, alloc, &*gate, &*end, node))?;
+    let handle = thread::spawn(rt, move || host(&own, alloc, &watch, node))?;
     Ok(handle)
 }
 
@@ -61,8 +62,7 @@ fn host_all<
 >(
     rt: &R,
     alloc: Global,
-    gate: &Arc<G, Global>,
-    end: &Arc<AtomicBool, Global>,
+    watch: &Watch<G>,
     nodes: Vec<Node<N, C>>,
     handles: &mut Vec<JoinHandle<Node<N, C>>>,
 ) -> Result<(), AllocError>
@@ -70,7 +70,8 @@ fn host_all<
     ensures { OnOk result (vec_len handles.new ≡ vec_len handles.old + vec_len nodes) }
 {
     for node in nodes {
-        let handle = host_of(rt, alloc, gate, end, node)?;
+        let own = watch.from(handles.len())?;
+        let handle = host_of(rt, alloc, own, node)?;
         handles.push_reserved(handle);
     }
     Ok(())
@@ -96,13 +97,15 @@ impl<N: Plan + Send + Sync + 'static, C: Core + Drop + Send + 'static> Hosts<N, 
     >(rt: &R, alloc: Global, gate: G, nodes: Vec<Node<N, C>>) -> Result<Hosts<N, C>, AllocError>
         ensures { IfOk result (λ hosts. vec_len hosts.handles ≡ vec_len nodes) }
     {
-        let gate = Arc::new(alloc, gate)?;
-        let end = Arc::new(alloc, AtomicBool::new(false))?;
+        let watch = Watch::new(alloc, gate, nodes.len())?;
+        let end = Arc::try_clone(&watch.end)?;
+        let rounds = Arc::try_clone(&watch.rounds)?;
         let mut handles = Vec::with_capacity(alloc, nodes.len())?;
-        match host_all(rt, alloc, &gate, &end, nodes, &mut handles) {
+        match host_all(rt, alloc, &watch, nodes, &mut handles) {
             Ok(()) => Ok(Hosts {
                 alloc,
                 end,
+                rounds,
                 handles,
             }),
             Err(refused) => {
@@ -110,6 +113,11 @@ impl<N: Plan + Send + Sync + 'static, C: Core + Drop + Send + 'static> Hosts<N, 
                 Err(refused)
             }
         }
+    }
+
+    /// The rounds in which its threads look at the nodes.
+    pub fn rounds(&self) -> Result<Arc<Rounds, Global>, AllocError> {
+        Arc::try_clone(&self.rounds)
     }
 
     /// Ends the threads, and gives what all nodes have come to, those of the callers among them, and what each has noted. It is given only where none is
@@ -124,6 +132,7 @@ impl<N: Plan + Send + Sync + 'static, C: Core + Drop + Send + 'static> Hosts<N, 
         let Hosts {
             alloc,
             end,
+            rounds: _,
             handles,
         } = self;
         let mut nodes = callers;

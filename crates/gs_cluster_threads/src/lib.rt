@@ -5,11 +5,14 @@
 mod gathering;
 mod hosts;
 mod placing;
+mod rounds;
 mod settling;
+mod watch;
 mod wiring;
 mod work;
 
 pub use gathering::{Gathered, Member, gather};
 pub use hosts::Hosts;
+pub use rounds::Rounds;
 pub use wiring::{Seed, wire};
 pub use work::{LOOKS, rest};

@@ -1,16 +1,20 @@
 // The work of threads.
+use crate::watch::Watch;
 use gs_cluster_history::Core;
 use gs_cluster_node::{Gate, Node, Plan};
 use gs_msg::{Event, Happening, NodeId, StoreNode};
 use std::alloc::Global;
-use std::sync::atomic::{AtomicBool, Ordering};
 use std::sync::{Mutex, Wait};
 use std::thread;
 use std::thread::Threads;
 use std::time::{Clock, Duration};
 
-/// So often a thread looks while nothing happens to its node before it lets the node's clock tick, if something waits there.
+/// So often a caller looks while nothing comes before it asks once more.
 pub const LOOKS: u32 = 7_000;
+
+/// So often a thread looks while nothing happens to its node before it lets the node's clock tick, if something waits there. A caller that
+/// asks once more is something that happens: so this comes before it.
+const QUIET: u32 = 6_500;
 
 /// So often it looks without a rest.
 const EAGER: u32 = 2_000;
@@ -87,16 +91,21 @@ fn make_step<N: Plan, C: Core + Drop, R: Wait, G: Gate>(
     tick(rt, alloc, gate, node, made)
 }
 
-/// Looks once what there is to do for a node: what waits for room goes on its way, and a step is made, if there is one to make.
-fn look<N: Plan, C: Core + Drop, R: Wait, G: Gate>(
+/// Looks once what there is to do for a node: what waits for room goes on its way, and a step is made, if there is one to make. Where
+/// there is none, that is seen in the round that goes on.
+fn look<N: Plan, C: Core + Drop, R: Wait, G: Gate + Drop>(
     rt: &R,
     alloc: Global,
-    gate: &G,
+    watch: &Watch<G>,
     node: &mut Node<N, C>,
     quiet_since: Option<u64>,
 ) -> Seen {
+    let round = watch.rounds.now();
     node.put_waiting(rt);
-    let made = make_step(rt, alloc, gate, node, quiet_since);
+    let made = make_step(rt, alloc, &*watch.gate, node, quiet_since);
+    if made.is_none() {
+        watch.rounds.saw_idle(watch.at, round);
+    }
     let steps = node.steps();
     Seen { made, steps }
 }
@@ -112,30 +121,33 @@ pub fn rest<R: Clock>(rt: &R, looks: u32) {
     }
 }
 
-/// The work of one thread, until the cluster ends. What either thread of a node does begins its waiting for a tick anew.
-fn work<N: Plan, C: Core + Drop, R: Wait + Clock, G: Gate>(
+/// The work of one thread, until the cluster ends. What either thread of a node does begins its waiting for a tick anew. The node's
+/// clock doesn't tick while something is under way that came of its last step.
+fn work<N: Plan, C: Core + Drop, R: Wait + Clock, G: Gate + Drop>(
     rt: &R,
     alloc: Global,
-    gate: &G,
-    end: &AtomicBool,
+    watch: &Watch<G>,
     seat: &Mutex<Node<N, C>>,
 ) {
     let mut looks: u32 = 0;
     let mut seen: u64 = 0;
+    let mut since: u64 = 0;
     for _ in rt.forever() {
-        if end.load(Ordering::SeqCst) {
+        if watch.is_over() {
             return;
         }
-        let quiet_since = if looks >= LOOKS { Some(seen) } else { None };
-        let Seen { made, steps } = look(rt, alloc, gate, &mut *seat.lock(rt), quiet_since);
+        let may_tick = looks >= QUIET && watch.rounds.are_behind(since);
+        let quiet_since = if may_tick { Some(seen) } else { None };
+        let Seen { made, steps } = look(rt, alloc, watch, &mut *seat.lock(rt), quiet_since);
         if let Some(Made { node, step }) = made {
-            gate.leave(node, step);
+            watch.gate.leave(node, step);
         }
         if steps == seen {
-            looks = looks.saturating_add(1).min(LOOKS);
+            looks = looks.saturating_add(1).min(QUIET);
             rest(rt, looks);
         } else {
             seen = steps;
+            since = watch.rounds.now();
             looks = 0;
         }
     }
@@ -146,13 +158,13 @@ pub(crate) fn host<
     N: Plan + Send + Sync,
     C: Core + Drop + Send,
     R: Threads + Wait + Clock + Sync,
-    G: Gate + Sync,
->(rt: &R, alloc: Global, gate: &G, end: &AtomicBool, node: Node<N, C>) -> Node<N, C> {
+    G: Gate + Drop + Send + Sync,
+>(rt: &R, alloc: Global, watch: &Watch<G>, node: Node<N, C>) -> Node<N, C> {
     let seat = Mutex::new(node);
     thread::join(
         rt,
-        || work(rt, alloc, gate, end, &seat),
-        || work(rt, alloc, gate, end, &seat),
+        || work(rt, alloc, watch, &seat),
+        || work(rt, alloc, watch, &seat),
     );
     seat.into_inner()
 }

@@ -1,100 +1,143 @@
 -- A log's lines are run again, and then the input is served.
-use Rattle.std.proofs.Common.{refl, ◌≡◌, ◌++◌, ◌∷◌, [], ℕ, List, Bool, false, Option, Some, None, IfSome, take, sym, ap, subst, ◌∙◌, append_assoc, append-nil, inl, ⊎_elim}
-use Rattle.gs_keep_log.specs.Log.{LogDoes, Held, MayLeave, shortened, whole}
-use Rattle.gs_shell_script.specs.Run.{AnswersLine, Runs, lines_of, memory_text}
-use Rattle.gs_keep.specs.Gathering.{lines_asked}
-use Rattle.gs_keep.specs.Keeping.{HasHead, KeepsOn, LeavesFront, LeavesScript, ReadsLog, StopsOn}
-use Rattle.gs_keep.specs.Lines.{Asked, log_of}
-use Rattle.gs_keep.specs.Replaying.{ReplaysSome, WholeLines}
-use Rattle.gs_keep.specs.Serving.{AnswersLogged, AnswersAll, Fails, Kept, Leaves, Serves, at_rest}
+use Rattle.std.proofs.Common.{◌≡◌, ◌<◌, ◌++◌, ◌∷◌, [], ℕ, List, Bool, true, false, Option, Some, None, IfSome, length, map, refl, sym, ap, subst, ◌∙◌, arith, append_assoc, append-nil}
+use Rattle.gs_keep_log.specs.Log.{Held, LogDoes, shortened}
+use Rattle.gs_shell_script.specs.Run.{Runs, lines_of}
+use Rattle.gs_keep_mark.specs.Ledgers.{IsLedger}
+use Rattle.gs_keep_mark.specs.Marks.{Entry, Totals, beginning, mark_of, marked, text_of, totals_behind, with_batch}
+use Rattle.gs_keep_mark.specs.declared.Ledger.{Ledger}
+use Rattle.gs_keep.specs.Keeping.{Begins, KeepsOn, LeavesAll, ReadsLog, StoreFails, StopsOn}
+use Rattle.gs_keep.specs.Lines.{entries, joined, kept_behind, lines_asked, texts_of}
+use Rattle.gs_keep.specs.Replaying.{Replays, RunsAgain}
+use Rattle.gs_keep.specs.Serving.{Closes, Fails, RestsAt, SealFails, Serves, at_rest}
+use Rattle.gs_keep.specs.declared.again.Replayed.{Replayed}
 use Rattle.gs_keep.specs.declared.fault.KeepFault.{KeepFault}
-use Rattle.gs_keep.proofs.Crashes.{cut_leaves, fails_leave, goes_on, stands_behind}
-use Rattle.gs_keep.proofs.Replaying.{runs_join}
-use Rattle.gs_keep.proofs.Standing.{AreLines, are_lines, lines_back, lines_front}
+use Rattle.gs_keep.specs.declared.fault.KeepFault.TheVariants as keep
+use Rattle.gs_keep.specs.declared.fault.StoreFault.TheVariants as fault
+use Rattle.gs_keep.proofs.Batches.{again_join, again_then, answers_again, text_behind, text_with}
+use Rattle.gs_keep.proofs.Logs.{leaves_less, most_leaves, rest_leaves}
 use Rattle.gs_keep.proofs.Weaken.{if_some}
 
--- what a log holds behind its head, once more was logged
-held : (len : ℕ) (log log' log'' : Option Held) (script logged : List ℕ) → ReadsLog len log (Some script) → LogDoes (shortened len) log log' → Kept log' logged log''
-    → IfSome log (λ h. (head : List ℕ) × HasHead len h script head × (log'' ≡ Some (at_rest (head ++ (script ++ logged)))))
-held len None log' log'' script logged reads cut kept = tt
-held len (Some h) log' log'' script logged (head, is) cut kept = (
-  head,
-  is,
-  kept (take len (whole h)) cut ∙ ap (λ (l : List ℕ). Some (at_rest (l ++ logged))) is ∙ ap (λ (l : List ℕ). Some (at_rest l)) (append_assoc head script logged),
-)
+-- what a log holds once it is cut
+cut_rests : (head script : List ℕ) (len : ℕ) (log log' : Option Held) → ReadsLog head len log (Some script) → LogDoes (shortened len) log log' → IfSome log (λ h. RestsAt log' (head ++ script))
+cut_rests head script len None log' reads cut = tt
+cut_rests head script len (Some h) log' reads cut = cut ∙ ap (λ (l : List ℕ). Some (at_rest l)) reads
 
--- what a crash leaves of it behind its head
-crash : (len : ℕ) (log log' log'' : Option Held) (script asked waiting : List ℕ) (Goes : List ℕ → Type 0) → ReadsLog len log (Some script) → LogDoes (shortened len) log log' → Leaves log' asked waiting log''
-    → ((count : ℕ) (lines : List ℕ) → WholeLines (script ++ (asked ++ take count waiting)) lines → Goes lines)
-    → IfSome log (λ h. (head : List ℕ) × HasHead len h script head × IfSome log'' (λ k. (c : List ℕ) → MayLeave k c → (behind : List ℕ) × (c ≡ head ++ behind) × ((lines : List ℕ) → WholeLines behind lines → Goes lines)))
-crash len None log' log'' script asked waiting Goes reads cut leaves goes = tt
-crash len (Some h) log' log'' script asked waiting Goes (head, is) cut leaves goes = (
-  head,
-  is,
-  if_some log'' _ _ (λ k left c may.
-      let (n, e) = left c may in (
-        script ++ (asked ++ take n waiting),
-        e ∙ ap (λ (l : List ℕ). l ++ (asked ++ take n waiting)) is ∙ append_assoc head script (asked ++ take n waiting),
-        goes n,
-      )) (leaves (take len (whole h)) cut),
-)
+-- the text of what is run again
+all_text : (head : List ℕ) (batches : List (List Entry)) (last : List Entry) → head ++ (marked (beginning head) batches ++ text_of last) ≡ (with_batch (totals_behind (beginning head) batches) last).text
+all_text head batches last =
+    let t = beginning head in
+    sym (append_assoc head (marked t batches) (text_of last)) ∙ ap (λ (l : List ℕ). l ++ text_of last) (sym (text_behind t batches)) ∙ sym (text_with (totals_behind t batches) last)
 
--- the cut fails
-pub cut_on : (logged left : Option (List ℕ)) (len : ℕ) (log log' : Option Held) (out : Option (List ℕ)) → ReadsLog len log logged → LeavesFront len log log'
-    → IfSome logged (λ script. IfSome left (λ input. LeavesFront len log log' × LeavesScript len script log log' × (left ≡ Some input) × (out ≡ out)))
-cut_on None left len log log' out reads leaves = tt
-cut_on (Some script) None len log log' out reads leaves = tt
-cut_on (Some script) (Some input) len log log' out reads leaves = (leaves, cut_leaves len script log log' reads leaves, refl, refl)
+kept_more : (t : Totals) (batch : List Entry) → (more : List ℕ) × ((kept_behind t batch).text ≡ t.text ++ more)
+kept_more t [] = ([], sym (append-nil t.text))
+kept_more t (e ∷ batch) =
+    let all : List Entry = e ∷ batch in
+    let m = mark_of (with_batch t all) in
+    (text_of all ++ m, ap (λ (l : List ℕ). l ++ m) (text_with t all) ∙ append_assoc t.text (text_of all) m)
 
 module _ {S : Type 0} (A : S → List ℕ → List ℕ → S → Type 0) (is_kept : List ℕ → Bool) where
-  -- a line that is logged and answered is answered
-  line_run : (old new : S) (asked : Asked) (text : List ℕ) → AnswersLogged A is_kept old asked text new → AnswersLine A old asked.line text new
-  line_run old new asked text answers = ⊎_elim lacking (λ line. line.1) answers
-    where
-      lacking : (asked.logged ≡ []) × (text ≡ memory_text) × (new ≡ old) → AnswersLine A old asked.line text new
-      lacking (empty, told, same) = inl (told, same)
+  -- lines that have no mark get one
+  closed : (is_open : Bool) (t : Totals) (last : List Entry) (ledger ledger' : Ledger) (log log' : Option Held) (text : List ℕ) → (is_open ≡ false → last ≡ []) → (is_open ≡ true → 0 < length last)
+      → Closes is_open ledger ledger' log log' → IsLedger ledger (with_batch t last) → text ≡ (with_batch t last).text
+      → IsLedger ledger' (kept_behind t last) × (RestsAt log text → RestsAt log' (kept_behind t last).text)
+  closed false t [] ledger ledger' log log' text none some (same, log_same) told is = (subst (λ (l : Ledger). IsLedger l t) (sym same) told, λ rests. log_same ∙ rests ∙ ap (λ (l : List ℕ). Some (at_rest l)) is)
+  closed false t (e ∷ last) ledger ledger' log log' text none some closes told is = absurd (omega (arith, ap length (none refl)))
+  closed true t [] ledger ledger' log log' text none some closes told is = absurd (omega (arith, some refl))
+  closed true t (e ∷ last) ledger ledger' log log' text none some closes told is =
+      let (told', rests) = closes.1 (with_batch t (e ∷ last)) told in
+      (told', rests text (append-nil text ∙ is))
 
-  lines_run : (old new : S) (asked : List Asked) (texts : List (List ℕ)) → AnswersAll A is_kept old asked texts new → Runs A old (lines_asked asked) texts new
-  lines_run old new [] [] same = same
-  lines_run old new [] (t ∷ ts) all = absurd all
-  lines_run old new (a ∷ more) [] all = absurd all
-  lines_run old new (a ∷ more) (t ∷ ts) (mid, one, rest) = (mid, line_run old mid a t one, lines_run mid new more ts rest)
+  pub begins : (head script : List ℕ) (len : ℕ) (done : Replayed) (log log' log'' : Option Held) (first ledger ledger' : Ledger) (start mid : S) → ReadsLog head len log (Some script) → IsLedger first (beginning head)
+      → Replays A is_kept start script done first ledger mid → LogDoes (shortened len) log log' → Closes done.is_open ledger ledger' log' log'' → Begins A is_kept start head script len log log'' ledger' mid
+  begins head script len done log log' log'' first ledger ledger' start mid reads told (number, p) cut closes =
+      let t = totals_behind (beginning head) p.batches in
+      let (is, told') = p.is (beginning head) told in
+      let text : script ≡ marked (beginning head) p.batches ++ text_of p.last = is ∙ ap (λ (l : List ℕ). marked (beginning head) p.batches ++ l) (append-nil (text_of p.last)) in
+      let (told'', rests) = closed done.is_open t p.last ledger ledger' log' log'' (head ++ script) p.none_open p.some_open closes told' (ap (λ (l : List ℕ). head ++ l) text ∙ all_text head p.batches p.last) in
+      record {
+        batches = p.batches;
+        last = p.last;
+        again = p.runs;
+        plain = p.plain;
+        last_plain = p.last_plain;
+        is = text;
+        told = told'';
+        rests = if_some log _ _ (λ h r. rests r) (cut_rests head script len log log' reads cut);
+      }
 
-  module _ (changes_nothing : (old new : S) (line text : List ℕ) → is_kept line ≡ false → A old line text new → new ≡ old) where
-    pub keeps_on : (start mid end : S) (script input : List ℕ) (len count lacking : ℕ) (log log' log'' : Option Held) (out out' : Option (List ℕ)) → ReadsLog len log (Some script)
-        → ReplaysSome A is_kept start (lines_of script) count lacking mid → LogDoes (shortened len) log log' → Serves A is_kept mid input [] log' log'' out out' end
-        → KeepsOn A is_kept start script input len log log'' out out' end
-    keeps_on start mid end script input len count lacking log log' log'' out out' reads replayed cut served =
-        let all : lines_of input ≡ lines_asked served.asked = served.parts ∙ append-nil (lines_asked served.asked) in
-        let lines : AreLines (lines_asked served.asked) = subst AreLines all (are_lines input) in
-        record {
-          mid = mid;
-          thrown = replayed.texts;
-          replays = replayed.runs;
-          between = log';
-          cut = cut;
-          serves = served;
-          together = runs_join A start mid end (lines_of script) (lines_of input) replayed.texts served.texts replayed.runs
-              (subst (λ (ls : List (List ℕ)). Runs A mid ls served.texts end) (sym all) (lines_run mid end served.asked served.texts served.answers));
-          holds = held len log log' log'' script (log_of served.asked) reads cut served.kept;
-          stands = λ ended. stands_behind A is_kept changes_nothing start mid end script replayed.texts served.asked served.texts ended replayed.logged replayed.runs lines served.answers;
-        }
+  pub keeps_on : (head script input : List ℕ) (len : ℕ) (log between log' : Option Held) (out out' : Option (List ℕ)) (ledger ledger' : Ledger) (start mid end : S)
+      → Begins A is_kept start head script len log between ledger mid → Serves A is_kept mid input [] between log' out out' ledger ledger' end → KeepsOn A is_kept start head script input len log log' out out' end
+  keeps_on head script input len log between log' out out' ledger ledger' start mid end b s =
+      let all = joined b.batches ++ b.last in
+      let lines : lines_of input ≡ lines_asked s.turns = s.parts ∙ append-nil (lines_asked s.turns) in
+      let (told, rests) = s.kept (kept_behind (totals_behind (beginning head) b.batches) b.last) b.told in
+      record {
+        between = between;
+        told = ledger;
+        ended = ledger';
+        mid = mid;
+        begins = b;
+        serves = s;
+        together = subst (λ (ls : List (List ℕ)). Runs A start (map (λ (e : Entry). e.line) all ++ ls) (map (λ (e : Entry). e.answer) all ++ texts_of s.turns) end) (sym lines)
+            (again_then A is_kept start mid end all s.turns b.again s.answers);
+        stands = again_join A is_kept start mid end all (joined s.batches) b.again
+            (subst (λ (l : List Entry). RunsAgain A is_kept mid l end) s.logged (answers_again A is_kept mid end s.turns s.answers));
+        holds = if_some log _ _ (λ h r. rests r) b.rests;
+      }
 
-    pub stops_on : (f : KeepFault) (start mid end : S) (script input : List ℕ) (left : Option (List ℕ)) (len count lacking : ℕ) (log log' log'' : Option Held) (out out' : Option (List ℕ)) → ReadsLog len log (Some script)
-        → ReplaysSome A is_kept start (lines_of script) count lacking mid → LogDoes (shortened len) log log' → Fails A is_kept f mid input left log' log'' out out' end
-        → StopsOn A is_kept f start script input left len log log'' out out' end
-    stops_on f start mid end script input left len count lacking log log' log'' out out' reads replayed cut fails =
-        let s = fails.0 in
-        let lines : AreLines (lines_asked s.asked ++ (lines_asked s.waiting ++ lines_of s.rest)) = subst AreLines s.parts (are_lines input) in
-        let behind = lines_back (lines_asked s.asked) (lines_asked s.waiting ++ lines_of s.rest) lines in
-        record {
-          mid = mid;
-          thrown = replayed.texts;
-          replays = replayed.runs;
-          between = log';
-          cut = cut;
-          fails = fails;
-          crashes = λ ended. crash len log log' log'' script (log_of s.asked) (log_of s.waiting) _ reads cut (fails_leave A is_kept f mid end input left log' log'' out out' fails)
-              (λ n text. goes_on A is_kept changes_nothing start mid end script replayed.texts s.texts s.asked s.waiting ended replayed.logged replayed.runs
-              (lines_front (lines_asked s.asked) (lines_asked s.waiting ++ lines_of s.rest) lines) s.answers (lines_front (lines_asked s.waiting) (lines_of s.rest) behind) s.logged n text);
-        }
+  -- whatever fails, each crash leaves what was answered
+  fails_leave : (f : KeepFault) (mid : S) (input : List ℕ) (left : Option (List ℕ)) (log log' : Option Held) (out out' : Option (List ℕ)) (ledger : Ledger) (t : Totals)
+      → (fails : Fails A is_kept f mid input left log log' out out' ledger) → IsLedger ledger t → RestsAt log t.text → LeavesAll (totals_behind t fails.done.batches).text log'
+  fails_leave keep.Memory mid input left log log' out out' ledger t fails told rests =
+      rest_leaves log' (totals_behind t fails.done.batches).text (fails.last.0 ∙ (fails.done.kept t told).1 rests)
+  fails_leave keep.Read mid input left log log' out out' ledger t fails told rests =
+      rest_leaves log' (totals_behind t fails.done.batches).text (fails.last.1 ∙ (fails.done.kept t told).1 rests)
+  fails_leave keep.Unended mid input left log log' out out' ledger t fails told rests =
+      rest_leaves log' (totals_behind t fails.done.batches).text (fails.last.2 ∙ (fails.done.kept t told).1 rests)
+  fails_leave keep.TooMany mid input left log log' out out' ledger t fails told rests =
+      rest_leaves log' (totals_behind t fails.done.batches).text (fails.last.2 ∙ (fails.done.kept t told).1 rests)
+  fails_leave keep.Write mid input left log log' out out' ledger t fails told rests =
+      let u = totals_behind t fails.done.batches in
+      let (w, kept, sent) = fails.last in
+      let (told', rested) = fails.done.kept t told in
+      let (more, is) = kept_more u (entries w.turns) in
+      leaves_less log' u.text more (subst (λ (l : List ℕ). LeavesAll l log') is (rest_leaves log' (kept_behind u (entries w.turns)).text (kept u told' (rested rests))))
+  fails_leave keep.Log mid input left log log' out out' ledger t fails told rests =
+      let u = totals_behind t fails.done.batches in
+      let (w, breaks, same) = fails.last in
+      let (told', rested) = fails.done.kept t told in
+      most_leaves log' u.text (text_of (entries w.turns) ++ mark_of (with_batch u (entries w.turns))) (breaks u told' (rested rests))
+
+  pub stops_on : (f : KeepFault) (head script input : List ℕ) (left : Option (List ℕ)) (len : ℕ) (log between log' : Option Held) (out out' : Option (List ℕ)) (ledger : Ledger) (start mid : S)
+      → Begins A is_kept start head script len log between ledger mid → Fails A is_kept f mid input left between log' out out' ledger → StopsOn A is_kept f start head script input left len log log' out out'
+  stops_on f head script input left len log between log' out out' ledger start mid b fails = record {
+    between = between;
+    told = ledger;
+    mid = mid;
+    begins = b;
+    fails = fails;
+    crashes = if_some log _ _ (λ h r. fails_leave f mid input left between log' out out' ledger (kept_behind (totals_behind (beginning head) b.batches) b.last) fails b.told r) b.rests;
+  }
+
+  -- no mark can be put behind lines that have none
+  seal_leaves : (f : KeepFault) (ledger : Ledger) (log log' : Option Held) (t : Totals) (text : List ℕ) → SealFails f ledger log log' [] → IsLedger ledger t → RestsAt log text → LeavesAll text log'
+  seal_leaves keep.Memory ledger log log' t text fails told rests = rest_leaves log' text (fails ∙ rests)
+  seal_leaves keep.Log ledger log log' t text fails told rests = most_leaves log' text (mark_of t) (fails t told text rests)
+  seal_leaves keep.Read ledger log log' t text fails told rests = absurd fails
+  seal_leaves keep.Write ledger log log' t text fails told rests = absurd fails
+  seal_leaves keep.Unended ledger log log' t text fails told rests = absurd fails
+  seal_leaves keep.TooMany ledger log log' t text fails told rests = absurd fails
+
+  pub unbegun : (f : KeepFault) (head script : List ℕ) (len : ℕ) (done : Replayed) (log log' log'' : Option Held) (first ledger : Ledger) (start mid : S) → ReadsLog head len log (Some script) → IsLedger first (beginning head)
+      → Replays A is_kept start script done first ledger mid → LogDoes (shortened len) log log' → SealFails f ledger log' log'' [] → IfSome log (λ h. LeavesAll (head ++ script) log'')
+  unbegun f head script len done log log' log'' first ledger start mid reads told (number, p) cut fails =
+      if_some log _ _ (λ h rests. seal_leaves f ledger log' log'' (with_batch (totals_behind (beginning head) p.batches) p.last) (head ++ script) fails (p.is (beginning head) told).1 rests)
+      (cut_rests head script len log log' reads cut)
+
+  pub begin_fails : (f : KeepFault) (o p : Option (List ℕ)) (head : List ℕ) (len : ℕ) (done : Replayed) (log log' log'' : Option Held) (out : Option (List ℕ)) (first ledger : Ledger) (start mid : S)
+      → IfSome o (λ script. ReadsLog head len log (Some script)) → IsLedger first (beginning head) → IfSome o (λ script. Replays A is_kept start script done first ledger mid) → LogDoes (shortened len) log log'
+      → SealFails f ledger log' log'' [] → IfSome o (λ script. IfSome p (λ input. StoreFails A is_kept (fault.Begin f) start head script input p len log log'' out out))
+  begin_fails f None p head len done log log' log'' out first ledger start mid reads told replayed cut fails = tt
+  begin_fails f (Some script) None head len done log log' log'' out first ledger start mid reads told replayed cut fails = tt
+  begin_fails f (Some script) (Some input) head len done log log' log'' out first ledger start mid reads told replayed cut fails =
+      (unbegun f head script len done log log' log'' first ledger start mid reads told replayed cut fails, refl, refl)

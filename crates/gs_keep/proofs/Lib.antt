@@ -1,10 +1,8 @@
 pub mod Weaken
+pub mod Batches
+pub mod Lines
+pub mod Running
 pub mod Logs
-pub mod Asking
-pub mod Answering
-pub mod Gathering
 pub mod Rounds
 pub mod Replaying
-pub mod Standing
-pub mod Crashes
 pub mod Going

@@ -1,211 +1,214 @@
--- Rounds: lines are gathered, logged and answered.
-use Rattle.std.proofs.Common.{take, ◌≡◌, ◌≢◌, ◌++◌, ◌∷◌, [], ℕ, List, Bool, true, false, Option, Some, None, IfSome, refl, sym, ap, subst, ◌∙◌, append_assoc}
-use Rattle.std.proofs.lemmas.Grind.{flat_map-append}
+-- Rounds: lines are run, logged and answered.
+use Rattle.std.proofs.Common.{◌≡◌, ◌≤◌, ◌+◌, ◌++◌, ⊎_elim, [], ℕ, List, Bool, true, false, length, Option, Some, None, IfSome, Result, IfOk, IfErr, refl, sym, ap, subst, ◌∙◌, arith, append_assoc, length-append, inl, inr}
 use Rattle.std.specs.Io.KnownBytes.{Appends}
 use Rattle.std.proofs.KnownBytes.{Appends-nil, Appends-trans}
 use Rattle.gs_keep_log.specs.Log.{Held}
-use Rattle.gs_shell_line.specs.Line.{StaysInLine}
-use Rattle.gs_shell_line.specs.declared.Line.{Line}
-use Rattle.gs_shell_script.specs.Run.{lines_of, unlines}
-use Rattle.gs_shell_script.proofs.Lines.{stays-here}
-use Rattle.std.specs.List.{AllByRecursion}
-use Rattle.gs_keep.specs.Lines.{Asked, MayLog, log_of}
-use Rattle.gs_keep.specs.Gathering.{AllWait, Gathers, LeftBy, lines_asked}
-use Rattle.gs_keep.specs.Serving.{AnswersSome, AnswersWaiting, BreaksOff, Fails, Kept, Leaves, Rounds, Serves, Stops}
+use Rattle.gs_shell_script.specs.Run.{AppendsBeginning, lines_of}
+use Rattle.gs_keep_mark.specs.Ledgers.{IsLedger}
+use Rattle.gs_keep_mark.specs.Marks.{Entry, Totals, totals_behind}
+use Rattle.gs_keep_mark.specs.Started.{IsBatch}
+use Rattle.gs_keep_mark.specs.declared.Ledger.{Ledger}
+use Rattle.gs_keep.specs.Lines.{Turn, entries, joined, lines_asked}
+use Rattle.gs_keep.specs.Running.{Gathers, RunsSome}
+use Rattle.gs_keep.specs.Serving.{EndsWith, Ends, Fails, Keeps, RestsAt, Rounds, SealFails, Serves}
 use Rattle.gs_keep.specs.declared.batch.Gathered.{Gathered}
 use Rattle.gs_keep.specs.declared.batch.Gathered.TheVariants as gathered
 use Rattle.gs_keep.specs.declared.fault.KeepFault.{KeepFault}
 use Rattle.gs_keep.specs.declared.fault.KeepFault.TheVariants as fault
-use Rattle.gs_keep.proofs.Answering.{all_join}
-use Rattle.gs_keep.proofs.Asking.{all_behind, all_log}
-use Rattle.gs_keep.proofs.Gathering.{lines_join, log_join}
-use Rattle.gs_keep.proofs.Logs.{kept_join, kept_none, leaves_join}
-
--- at worst the reader has lost bytes of the line behind what was gathered
-stays_by : (r : Gathered) (rest : List ℕ) (left : Option (List ℕ)) → LeftBy r rest left → StaysInLine (Some rest) left
-stays_by gathered.Some rest left is = subst (StaysInLine (Some rest)) (sym is) (stays-here (Some rest))
-stays_by gathered.All rest left is = subst (StaysInLine (Some rest)) (sym is.1) (stays-here (Some rest))
-stays_by gathered.Failed rest left is = is
-
-unlines_join : (texts more : List (List ℕ)) → unlines (texts ++ more) ≡ unlines texts ++ unlines more
-unlines_join texts more = flat_map-append (λ (t : List ℕ). t ++ 10 ∷ []) texts more
+use Rattle.gs_keep.proofs.Batches.{all_join, answers_join, entries_join, joined_join, lines_join, totals_join, unlines_join}
+use Rattle.gs_keep.proofs.Logs.{alone, alone_behind, alone_joined, alone_plain, breaks_batch, keeps_batch, keeps_full}
 
 module _ {S : Type 0} (A : S → List ℕ → List ℕ → S → Type 0) (is_kept : List ℕ → Bool) where
+  -- nothing is served
+  unfoldable pub serves_none : (xs : List ℕ) (log : Option Held) (out : Option (List ℕ)) (ledger : Ledger) (s : S) → Serves A is_kept s xs xs log log out out ledger ledger s
+  serves_none xs log out ledger s =
+      record { turns = []; batches = []; parts = refl; answers = refl; written = Appends-nil out; logged = refl; plain = tt; kept = λ t told. (told, λ rests. rests) }
+
   -- ---- one round
 
-  module _ (r : Gathered) (xs : List ℕ) (left : Option (List ℕ)) (lines : List Line) (bytes : List ℕ) (g : Gathers is_kept r xs left lines bytes) (log log' : Option Held) (out out' : Option (List ℕ)) (start end : S) where
-    pub round_serves : Kept log bytes log' → ((asked : List Asked) → AllWait is_kept asked lines → AnswersWaiting A is_kept start asked out out' end)
-        → Serves A is_kept start xs g.rest log log' out out' end
-    round_serves kept answered =
-        let (texts, all, whole) = answered g.asked g.wait in
-        record { asked = g.asked; texts = texts; parts = g.parts; answers = all; written = whole; kept = subst (λ (l : List ℕ). Kept log l log') g.logged kept }
+  unfoldable pub round_serves : (most : ℕ) (xs rest : List ℕ) (log log' : Option Held) (out out' : Option (List ℕ)) (start now : S) (bytes answers : List ℕ) (ledger told told' : Ledger)
+      → RunsSome A is_kept most xs rest start now bytes answers ledger told → Keeps told told' log log' bytes → Appends out out' answers → Serves A is_kept start xs rest log log' out out' ledger told' now
+  round_serves most xs rest log log' out out' start now bytes answers ledger told told' g kept sent = record {
+    turns = g.turns;
+    batches = alone (entries g.turns);
+    parts = g.parts;
+    answers = g.runs;
+    written = subst (Appends out out') g.answered sent;
+    logged = alone_joined (entries g.turns);
+    plain = alone_plain (entries g.turns) g.plain;
+    kept = λ t is. subst (λ (u : Totals). IsLedger told' u × (RestsAt log t.text → RestsAt log' u.text)) (alone_behind t (entries g.turns))
+        (keeps_batch t (entries g.turns) told told' log log' bytes g.plain g.logged (g.noted t is) kept);
+  }
 
-    -- the log fails before any line is answered
-    pub round_unlogged : Leaves log [] bytes log' → Fails A is_kept fault.Log start xs left log log' out out start
-    round_unlogged leaves = (
-      record {
-        asked = [];
-        texts = [];
-        waiting = g.asked;
-        rest = g.rest;
-        parts = g.parts;
-        stays = stays_by r g.rest left g.left_by;
-        answers = refl;
-        logged = all_log is_kept g.asked lines g.wait;
-      },
-      (Appends-nil out, subst (λ (l : List ℕ). Leaves log [] l log') g.logged leaves),
-    )
+  -- nothing of a round is logged or answered
+  pub nothing_kept : (o left : Option (List ℕ)) (log log' : Option Held) (out : Option (List ℕ)) (ledger : Ledger) (s : S) → log' ≡ log → IfSome o (λ xs. Fails A is_kept fault.Memory s xs left log log' out out ledger)
+  nothing_kept None left log log' out ledger s same = tt
+  nothing_kept (Some xs) left log log' out ledger s same =
+      record { now = s; rest = xs; between = log; written = out; told = ledger; done = serves_none xs log out ledger s; last = (same, refl) }
 
-    -- a write fails behind some answers
-    pub round_unwritten : Kept log bytes log' → ((asked : List Asked) → AllWait is_kept asked lines → AnswersSome A is_kept start asked out out' end)
-        → Fails A is_kept fault.Write start xs left log log' out out' end
-    round_unwritten kept answered =
-        let (first, waiting, texts, parts, all, broken) = answered g.asked g.wait in
-        let split : lines_of xs ≡ lines_asked first ++ (lines_asked waiting ++ lines_of g.rest) =
-        g.parts ∙ ap (λ (l : List Asked). lines_asked l ++ lines_of g.rest) parts ∙ ap (λ (l : List (List ℕ)). l ++ lines_of g.rest) (lines_join first waiting)
-        ∙ append_assoc (lines_asked first) (lines_asked waiting) (lines_of g.rest) in (
-          record {
-            asked = first;
-            texts = texts;
-            waiting = waiting;
-            rest = g.rest;
-            parts = split;
-            stays = stays_by r g.rest left g.left_by;
-            answers = all;
-            logged = all_behind (MayLog is_kept) first waiting (subst (AllByRecursion (MayLog is_kept)) parts (all_log is_kept g.asked lines g.wait));
-          },
-          (broken, subst (λ (l : List ℕ). Kept log l log') (g.logged ∙ ap log_of parts ∙ log_join first waiting) kept),
-        )
+  -- a batch isn't kept
+  pub round_unkept : (f : KeepFault) (most : ℕ) (xs rest : List ℕ) (left : Option (List ℕ)) (log log' : Option Held) (out : Option (List ℕ)) (start now : S) (bytes answers : List ℕ) (ledger told : Ledger)
+      → RunsSome A is_kept most xs rest start now bytes answers ledger told → SealFails f told log log' bytes → Fails A is_kept f start xs left log log' out out ledger
+  round_unkept fault.Memory most xs rest left log log' out start now bytes answers ledger told g fails =
+      record { now = start; rest = xs; between = log; written = out; told = ledger; done = serves_none xs log out ledger start; last = (fails, refl) }
+  round_unkept fault.Log most xs rest left log log' out start now bytes answers ledger told g fails = record {
+    now = start;
+    rest = xs;
+    between = log;
+    written = out;
+    told = ledger;
+    done = serves_none xs log out ledger start;
+    last = (
+      record { turns = g.turns; back = rest; end = now; parts = g.parts; answers = g.runs; plain = g.plain },
+      λ t is rests. breaks_batch t (entries g.turns) told log log' bytes g.logged (g.noted t is) fails rests,
+      refl,
+    );
+  }
+  round_unkept fault.Read most xs rest left log log' out start now bytes answers ledger told g fails = absurd fails
+  round_unkept fault.Write most xs rest left log log' out start now bytes answers ledger told g fails = absurd fails
+  round_unkept fault.Unended most xs rest left log log' out start now bytes answers ledger told g fails = absurd fails
+  round_unkept fault.TooMany most xs rest left log log' out start now bytes answers ledger told g fails = absurd fails
 
-    -- a read fails behind the lines that were gathered
-    pub round_unread : Kept log bytes log' → ((asked : List Asked) → AllWait is_kept asked lines → AnswersWaiting A is_kept start asked out out' end)
-        → Fails A is_kept fault.Read start xs left log log' out out' end
-    round_unread kept answered =
-        let (texts, all, whole) = answered g.asked g.wait in (
-          record { asked = g.asked; texts = texts; waiting = []; rest = g.rest; parts = g.parts; stays = stays_by r g.rest left g.left_by; answers = all; logged = tt },
-          (refl, whole, subst (λ (l : List ℕ). Kept log l log') g.logged kept),
-        )
+  -- answers aren't written
+  pub round_unsent : (most : ℕ) (xs rest : List ℕ) (left : Option (List ℕ)) (log log' : Option Held) (out out' : Option (List ℕ)) (start now : S) (bytes answers : List ℕ) (ledger told told' : Ledger)
+      → RunsSome A is_kept most xs rest start now bytes answers ledger told → Keeps told told' log log' bytes → AppendsBeginning out out' answers → Fails A is_kept fault.Write start xs left log log' out out' ledger
+  round_unsent most xs rest left log log' out out' start now bytes answers ledger told told' g kept sent = record {
+    now = start;
+    rest = xs;
+    between = log;
+    written = out;
+    told = ledger;
+    done = serves_none xs log out ledger start;
+    last = (
+      record { turns = g.turns; back = rest; end = now; parts = g.parts; answers = g.runs; plain = g.plain },
+      λ t is. (keeps_batch t (entries g.turns) told told' log log' bytes g.plain g.logged (g.noted t is) kept).1,
+      subst (AppendsBeginning out out') g.answered sent,
+    );
+  }
 
-  pub round_more : (xs : List ℕ) (left : Option (List ℕ)) (lines : List Line) (bytes : List ℕ) (log log' : Option Held) (out out' : Option (List ℕ)) (start end : S)
-      → Gathers is_kept gathered.Some xs left lines bytes → Kept log bytes log' → ((asked : List Asked) → AllWait is_kept asked lines → AnswersWaiting A is_kept start asked out out' end)
-      → Rounds A is_kept start true xs left log log' out out' end
-  round_more xs left lines bytes log log' out out' start end g kept answered =
-      (g.rest, g.left_by, round_serves gathered.Some xs left lines bytes g log log' out out' start end kept answered)
+  module _ (xs : List ℕ) (left : Option (List ℕ)) (log log' : Option Held) (out out' : Option (List ℕ)) (start now : S) (bytes answers : List ℕ) (ledger told told' : Ledger) (kept : Keeps told told' log log' bytes) (sent : Appends out out' answers) where
+    pub round_ok : (r : Gathered) (result : Result Bool KeepFault) → Ends r result → Gathers A is_kept r xs left start now bytes answers ledger told
+        → IfOk result (λ more. Rounds A is_kept start more xs left log log' out out' ledger told' now)
+    unfolding round_serves
+    round_ok gathered.Some result is g = subst (λ (r : Result Bool KeepFault). IfOk r (λ more. Rounds A is_kept start more xs left log log' out out' ledger told' now)) (sym is)
+        (g.rest, g.left_by, round_serves 1 xs g.rest log log' out out' start now bytes answers ledger told told' g.runs kept sent, g.runs.many)
+    round_ok gathered.All result is g = subst (λ (r : Result Bool KeepFault). IfOk r (λ more. Rounds A is_kept start more xs left log log' out out' ledger told' now)) (sym is)
+        (subst (λ (rest : List ℕ). Serves A is_kept start xs rest log log' out out' ledger told' now) g.left_by.0
+        (round_serves 0 xs g.rest log log' out out' start now bytes answers ledger told told' g.runs kept sent))
+    round_ok gathered.Unended result is g = subst (λ (r : Result Bool KeepFault). IfOk r (λ more. Rounds A is_kept start more xs left log log' out out' ledger told' now)) (sym is) tt
+    round_ok gathered.Failed result is g = subst (λ (r : Result Bool KeepFault). IfOk r (λ more. Rounds A is_kept start more xs left log log' out out' ledger told' now)) (sym is) tt
+    round_ok gathered.Full result is g = subst (λ (r : Result Bool KeepFault). IfOk r (λ more. Rounds A is_kept start more xs left log log' out out' ledger told' now)) (sym is) tt
 
-  pub round_last : (xs : List ℕ) (left : Option (List ℕ)) (lines : List Line) (bytes : List ℕ) (log log' : Option Held) (out out' : Option (List ℕ)) (start end : S)
-      → Gathers is_kept gathered.All xs left lines bytes → Kept log bytes log' → ((asked : List Asked) → AllWait is_kept asked lines → AnswersWaiting A is_kept start asked out out' end)
-      → Rounds A is_kept start false xs left log log' out out' end
-  round_last xs left lines bytes log log' out out' start end g kept answered =
-      subst (λ (rest : List ℕ). Serves A is_kept start xs rest log log' out out' end) g.left_by.0 (round_serves gathered.All xs left lines bytes g log log' out out' start end kept answered)
+    abbrev Failing : Result Bool KeepFault → Type 0
+    Failing result = IfErr result (λ e. Fails A is_kept e start xs left log log' out out' ledger)
+
+    pub round_err : (r : Gathered) (result : Result Bool KeepFault) → Ends r result → Gathers A is_kept r xs left start now bytes answers ledger told → IfErr result (λ e. Fails A is_kept e start xs left log log' out out' ledger)
+    round_err gathered.Some result is g = subst Failing (sym is) tt
+    round_err gathered.All result is g = subst Failing (sym is) tt
+    round_err gathered.Unended result is g = subst Failing (sym is) (record {
+      now = now;
+      rest = g.rest;
+      between = log';
+      written = out';
+      told = told';
+      done = round_serves 0 xs g.rest log log' out out' start now bytes answers ledger told told' g.runs kept sent;
+      last = (g.left_by.0, g.left_by.1, refl, refl);
+    })
+    round_err gathered.Failed result is g = subst Failing (sym is) (record {
+      now = now;
+      rest = g.rest;
+      between = log';
+      written = out';
+      told = told';
+      done = round_serves 0 xs g.rest log log' out out' start now bytes answers ledger told told' g.runs kept sent;
+      last = (g.left_by, refl, refl);
+    })
+    round_err gathered.Full result is g = subst Failing (sym is) (record {
+      now = now;
+      rest = g.rest;
+      between = log';
+      written = out';
+      told = told';
+      done = round_serves 0 xs g.rest log log' out out' start now bytes answers ledger told told' g.runs kept sent;
+      last = (g.left_by, inr (keeps_full told told' log log' bytes kept ∙ g.full), refl, refl);
+    })
 
   -- ---- many rounds
 
-  pub rounds_none : (o : Option (List ℕ)) (log : Option Held) (out : Option (List ℕ)) (start : S) → IfSome o (λ xs. Rounds A is_kept start true xs o log log out out start)
-  rounds_none None log out start = tt
-  rounds_none (Some xs) log out start = (xs, refl, record { asked = []; texts = []; parts = refl; answers = refl; written = Appends-nil out; kept = kept_none log })
+  abbrev pub SoFar : ℕ → S → List ℕ → Option (List ℕ) → Option Held → Option Held → Option (List ℕ) → Option (List ℕ) → Ledger → Ledger → S → Type 0
+  SoFar count start xs left log log' out out' ledger ledger' now =
+      (rest : List ℕ) × (left ≡ Some rest) × (s : Serves A is_kept start xs rest log log' out out' ledger ledger' now) × (count ≤ length s.turns)
 
-  -- the lines of two parts, one behind the other
-  lines_meet : (xs rest rest' : List ℕ) (asked more : List Asked) (back : List (List ℕ)) → lines_of xs ≡ lines_asked asked ++ lines_of rest → lines_of rest ≡ lines_asked more ++ back
-      → lines_of xs ≡ lines_asked (asked ++ more) ++ back
-  lines_meet xs rest rest' asked more back one two =
-      one ∙ ap (λ (l : List (List ℕ)). lines_asked asked ++ l) two ∙ sym (append_assoc (lines_asked asked) (lines_asked more) back) ∙ ap (λ (l : List (List ℕ)). l ++ back) (sym (lines_join asked more))
+  pub so_far_none : (o : Option (List ℕ)) (log : Option Held) (out : Option (List ℕ)) (ledger : Ledger) (s : S) → IfSome o (λ xs. SoFar 0 s xs o log log out out ledger ledger s)
+  unfolding serves_none
+  so_far_none None log out ledger s = tt
+  so_far_none (Some xs) log out ledger s = (xs, refl, serves_none xs log out ledger s, omega arith)
 
-  pub serves_join : (xs mid rest : List ℕ) (log log' log'' : Option Held) (out out' out'' : Option (List ℕ)) (start now end : S)
-      → Serves A is_kept start xs mid log log' out out' now → Serves A is_kept now mid rest log' log'' out' out'' end → Serves A is_kept start xs rest log log'' out out'' end
-  serves_join xs mid rest log log' log'' out out' out'' start now end one two = record {
-    asked = one.asked ++ two.asked;
-    texts = one.texts ++ two.texts;
-    parts = lines_meet xs mid rest one.asked two.asked (lines_of rest) one.parts two.parts;
-    answers = all_join A is_kept start now end one.asked two.asked one.texts two.texts one.answers two.answers;
-    written = subst (Appends out out'') (sym (unlines_join one.texts two.texts)) (Appends-trans out out' out'' _ _ one.written two.written);
-    kept = subst (λ (l : List ℕ). Kept log l log'') (sym (log_join one.asked two.asked)) (kept_join log log' log'' _ _ one.kept two.kept);
+  unfoldable pub serves_join : (xs mid rest : List ℕ) (log log' log'' : Option Held) (out out' out'' : Option (List ℕ)) (ledger ledger' ledger'' : Ledger) (start now end : S)
+      → Serves A is_kept start xs mid log log' out out' ledger ledger' now → Serves A is_kept now mid rest log' log'' out' out'' ledger' ledger'' end
+      → Serves A is_kept start xs rest log log'' out out'' ledger ledger'' end
+  serves_join xs mid rest log log' log'' out out' out'' ledger ledger' ledger'' start now end one two = record {
+    turns = one.turns ++ two.turns;
+    batches = one.batches ++ two.batches;
+    parts = one.parts ∙ ap (λ (l : List (List ℕ)). lines_asked one.turns ++ l) two.parts ∙ sym (append_assoc (lines_asked one.turns) (lines_asked two.turns) (lines_of rest))
+        ∙ ap (λ (l : List (List ℕ)). l ++ lines_of rest) (sym (lines_join one.turns two.turns));
+    answers = answers_join A is_kept start now end one.turns two.turns one.answers two.answers;
+    written = subst (Appends out out'') (sym (unlines_join one.turns two.turns)) (Appends-trans out out' out'' _ _ one.written two.written);
+    logged = entries_join one.turns two.turns ∙ ap (λ (l : List Entry). l ++ entries two.turns) one.logged ∙ ap (λ (l : List Entry). joined one.batches ++ l) two.logged ∙ sym (joined_join one.batches two.batches);
+    plain = all_join IsBatch one.batches two.batches one.plain two.plain;
+    kept = λ t told.
+        let (told', first) = one.kept t told in
+        let (told'', second) = two.kept (totals_behind t one.batches) told' in
+        let same = sym (totals_join t one.batches two.batches) in
+        (subst (IsLedger ledger'') same told'', λ rests. subst (λ (u : Totals). RestsAt log'' u.text) same (second (first rests)));
   }
 
-  pub rounds_more : (xs : List ℕ) (left left' : Option (List ℕ)) (log log' log'' : Option Held) (out out' out'' : Option (List ℕ)) (start now end : S)
-      → Rounds A is_kept start true xs left log log' out out' now → IfSome left (λ ys. Rounds A is_kept now true ys left' log' log'' out' out'' end) → Rounds A is_kept start true xs left' log log'' out out'' end
-  rounds_more xs left left' log log' log'' out out' out'' start now end (mid, is, one) more =
-      let (rest, left_is, two) = subst (λ (o : Option (List ℕ)). IfSome o (λ ys. Rounds A is_kept now true ys left' log' log'' out' out'' end)) is more in
-      (rest, left_is, serves_join xs mid rest log log' log'' out out' out'' start now end one two)
+  pub so_far_more : (count : ℕ) (xs : List ℕ) (left left' : Option (List ℕ)) (log log' log'' : Option Held) (out out' out'' : Option (List ℕ)) (ledger ledger' ledger'' : Ledger) (start now end : S)
+      → SoFar count start xs left log log' out out' ledger ledger' now → IfSome left (λ ys. Rounds A is_kept now true ys left' log' log'' out' out'' ledger' ledger'' end)
+      → SoFar (count + 1) start xs left' log log'' out out'' ledger ledger'' end
+  unfolding serves_join
+  so_far_more count xs left left' log log' log'' out out' out'' ledger ledger' ledger'' start now end (mid, is, one, many) more =
+      let (rest, left_is, two, some) = subst (λ (o : Option (List ℕ)). IfSome o (λ ys. Rounds A is_kept now true ys left' log' log'' out' out'' ledger' ledger'' end)) is more in (
+        rest,
+        left_is,
+        serves_join xs mid rest log log' log'' out out' out'' ledger ledger' ledger'' start now end one two,
+        omega (arith, many, some, length-append one.turns two.turns),
+      )
 
-  pub rounds_end : (xs : List ℕ) (left left' : Option (List ℕ)) (log log' log'' : Option Held) (out out' out'' : Option (List ℕ)) (start now end : S)
-      → Rounds A is_kept start true xs left log log' out out' now → IfSome left (λ ys. Rounds A is_kept now false ys left' log' log'' out' out'' end) → Serves A is_kept start xs [] log log'' out out'' end
-  rounds_end xs left left' log log' log'' out out' out'' start now end (mid, is, one) more =
-      let two = subst (λ (o : Option (List ℕ)). IfSome o (λ ys. Rounds A is_kept now false ys left' log' log'' out' out'' end)) is more in
-      serves_join xs mid [] log log' log'' out out' out'' start now end one two
+  pub so_far_end : (count : ℕ) (xs : List ℕ) (left left' : Option (List ℕ)) (log log' log'' : Option Held) (out out' out'' : Option (List ℕ)) (ledger ledger' ledger'' : Ledger) (start now end : S)
+      → SoFar count start xs left log log' out out' ledger ledger' now → IfSome left (λ ys. Rounds A is_kept now false ys left' log' log'' out' out'' ledger' ledger'' end)
+      → Serves A is_kept start xs [] log log'' out out'' ledger ledger'' end
+  so_far_end count xs left left' log log' log'' out out' out'' ledger ledger' ledger'' start now end (mid, is, one, many) more =
+      serves_join xs mid [] log log' log'' out out' out'' ledger ledger' ledger'' start now end one
+      (subst (λ (o : Option (List ℕ)). IfSome o (λ ys. Rounds A is_kept now false ys left' log' log'' out' out'' ledger' ledger'' end)) is more)
 
-  -- ---- a round that fails behind others
+  last_more : (f : KeepFault) (now : S) (rest : List ℕ) (left : Option (List ℕ)) (log log' : Option Held) (out out' : Option (List ℕ)) (ledger : Ledger) (before turns : List Turn)
+      → EndsWith A is_kept f now rest left log log' out out' ledger turns → EndsWith A is_kept f now rest left log log' out out' ledger (before ++ turns)
+  last_more fault.Memory now rest left log log' out out' ledger before turns last = last
+  last_more fault.Read now rest left log log' out out' ledger before turns last = last
+  last_more fault.Unended now rest left log log' out out' ledger before turns last = last
+  last_more fault.Write now rest left log log' out out' ledger before turns last = last
+  last_more fault.Log now rest left log log' out out' ledger before turns last = last
+  last_more fault.TooMany now rest left log log' out out' ledger before turns (left_is, many, same, written) =
+      (left_is, ⊎_elim (λ most. inl (omega (arith, most, length-append before turns))) (λ full. inr full) many, same, written)
 
-  unfoldable stops_behind : (xs mid : List ℕ) (left : Option (List ℕ)) (log log' : Option Held) (out out' : Option (List ℕ)) (start now end : S)
-      → Serves A is_kept start xs mid log log' out out' now → Stops A is_kept now mid left end → Stops A is_kept start xs left end
-  stops_behind xs mid left log log' out out' start now end one s = record {
-    asked = one.asked ++ s.asked;
-    texts = one.texts ++ s.texts;
-    waiting = s.waiting;
-    rest = s.rest;
-    parts = lines_meet xs mid s.rest one.asked s.asked (lines_asked s.waiting ++ lines_of s.rest) one.parts s.parts;
-    stays = s.stays;
-    answers = all_join A is_kept start now end one.asked s.asked one.texts s.texts one.answers s.answers;
-    logged = s.logged;
-  }
-
-  breaks_after : (texts more : List (List ℕ)) (out mid out' : Option (List ℕ)) → Appends out mid (unlines texts) → BreaksOff more mid out' → BreaksOff (texts ++ more) out out'
-  breaks_after texts more out mid out' whole broken =
-      let back = take broken.count (broken.last ++ 10 ∷ []) in
-      let all : unlines texts ++ (unlines broken.done ++ back) ≡ unlines (texts ++ broken.done) ++ back =
-      sym (append_assoc (unlines texts) (unlines broken.done) back) ∙ ap (λ (l : List ℕ). l ++ back) (sym (unlines_join texts broken.done)) in
+  pub so_far_fails : (f : KeepFault) (count : ℕ) (xs : List ℕ) (left left' : Option (List ℕ)) (log log' log'' : Option Held) (out out' out'' : Option (List ℕ)) (ledger ledger' : Ledger) (start now : S)
+      → SoFar count start xs left log log' out out' ledger ledger' now → IfSome left (λ ys. Fails A is_kept f now ys left' log' log'' out' out'' ledger') → Fails A is_kept f start xs left' log log'' out out'' ledger
+  unfolding serves_join
+  so_far_fails f count xs left left' log log' log'' out out' out'' ledger ledger' start now (mid, is, one, many) fails =
+      let two = subst (λ (o : Option (List ℕ)). IfSome o (λ ys. Fails A is_kept f now ys left' log' log'' out' out'' ledger')) is fails in
       record {
-        done = texts ++ broken.done;
-        last = broken.last;
-        parts = ap (λ (l : List (List ℕ)). texts ++ l) broken.parts ∙ sym (append_assoc texts broken.done (broken.last ∷ []));
-        count = broken.count;
-        written = subst (Appends out out') all (Appends-trans out mid out' _ _ whole broken.written);
+        now = two.now;
+        rest = two.rest;
+        between = two.between;
+        written = two.written;
+        told = two.told;
+        done = serves_join xs mid two.rest log log' two.between out out' two.written ledger ledger' two.told start now two.now one two.done;
+        last = last_more f two.now two.rest left' two.between log'' two.written out'' two.told one.turns two.done.turns two.last;
       }
 
-  fails_behind : (f : KeepFault) (xs mid : List ℕ) (left : Option (List ℕ)) (log log' log'' : Option Held) (out out' out'' : Option (List ℕ)) (start now end : S) → f ≢ fault.Memory
-      → Serves A is_kept start xs mid log log' out out' now → Fails A is_kept f now mid left log' log'' out' out'' end → Fails A is_kept f start xs left log log'' out out'' end
-  unfolding stops_behind
-  fails_behind fault.Memory xs mid left log log' log'' out out' out'' start now end other one fails = absurd (other refl)
-  fails_behind fault.Read xs mid left log log' log'' out out' out'' start now end other one (s, (none, whole, kept)) = (
-    stops_behind xs mid left log log' out out' start now end one s,
-    (
-      none,
-      subst (Appends out out'') (sym (unlines_join one.texts s.texts)) (Appends-trans out out' out'' _ _ one.written whole),
-      subst (λ (l : List ℕ). Kept log l log'') (sym (log_join one.asked s.asked)) (kept_join log log' log'' _ _ one.kept kept),
-    ),
-  )
-  fails_behind fault.Write xs mid left log log' log'' out out' out'' start now end other one (s, (broken, kept)) = (
-    stops_behind xs mid left log log' out out' start now end one s,
-    (
-      breaks_after one.texts s.texts out out' out'' one.written broken,
-      subst (λ (l : List ℕ). Kept log l log'') (sym (append_assoc (log_of one.asked) (log_of s.asked) (log_of s.waiting)) ∙ ap (λ (l : List ℕ). l ++ log_of s.waiting) (sym (log_join one.asked s.asked)))
-          (kept_join log log' log'' _ _ one.kept kept),
-    ),
-  )
-  fails_behind fault.Log xs mid left log log' log'' out out' out'' start now end other one (s, (whole, leaves)) = (
-    stops_behind xs mid left log log' out out' start now end one s,
-    (
-      subst (Appends out out'') (sym (unlines_join one.texts s.texts)) (Appends-trans out out' out'' _ _ one.written whole),
-      subst (λ (l : List ℕ). Leaves log l (log_of s.waiting) log'') (sym (log_join one.asked s.asked)) (leaves_join log log' log'' (log_of one.asked) (log_of s.asked) (log_of s.waiting) one.kept leaves),
-    ),
-  )
-
-  pub rounds_fail : (f : KeepFault) (xs : List ℕ) (left left' : Option (List ℕ)) (log log' log'' : Option Held) (out out' out'' : Option (List ℕ)) (start now end : S) → f ≢ fault.Memory
-      → Rounds A is_kept start true xs left log log' out out' now → IfSome left (λ ys. Fails A is_kept f now ys left' log' log'' out' out'' end) → Fails A is_kept f start xs left' log log'' out out'' end
-  rounds_fail f xs left left' log log' log'' out out' out'' start now end other (mid, is, one) fails =
-      fails_behind f xs mid left' log log' log'' out out' out'' start now end other one (subst (λ (o : Option (List ℕ)). IfSome o (λ ys. Fails A is_kept f now ys left' log' log'' out' out'' end)) is fails)
-
-  -- nothing is read
-  pub nothing_begun : (o : Option (List ℕ)) (log : Option Held) (out : Option (List ℕ)) (start : S) → IfSome o (λ xs. Fails A is_kept fault.Memory start xs o log log out out start)
-  nothing_begun None log out start = tt
-  nothing_begun (Some xs) log out start = (
-    record { asked = []; texts = []; waiting = []; rest = xs; parts = refl; stays = stays-here (Some xs); answers = refl; logged = tt },
-    (refl, refl, refl, refl, refl, refl),
-  )
-
   -- too many rounds
-  pub rounds_stop : (xs : List ℕ) (left : Option (List ℕ)) (log log' : Option Held) (out out' : Option (List ℕ)) (start now : S)
-      → Rounds A is_kept start true xs left log log' out out' now → Fails A is_kept fault.Read start xs left log log' out out' now
-  rounds_stop xs left log log' out out' start now (mid, is, one) = (
-    record { asked = one.asked; texts = one.texts; waiting = []; rest = mid; parts = one.parts; stays = subst (StaysInLine (Some mid)) (sym is) (stays-here (Some mid)); answers = one.answers; logged = tt },
-    (refl, one.written, one.kept),
-  )
+  pub so_far_stops : (count : ℕ) (xs : List ℕ) (left : Option (List ℕ)) (log log' : Option Held) (out out' : Option (List ℕ)) (ledger ledger' : Ledger) (start now : S)
+      → 18446744073709551615 ≤ count → SoFar count start xs left log log' out out' ledger ledger' now → Fails A is_kept fault.TooMany start xs left log log' out out' ledger
+  so_far_stops count xs left log log' out out' ledger ledger' start now most (rest, is, one, many) =
+      record { now = now; rest = rest; between = log'; written = out'; told = ledger'; done = one; last = (is, inl (omega (arith, most, many)), refl, refl) }

@@ -1,5 +1,5 @@
 -- What holds of a result or an option, made weaker.
-use Rattle.std.proofs.Common.{◌≡◌, Option, Some, None, IfSome, Result, Ok, Err, OnOk, OnErr, IfErr, IsErrAnd, is_err, true, false, true≢false, subst, sym}
+use Rattle.std.proofs.Common.{◌≡◌, Option, Some, None, IfSome, Result, Ok, Err, IfOk, OnOk, OnErr, IfErr, IsErrAnd, is_err, true, false, true≢false, subst, sym}
 
 pub given_ok : {T E : Type 0} (r : Result T E) (P : Type 0) → P → OnOk r P
 given_ok (Ok x) P p = p
@@ -58,3 +58,16 @@ turned None None P h = tt
 turned None (Some y) P h = tt
 turned (Some x) None P h = tt
 turned (Some x) (Some y) P h = h
+
+-- what holds of an option's value and of a result, the other way round
+pub swapped : {A T E : Type 0} (o : Option A) (r : Result T E) (P : A → T → Type 0) → IfSome o (λ x. IfOk r (P x)) → IfOk r (λ t. IfSome o (λ x. P x t))
+swapped None (Ok t) P h = tt
+swapped None (Err e) P h = tt
+swapped (Some x) (Ok t) P h = h
+swapped (Some x) (Err e) P h = tt
+
+pub swapped_err : {A T E : Type 0} (o : Option A) (r : Result T E) (P : A → E → Type 0) → IfSome o (λ x. IfErr r (P x)) → IfErr r (λ e. IfSome o (λ x. P x e))
+swapped_err None (Ok t) P h = tt
+swapped_err None (Err e) P h = tt
+swapped_err (Some x) (Ok t) P h = tt
+swapped_err (Some x) (Err e) P h = h

@@ -1,5 +1,6 @@
 pub mod Lines
-pub mod Gathering
+pub mod Running
+pub mod Sending
 pub mod Serving
 pub mod Replaying
 pub mod Keeping

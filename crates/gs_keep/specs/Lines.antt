@@ -1,27 +1,35 @@
--- What of a line is logged.
-use Rattle.std.specs.Prelude.{◌≡◌, ◌++◌, ◌∷◌, ◌&&◌, ◌⊎◌, ℕ, Bool, List, [], length, nat_le, flat_map, codes, if◌then◌else◌, refl}
-use Rattle.std.specs.Io.BufRead.{ends_with_byte}
+-- Lines that are run, and what of them is logged.
+use Rattle.std.specs.Prelude.{◌≡◌, ◌≢◌, ◌++◌, ◌∷◌, ◌&&◌, ℕ, Bool, true, false, List, [], length, nat_le, map, codes, if◌then◌else◌, refl}
 use Rattle.gs_shell_line.specs.Line.{content, longest_line}
+use Rattle.gs_shell_script.specs.Run.{memory_text}
+use Rattle.gs_keep_mark.specs.Marks.{Entry, Totals, behind}
 
--- A line with an end that leaves exactly this line once it is read: where it ends with a \r of its own, that isn't taken
--- for a part of the end.
-abbrev pub kept_text : List ℕ → List ℕ
-kept_text line = if ends_with_byte 13 line then line ++ 13 ∷ 10 ∷ [] else line ++ 10 ∷ []
-
-a_plain_line_is_kept : kept_text (codes "ls /") ≡ codes "ls /" ++ 10 ∷ []
-a_plain_line_is_kept = refl
-
-a_line_keeps_its_own_return : content (kept_text (codes "ls /" ++ 13 ∷ [])) ≡ codes "ls /" ++ 13 ∷ []
-a_line_keeps_its_own_return = refl
-
--- a line that was read, with its end, and what of it was logged
-pub record Asked : Type 0 where
+-- A line that was read, with its end. It was answered by a text, and logged or not.
+pub record Turn : Type 0 where
   pub line : List ℕ
-  pub logged : List ℕ
+  pub text : List ℕ
+  pub logged : Bool
 
--- what was logged of some lines
-abbrev pub log_of : List Asked → List ℕ
-log_of asked = flat_map (λ a. a.logged) asked
+abbrev pub lines_asked : List Turn → List (List ℕ)
+lines_asked turns = map (λ t. t.line) turns
+
+abbrev pub texts_of : List Turn → List (List ℕ)
+texts_of turns = map (λ t. t.text) turns
+
+-- what of them stands in the log
+abbrev pub entries : List Turn → List Entry
+entries [] = []
+entries (t ∷ turns) = if t.logged then record { line = t.line; answer = t.text } ∷ entries turns else entries turns
+
+-- batches, one behind the other
+abbrev pub joined : List (List Entry) → List Entry
+joined [] = []
+joined (batch ∷ more) = batch ++ joined more
+
+-- Where something has to be logged, it stands in the log with its mark.
+abbrev pub kept_behind : Totals → List Entry → Totals
+kept_behind t [] = t
+kept_behind t (e ∷ batch) = behind t (e ∷ batch)
 
 -- For a test that says which lines, without their ends, a machine acts on.
 module _ (is_kept : List ℕ → Bool) where
@@ -29,10 +37,16 @@ module _ (is_kept : List ℕ → Bool) where
   abbrev pub is_logged : List ℕ → Bool
   is_logged line = nat_le (length (content line)) longest_line && is_kept (content line)
 
-  -- what of a line with its end has to be logged
-  abbrev pub logs : List ℕ → List ℕ
-  logs line = if is_logged line then kept_text (content line) else []
+  -- A line may stand in a log with this answer: it has to be logged, and the answer isn't one for want of memory.
+  abbrev pub MayStand : List ℕ → List ℕ → Type 0
+  MayStand line text = (is_logged line ≡ true) × (text ≢ memory_text)
 
-  -- what of a line has to be logged is, or nothing of it where memory is lacking
-  abbrev pub MayLog : Asked → Type 0
-  MayLog asked = (asked.logged ≡ []) ⊎ (asked.logged ≡ logs asked.line)
+-- ---- examples
+
+answered_and_refused : List Turn
+answered_and_refused =
+    record { line = codes "ls /" ++ 10 ∷ []; text = codes "ok"; logged = true } ∷ record { line = codes "what" ++ 10 ∷ []; text = codes "refused 34 BadLine"; logged = false } ∷ []
+
+what_is_refused_is_not_logged : entries answered_and_refused ≡ record { line = codes "ls /" ++ 10 ∷ []; answer = codes "ok" } ∷ []
+unfolding answered_and_refused
+what_is_refused_is_not_logged = refl

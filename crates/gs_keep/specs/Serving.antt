@@ -1,12 +1,18 @@
 -- What a run of a store that is kept does with its log, its input and its output.
-use Rattle.std.specs.Prelude.{◌≡◌, ◌++◌, ◌∷◌, ◌⊎◌, ℕ, Bool, true, false, List, [], take, Option, Some, IfSome, Result, Ok, Err}
-use Rattle.std.specs.List.{AllByRecursion}
+use Rattle.std.specs.Prelude.{◌≡◌, ◌++◌, ◌∷◌, ◌≤◌, ◌⊎◌, ℕ, Bool, true, false, List, [], length, Option, Some, IfSome, Result, Ok, Err}
+use Rattle.std.specs.Io.BufRead.{drop_through}
 use Rattle.std.specs.Io.KnownBytes.{Appends}
 use Rattle.gs_keep_log.specs.Log.{Held, MayLeave}
 use Rattle.gs_shell_line.specs.Line.{StaysInLine}
-use Rattle.gs_shell_script.specs.Run.{AnswersLine, lines_of, memory_text, unlines}
-use Rattle.gs_keep.specs.Gathering.{lines_asked}
-use Rattle.gs_keep.specs.Lines.{Asked, MayLog, log_of, logs}
+use Rattle.gs_shell_script.specs.Run.{AppendsBeginning, lines_of, unlines}
+use Rattle.gs_keep_mark.specs.Ledgers.{IsLedger, is_full}
+use Rattle.gs_keep_mark.specs.Marks.{Entry, Totals, mark_of, passed, text_of, totals_behind, with_batch}
+use Rattle.gs_keep_mark.specs.Started.{AreBatches, IsBatch}
+use Rattle.gs_keep_mark.specs.declared.Ledger.{Ledger}
+use Rattle.gs_keep.specs.Lines.{Turn, entries, joined, kept_behind, lines_asked, texts_of}
+use Rattle.gs_keep.specs.Running.{AnswersAll, IsUnended}
+use Rattle.gs_keep.specs.declared.batch.Gathered.{Gathered}
+use Rattle.gs_keep.specs.declared.batch.Gathered.TheVariants as gathered
 use Rattle.gs_keep.specs.declared.fault.KeepFault.{KeepFault}
 use Rattle.gs_keep.specs.declared.fault.KeepFault.TheVariants as fault
 
@@ -16,24 +22,39 @@ use Rattle.gs_keep.specs.declared.fault.KeepFault.TheVariants as fault
 abbrev pub at_rest : List ℕ → Held
 at_rest bytes = record { durable = bytes; pending = [] }
 
--- A log that is at rest is at rest again, with these bytes at its end.
-abbrev pub Kept : Option Held → List ℕ → Option Held → Type 0
-Kept old bytes new = (all : List ℕ) → old ≡ Some (at_rest all) → new ≡ Some (at_rest (all ++ bytes))
+-- a log holds these bytes, each for good
+abbrev pub RestsAt : Option Held → List ℕ → Type 0
+RestsAt log text = log ≡ Some (at_rest text)
 
--- Of a log that was at rest each crash leaves what it held, then the first bytes, and then a beginning of the second.
-abbrev pub Leaves : Option Held → List ℕ → List ℕ → Option Held → Type 0
-Leaves old kept bytes new =
-    (all : List ℕ) → old ≡ Some (at_rest all) → IfSome new (λ h. (c : List ℕ) → MayLeave h c → (count : ℕ) × (c ≡ all ++ (kept ++ take count bytes)))
+-- each crash leaves these bytes, and behind them no more than as many as these are
+abbrev pub LeavesAtMost : List ℕ → List ℕ → Option Held → Type 0
+LeavesAtMost front most log = IfSome log (λ h. (c : List ℕ) → MayLeave h c → (behind : List ℕ) × (length behind ≤ length most) × (c ≡ front ++ behind))
 
--- ---- the output
+-- A log that rested grows by these bytes and the mark that is to stand behind them, for good. The ledger tells of all that the log holds then.
+abbrev pub Seals : Ledger → Ledger → Option Held → Option Held → List ℕ → Type 0
+Seals ledger ledger' log log' bytes =
+    (is_full ledger' ≡ is_full ledger) × ((t : Totals) → IsLedger ledger t → IsLedger ledger' (passed t)
+    × ((front : List ℕ) → front ++ bytes ≡ t.text → RestsAt log front → RestsAt log' (passed t).text))
 
--- Some answers are written, each as a line, but for the end of the last.
-pub record BreaksOff (texts : List (List ℕ)) (old new : Option (List ℕ)) : Type 0 where
-  pub done : List (List ℕ)
-  pub last : List ℕ
-  pub parts : texts ≡ done ++ last ∷ []
-  pub count : ℕ
-  pub written : Appends old new (unlines done ++ take count (last ++ 10 ∷ []))
+-- Where that can't be: memory is lacking for the mark, or the log fails and may have any bytes behind what it held, no more than these.
+abbrev pub SealFails : KeepFault → Ledger → Option Held → Option Held → List ℕ → Type 0
+SealFails fault.Memory ledger log log' bytes = log' ≡ log
+SealFails fault.Log ledger log log' bytes =
+    (t : Totals) → IsLedger ledger t → (front : List ℕ) → RestsAt log front → LeavesAtMost front (bytes ++ mark_of t) log'
+SealFails fault.Read ledger log log' bytes = ⊥
+SealFails fault.Write ledger log log' bytes = ⊥
+SealFails fault.Unended ledger log log' bytes = ⊥
+SealFails fault.TooMany ledger log log' bytes = ⊥
+
+-- so it is, if there are any bytes
+abbrev pub Keeps : Ledger → Ledger → Option Held → Option Held → List ℕ → Type 0
+Keeps ledger ledger' log log' [] = (ledger' ≡ ledger) × (log' ≡ log)
+Keeps ledger ledger' log log' (x ∷ xs) = Seals ledger ledger' log log' (x ∷ xs)
+
+-- so it is, if lines have no mark behind them
+abbrev pub Closes : Bool → Ledger → Ledger → Option Held → Option Held → Type 0
+Closes false ledger ledger' log log' = (ledger' ≡ ledger) × (log' ≡ log)
+Closes true ledger ledger' log log' = Seals ledger ledger' log log' []
 
 -- ---- the fault
 
@@ -43,71 +64,74 @@ blames_log (Ok value) = false
 blames_log (Err fault.Memory) = false
 blames_log (Err fault.Read) = false
 blames_log (Err fault.Write) = false
+blames_log (Err fault.Unended) = false
+blames_log (Err fault.TooMany) = false
 blames_log (Err fault.Log) = true
+
+-- what comes of a round whose lines are answered
+abbrev pub Ends : Gathered → Result Bool KeepFault → Type 0
+Ends gathered.Some result = result ≡ Ok true
+Ends gathered.All result = result ≡ Ok false
+Ends gathered.Unended result = result ≡ Err fault.Unended
+Ends gathered.Failed result = result ≡ Err fault.Read
+Ends gathered.Full result = result ≡ Err fault.TooMany
 
 -- For a relation that says what may be answered to a line, and a test that says which lines a machine acts on.
 module _ {S : Type 0} (A : S → List ℕ → List ℕ → S → Type 0) (is_kept : List ℕ → Bool) where
-  -- ---- lines
-
-  -- A line is logged if it has to be, and answered. Or memory is lacking for it, and nothing happens.
-  abbrev pub AnswersLogged : S → Asked → List ℕ → S → Type 0
-  AnswersLogged old asked text new =
-      ((asked.logged ≡ []) × (text ≡ memory_text) × (new ≡ old))
-      ⊎ ((asked.logged ≡ logs is_kept asked.line) × AnswersLine A old asked.line text new)
-
-  -- so are some lines, one after another
-  abbrev pub AnswersAll : S → List Asked → List (List ℕ) → S → Type 0
-  AnswersAll old [] [] new = new ≡ old
-  AnswersAll old (asked ∷ more) (text ∷ texts) new = (mid : S) × AnswersLogged old asked text mid × AnswersAll mid more texts new
-  AnswersAll old [] (text ∷ texts) new = ⊥
-  AnswersAll old (asked ∷ more) [] new = ⊥
-
-  -- the lines that wait are answered, and their answers written
-  abbrev pub AnswersWaiting : S → List Asked → Option (List ℕ) → Option (List ℕ) → S → Type 0
-  AnswersWaiting old asked out out' new = (texts : List (List ℕ)) × AnswersAll old asked texts new × Appends out out' (unlines texts)
-
-  -- some of them are, and of the last of these a beginning at least
-  abbrev pub AnswersSome : S → List Asked → Option (List ℕ) → Option (List ℕ) → S → Type 0
-  AnswersSome old asked out out' new =
-      (first : List Asked) × (waiting : List Asked) × (texts : List (List ℕ)) × (asked ≡ first ++ waiting) × AnswersAll old first texts new × BreaksOff texts out out'
-
   -- ---- a run, or a part of one
 
-  -- The lines of the input before the rest are logged, and then answered.
-  pub record Serves (start : S) (input rest : List ℕ) (log log' : Option Held) (out out' : Option (List ℕ)) (end : S) : Type 0 where
-    pub asked : List Asked
-    pub texts : List (List ℕ)
-    pub parts : lines_of input ≡ lines_asked asked ++ lines_of rest
-    pub answers : AnswersAll start asked texts end
-    pub written : Appends out out' (unlines texts)
-    pub kept : Kept log (log_of asked) log'
+  -- The lines of the input before the rest are run. Those that have to be logged are, in batches, each with its mark and for good, and
+  -- then their answers are written. At the end the ledger tells of all that the log holds.
+  pub record Serves (start : S) (input rest : List ℕ) (log log' : Option Held) (out out' : Option (List ℕ)) (ledger ledger' : Ledger) (end : S) : Type 0 where
+    pub turns : List Turn
+    pub batches : List (List Entry)
+    pub parts : lines_of input ≡ lines_asked turns ++ lines_of rest
+    pub answers : AnswersAll A is_kept start turns end
+    pub written : Appends out out' (unlines (texts_of turns))
+    pub logged : entries turns ≡ joined batches
+    pub plain : AreBatches batches
+    pub kept : (t : Totals) → IsLedger ledger t → IsLedger ledger' (totals_behind t batches) × (RestsAt log t.text → RestsAt log' (totals_behind t batches).text)
 
   -- Where there are no more lines, that is all of the input.
-  abbrev pub Rounds : S → Bool → List ℕ → Option (List ℕ) → Option Held → Option Held → Option (List ℕ) → Option (List ℕ) → S → Type 0
-  Rounds start true input left log log' out out' end = (rest : List ℕ) × (left ≡ Some rest) × Serves start input rest log log' out out' end
-  Rounds start false input left log log' out out' end = Serves start input [] log log' out out' end
+  abbrev pub Rounds : S → Bool → List ℕ → Option (List ℕ) → Option Held → Option Held → Option (List ℕ) → Option (List ℕ) → Ledger → Ledger → S → Type 0
+  Rounds start true input left log log' out out' ledger ledger' end =
+      (rest : List ℕ) × (left ≡ Some rest) × (s : Serves start input rest log log' out out' ledger ledger' end) × (1 ≤ length s.turns)
+  Rounds start false input left log log' out out' ledger ledger' end = Serves start input [] log log' out out' ledger ledger' end
 
-  -- A run that fails: some lines were run, some more were read and not run, and then comes the rest, of whose first line the reader
-  -- may have lost bytes. Of a line that waits no more may be logged than has to be of one that is answered.
-  pub record Stops (start : S) (input : List ℕ) (left : Option (List ℕ)) (end : S) : Type 0 where
-    pub asked : List Asked
-    pub texts : List (List ℕ)
-    pub waiting : List Asked
+  -- ---- a run that fails
+
+  -- some lines more were run, and wait for their answers
+  pub record Waits (now : S) (rest : List ℕ) : Type 0 where
+    pub turns : List Turn
+    pub back : List ℕ
+    pub end : S
+    pub parts : lines_of rest ≡ lines_asked turns ++ lines_of back
+    pub answers : AnswersAll A is_kept now turns end
+    pub plain : IsBatch (entries turns)
+
+  -- Memory is lacking for an answer, or for the mark: of what was run since nothing is logged or answered. A read fails. The last line
+  -- lacks its end. There are more lines than can be counted. A write fails: of the answers a beginning is written, and what has to be logged of their
+  -- lines is, for good. The log fails: none of the answers is written, and a crash leaves any bytes behind what was kept.
+  abbrev pub EndsWith : KeepFault → S → List ℕ → Option (List ℕ) → Option Held → Option Held → Option (List ℕ) → Option (List ℕ) → Ledger → List Turn → Type 0
+  EndsWith fault.Memory now rest left log log' out out' ledger turns = (log' ≡ log) × (out' ≡ out)
+  EndsWith fault.Read now rest left log log' out out' ledger turns = StaysInLine (Some rest) left × (log' ≡ log) × (out' ≡ out)
+  EndsWith fault.Unended now rest left log log' out out' ledger turns = IsUnended rest × (left ≡ Some (drop_through 10 rest)) × (log' ≡ log) × (out' ≡ out)
+  EndsWith fault.TooMany now rest left log log' out out' ledger turns =
+      (left ≡ Some rest) × ((18446744073709551615 ≤ length turns) ⊎ (is_full ledger ≡ true)) × (log' ≡ log) × (out' ≡ out)
+  EndsWith fault.Write now rest left log log' out out' ledger turns =
+      (w : Waits now rest) × ((t : Totals) → IsLedger ledger t → RestsAt log t.text → RestsAt log' (kept_behind t (entries w.turns)).text)
+      × AppendsBeginning out out' (unlines (texts_of w.turns))
+  EndsWith fault.Log now rest left log log' out out' ledger turns =
+      (w : Waits now rest)
+      × ((t : Totals) → IsLedger ledger t → RestsAt log t.text → LeavesAtMost t.text (text_of (entries w.turns) ++ mark_of (with_batch t (entries w.turns))) log')
+      × (out' ≡ out)
+
+  -- Some lines are served, and then the run ends before the input does.
+  pub record Fails (fault : KeepFault) (start : S) (input : List ℕ) (left : Option (List ℕ)) (log log' : Option Held) (out out' : Option (List ℕ)) (ledger : Ledger) : Type 0 where
+    pub now : S
     pub rest : List ℕ
-    pub parts : lines_of input ≡ lines_asked asked ++ (lines_asked waiting ++ lines_of rest)
-    pub stays : StaysInLine (Some rest) left
-    pub answers : AnswersAll start asked texts end
-    pub logged : AllByRecursion (MayLog is_kept) waiting
-
-  -- Memory is lacking to begin: nothing is read. A read fails: each line that was read is logged and answered. A write fails: each
-  -- that was read is logged. The log fails: each that was answered is logged, and of those that wait a crash may leave a beginning.
-  abbrev pub FailsAs : KeepFault → (start : S) (input : List ℕ) (left : Option (List ℕ)) (end : S) → Stops start input left end
-      → Option Held → Option Held → Option (List ℕ) → Option (List ℕ) → Type 0
-  FailsAs fault.Memory start input left end s log log' out out' =
-      (s.asked ≡ []) × (s.waiting ≡ []) × (left ≡ Some input) × (log' ≡ log) × (out' ≡ out) × (end ≡ start)
-  FailsAs fault.Read start input left end s log log' out out' = (s.waiting ≡ []) × Appends out out' (unlines s.texts) × Kept log (log_of s.asked) log'
-  FailsAs fault.Write start input left end s log log' out out' = BreaksOff s.texts out out' × Kept log (log_of s.asked ++ log_of s.waiting) log'
-  FailsAs fault.Log start input left end s log log' out out' = Appends out out' (unlines s.texts) × Leaves log (log_of s.asked) (log_of s.waiting) log'
-
-  abbrev pub Fails : KeepFault → S → List ℕ → Option (List ℕ) → Option Held → Option Held → Option (List ℕ) → Option (List ℕ) → S → Type 0
-  Fails fault start input left log log' out out' end = (s : Stops start input left end) × FailsAs fault start input left end s log log' out out'
+    pub between : Option Held
+    pub written : Option (List ℕ)
+    pub told : Ledger
+    pub done : Serves start input rest log between out written ledger told now
+    pub last : EndsWith fault now rest left between log' written out' told done.turns

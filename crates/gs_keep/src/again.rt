@@ -1,14 +1,32 @@
 // The lines of a log are run again.
-ghost use Rattle.std.specs.Prelude.{◌≡◌, ◌≢◌, true, false, List, ℕ, IfOk, IfErr, IfSome, OnOk, OnErr, string_bytes, if◌then◌else◌};
+ghost use Rattle.std.specs.Prelude.{◌≡◌, ◌≢◌, ◌≤◌, ◌∷◌, true, false, List, ℕ, length, IfOk, IfErr, IfSome, OnOk, OnErr, string_bytes};
+ghost use Rattle.std.specs.Io.BufRead.{ends_with_byte};
+ghost use Rattle.gs_shell_line.specs.Line.{content, longest_line};
 ghost use Rattle.gs_shell_script.specs.Run.{bad_line_text, memory_text};
-ghost use Rattle.gs_keep.specs.Replaying.{RefusesLine, RefusesOne, ReplayFails, Replays, ReplaysOne};
+ghost use Rattle.gs_shell_line.specs.Ended.{HasNoMore, remaining};
+ghost use Rattle.gs_keep_mark.specs.Ledgers.{IsLedger, is_full};
+ghost use Rattle.gs_keep_mark.specs.Marks.{Totals, mark_of, passed, starts_mark};
+ghost use Rattle.gs_keep.specs.Replaying.{RefusesLine, RefusesMark, RefusesOne, RefusesText, ReplayFails, Replays, ReplaysOne, ReplaysText, RunsLine};
 
+use crate::batch::{BAD_LINE, text_of};
 use crate::keeping::Keeping;
-use gs_shell_line::{Line, next_line};
+use gs_keep_mark::{Ledger, is_mark};
+use gs_shell_line::{EndedLine, EndedLines, content_of};
 use gs_shell_script::MEMORY;
 use std::alloc::{AllocError, Global};
 use std::io::BufRead;
 use thiserror::Error;
+
+/// What of a mark isn't as it has to be.
+#[derive(Clone, Copy, Debug, PartialEq, Eq, Error)]
+pub enum Wrong {
+    #[error("the count of the lines before it")]
+    Count,
+    #[error("the text before it")]
+    Text,
+    #[error("what the lines before it are answered")]
+    Answers,
+}
 
 /// Why the lines of a log can't be run again.
 #[derive(Clone, Copy, Debug, PartialEq, Eq, Error)]
@@ -20,16 +38,20 @@ pub enum ReplayFault {
     /// The line behind so many is none of the grammar.
     #[error("the line behind {0} lines of the log is none of a script")]
     BadLine(u64),
+    /// The line behind so many is not the mark that it has to be.
+    #[error("the mark behind {0} lines of the log says otherwise of {1}")]
+    Mark(u64, Wrong),
+    #[error("there are more lines than can be counted")]
+    TooMany,
 }
 
 /// What was run again.
 #[derive(Clone, Copy, Debug, PartialEq, Eq)]
 pub struct Replayed {
-    /// How many lines.
+    /// How many lines, without the marks.
     pub lines: u64,
-    /// How many of them were answered `refused 33 Memory`. If that isn't so for each of them since it was first answered, the
-    /// store may differ from what it was.
-    pub lacking: u64,
+    /// Whether no mark stands behind the last of them.
+    pub is_open: bool,
 }
 
 /// Whoever is told how far a log has been run again.
@@ -48,15 +70,12 @@ pub trait Progress {
 #[derive(Clone, Copy, Debug, PartialEq, Eq)]
 pub(crate) enum Replaying {
     End,
-    /// It was run, and its answer was `refused 33 Memory` or not.
-    Line(bool),
+    Line,
+    Mark,
 }
 
-/// The answer to a line that is none of the grammar.
-const BAD_LINE: &str = "refused 34 BadLine";
-
 /// Whether an answer says that memory was lacking.
-fn says_memory(answer: &Result<String, AllocError>) -> bool
+pub(crate) fn says_memory(answer: &Result<String, AllocError>) -> bool
     ensures ok { IfOk answer.now (λ text. result ≡ false → string_bytes text ≢ memory_text) }
     ensures err { OnErr answer.now (result ≡ true) }
 {
@@ -64,12 +83,6 @@ fn says_memory(answer: &Result<String, AllocError>) -> bool
         Ok(text) => text.as_str() == MEMORY,
         Err(_) => true,
     }
-}
-
-fn counted(lacks: bool) -> u64
-    ensures { result ≡ (if lacks then 1 else 0) }
-{
-    if lacks { 1 } else { 0 }
 }
 
 /// Whether an answer refuses a line as none of the grammar.
@@ -99,68 +112,139 @@ fn check_line<M: Keeping>(
     }
 }
 
-/// Runs one line that was logged. Most answers are given to lines of the grammar alone, so the line is only read once more where its own
-/// may be given to another.
+/// Runs one line that was logged. An answer for want of memory isn't that of then, since a line that is answered so isn't logged. Most
+/// answers are given to lines of the grammar alone, so the line is only read once more where its own may be given to another.
 fn run_logged<M: Keeping>(
     alloc: Global,
     machine: &mut M,
+    ledger: &mut Ledger,
     line: &[u8],
     number: u64,
-) -> Result<bool, ReplayFault>
-    ensures ok { IfOk result (λ lacks. (M.is_kept line.now ≡ true) × (text : List ℕ) × M.Answers machine.old line.now text machine.new × (lacks ≡ false → text ≢ memory_text)) }
-    ensures err { IfErr result (λ e. RefusesLine M.is_kept number e line.now) }
+) -> Result<(), ReplayFault>
+    requires room { is_full ledger.old ≡ false }
+    ensures ok { OnOk result (length (content line.now) ≤ longest_line → ends_with_byte 10 line.now ≡ true → RunsLine M.Answers M.is_kept line.now machine.old machine.new ledger.old ledger.new) }
+    ensures err { IfErr result (λ e. RefusesLine M.is_kept number e (content line.now)) }
 {
-    let answer = machine.answer(alloc, line);
-    let lacks = says_memory(&answer);
-    if lacks || says_bad_line(&answer) {
-        check_line(alloc, machine, line, number)?;
+    let answer = machine.answer(alloc, content_of(line));
+    if says_memory(&answer) {
+        return Err(ReplayFault::Memory);
     }
-    Ok(lacks)
+    if says_bad_line(&answer) {
+        check_line(alloc, machine, content_of(line), number)?;
+    }
+    ledger.note(line, text_of(&answer).as_bytes());
+    Ok(())
 }
 
-/// Runs the next line again.
+/// The part of a mark that differs from that of another.
+fn wrong_of(line: &[u8], mark: &[u8]) -> Wrong {
+    if line.get(..22) != mark.get(..22) {
+        return Wrong::Count;
+    }
+    if line.get(..87) != mark.get(..87) {
+        return Wrong::Text;
+    }
+    Wrong::Answers
+}
+
+/// Takes a line as the mark that is to stand next.
+fn pass_mark(
+    alloc: Global,
+    ledger: &mut Ledger,
+    line: &[u8],
+    number: u64,
+) -> Result<(), ReplayFault>
+    ensures ok { OnOk result ((t : Totals) → IsLedger ledger.old t → (line.now ≡ mark_of t) × IsLedger ledger.new (passed t)) }
+    ensures err { IfErr result (λ e. RefusesMark number e line.now ledger.old) }
+{
+    let Ok(mark) = ledger.mark(alloc) else {
+        return Err(ReplayFault::Memory);
+    };
+    if line != mark.as_slice() {
+        return Err(ReplayFault::Mark(number, wrong_of(line, &mark)));
+    }
+    ledger.pass(line);
+    Ok(())
+}
+
+/// Runs a line again, or takes it as a mark.
+fn replay_text<M: Keeping>(
+    alloc: Global,
+    machine: &mut M,
+    ledger: &mut Ledger,
+    line: &[u8],
+    number: u64,
+) -> Result<Replaying, ReplayFault>
+    requires room { is_full ledger.old ≡ false }
+    ensures ok { IfOk result (λ one. length (content line.now) ≤ longest_line → ends_with_byte 10 line.now ≡ true → ReplaysText M.Answers M.is_kept one line.now ledger.old ledger.new machine.old machine.new) }
+    ensures err { IfErr result (λ e. RefusesText M.is_kept number e line.now ledger.old) }
+{
+    if is_mark(line) {
+        return match pass_mark(alloc, ledger, line, number) {
+            Ok(()) => Ok(Replaying::Mark),
+            Err(fault) => Err(fault),
+        };
+    }
+    match run_logged(alloc, machine, ledger, line, number) {
+        Ok(()) => Ok(Replaying::Line),
+        Err(fault) => Err(fault),
+    }
+}
+
+/// Runs the next line again, or takes it as a mark.
 fn replay_one<M: Keeping, B: BufRead>(
     alloc: Global,
     machine: &mut M,
-    logged: &mut B,
+    ledger: &mut Ledger,
+    logged: &mut EndedLines<B>,
     number: u64,
 ) -> Result<Replaying, ReplayFault>
-    ensures ok { IfOk result (λ one. IfSome (B.remaining logged.old) (λ xs. ReplaysOne M.Answers M.is_kept one xs (B.remaining logged.new) machine.old machine.new)) }
-    ensures err { IfErr result (λ e. IfSome (B.remaining logged.old) (λ xs. RefusesOne M.is_kept number e xs)) }
+    ensures ok { IfOk result (λ one. IfSome (remaining B.remaining logged.old) (λ xs. ReplaysOne M.Answers M.is_kept one xs (remaining B.remaining logged.new) ledger.old ledger.new machine.old machine.new)) }
+    ensures err { IfErr result (λ e. IfSome (remaining B.remaining logged.old) (λ xs. RefusesOne M.is_kept number e xs ledger.old)) }
+    ensures unread { IfErr result (λ e. e ≡ ReplayFault.Read → HasNoMore logged.new) }
 {
-    let Ok(next) = next_line(alloc, logged) else {
+    if ledger.is_full() {
+        return Err(ReplayFault::TooMany);
+    }
+    let Ok(next) = logged.next(alloc) else {
         return Err(ReplayFault::Read);
     };
     match next.line {
-        Line::End => Ok(Replaying::End),
-        Line::Text(line) => match run_logged(alloc, machine, &line, number) {
-            Ok(lacks) => Ok(Replaying::Line(lacks)),
-            Err(fault) => Err(fault),
-        },
-        Line::TooLong => Err(ReplayFault::BadLine(number)),
-        Line::NoMemory => Err(ReplayFault::Memory),
+        EndedLine::End => Ok(Replaying::End),
+        EndedLine::Text(line) => replay_text(alloc, machine, ledger, &line, number),
+        EndedLine::NoMemory => Err(ReplayFault::Memory),
+        EndedLine::Unended => Err(ReplayFault::BadLine(number)),
+        EndedLine::TooLong => Err(ReplayFault::BadLine(number)),
     }
 }
 
-/// Runs each line of the reader, and throws its answer away. A line that a machine wouldn't act on, or that is longer than a line may
-/// be, is refused as `BadLine`, with how many stand before it. Where memory is lacking to hold a line, or to tell that it is one, or
-/// the log can't be read, the lines behind it aren't run. In each of these cases the machine is to be thrown away.
+/// Runs each line of the reader, and throws its answer away. Each mark has to be the one that the ledger gives behind the lines before it
+/// and what they are answered now, byte for byte. A line that a machine wouldn't act on, that is longer than a line may be or lacks its
+/// end is refused as `BadLine`, with how many stand before it, marks too. Where memory is lacking to hold a line, or to tell that it is
+/// one, or the log can't be read, the lines behind it aren't run. In each of these cases the machine is to be thrown away.
 pub fn replay<M: Keeping, B: BufRead, P: Progress>(
     alloc: Global,
     machine: &mut M,
-    logged: &mut B,
+    ledger: &mut Ledger,
+    logged: &mut EndedLines<B>,
     progress: &mut P,
 ) -> Result<Replayed, ReplayFault>
-    ensures ok { IfOk result (λ done. IfSome (B.remaining logged.old) (λ script. Replays M.Answers M.is_kept machine.old script done machine.new)) }
-    ensures err { IfErr result (λ e. IfSome (B.remaining logged.old) (λ script. ReplayFails M.is_kept e script)) }
+    ensures ok { IfOk result (λ done. IfSome (remaining B.remaining logged.old) (λ script. Replays M.Answers M.is_kept machine.old script done ledger.old ledger.new machine.new)) }
+    ensures err { IfErr result (λ e. IfSome (remaining B.remaining logged.old) (λ script. ReplayFails M.Answers M.is_kept e machine.old script ledger.old)) }
+    ensures unread { IfErr result (λ e. e ≡ ReplayFault.Read → HasNoMore logged.new) }
 {
-    let mut lacking = 0;
-    for lines in 0..u64::MAX {
-        match replay_one(alloc, machine, logged, lines)? {
-            Replaying::End => return Ok(Replayed { lines, lacking }),
-            Replaying::Line(lacks) => lacking += counted(lacks),
+    let mut lines = 0;
+    let mut is_open = false;
+    for number in 0..u64::MAX {
+        match replay_one(alloc, machine, ledger, logged, number)? {
+            Replaying::End => return Ok(Replayed { lines, is_open }),
+            Replaying::Line => {
+                lines += 1;
+                is_open = true;
+                progress.passed(lines);
+            }
+            Replaying::Mark => is_open = false,
         }
-        progress.passed(lines + 1);
     }
-    Err(ReplayFault::Read)
+    Err(ReplayFault::TooMany)
 }

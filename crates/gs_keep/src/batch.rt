@@ -1,178 +1,201 @@
-// The lines that come together: each is judged, and what has to be logged of them is put together.
-ghost use Rattle.std.specs.Prelude.{◌≡◌, ◌≢◌, ◌<◌, ◌≤◌, ◌++◌, ◌∷◌, [], ℕ, List, true, length, take, IfOk, OnOk, OnErr, IfSome, if◌then◌else◌};
-ghost use Rattle.std.specs.VecDeque.{deque_len, deque_capacity};
+// The lines that come together are run, one after another. What has to be logged of them and their answers are held until then.
+ghost use Rattle.std.specs.Prelude.{◌≡◌, ◌≢◌, ◌<◌, ◌≤◌, ◌++◌, ◌∷◌, [], ℕ, List, true, false, length, IfOk, OnOk, OnErr, IfSome, string_bytes};
 ghost use Rattle.std.specs.Io.BufRead.{ends_with_byte};
-ghost use Rattle.gs_shell_line.specs.Line.{IsLine, StaysInLine};
-ghost use Rattle.gs_keep.specs.Lines.{Asked, kept_text};
-ghost use Rattle.gs_keep.specs.Gathering.{Gathers, ReadsOne, Waits};
+ghost use Rattle.gs_shell_line.specs.Line.{content, longest_line};
+ghost use Rattle.gs_shell_script.specs.Run.{memory_text};
+ghost use Rattle.gs_shell_line.specs.Ended.{HasNoMore, IsEndedLine, remaining};
+ghost use Rattle.gs_keep_mark.specs.Ledgers.{is_full};
+ghost use Rattle.gs_keep.specs.Running.{Gathers, RunsOne};
 
+use crate::again::says_memory;
 use crate::keeping::Keeping;
-use gs_shell_line::{Line, MOST_BYTES, Next, next_line};
+use gs_keep_mark::Ledger;
+use gs_shell_line::{EndedLine, EndedLines, content_of};
+use gs_shell_script::MEMORY;
 use std::alloc::{AllocError, Global};
-use std::collections::VecDeque;
-use std::io::{self, BufRead};
+use std::io::BufRead;
 
-/// The most lines that wait at a time.
-const MOST_LINES: usize = 65_536;
+/// The bytes that are logged at a time, and those that are answered: no more lines are run once there are so many.
+const MOST_BYTES: usize = 1_048_576;
 
-/// Lines that wait for their answers, and what has to be logged of them.
+/// The answer to a line that is longer than a line may be.
+pub(crate) const BAD_LINE: &str = "refused 34 BadLine";
+
+/// Lines that were run, and wait for their answers to go out.
 #[derive(Drop)]
 pub(crate) struct Batch {
-    pub(crate) lines: VecDeque<Line>,
+    /// What has to be logged of them.
     pub(crate) bytes: Vec<u8>,
+    /// Their answers, each with its end.
+    pub(crate) answers: Vec<u8>,
 }
 
-/// What is known of the reader behind the lines that were gathered.
+/// What is known of the reader behind the lines that were run.
 #[derive(Clone, Copy, Debug, PartialEq, Eq)]
 pub(crate) enum Gathered {
     /// There may be more lines.
     Some,
     /// The input has ended.
     All,
+    /// The last line lacks its end, and isn't run.
+    Unended,
     /// A read failed.
     Failed,
+    /// No more lines can be counted.
+    Full,
 }
 
-/// Whether a line ends with a `\r` of its own.
-fn ends_with_return(line: &[u8]) -> bool
-    ensures { result ≡ ends_with_byte 13 line.now }
+/// The text of an answer.
+pub(crate) fn text_of(answer: &Result<String, AllocError>) -> &str
+    ensures ok { IfOk answer.now (λ text. result.now ≡ string_bytes text) }
+    ensures err { OnErr answer.now (result.now ≡ memory_text) }
 {
-    let n = line.len();
-    n > 0 && line[n - 1] == b'\r'
-}
-
-fn push_parts(bytes: &mut Vec<u8>, line: &[u8]) -> Result<(), AllocError>
-    ensures ok { OnOk result (bytes.new.items ≡ bytes.old.items ++ kept_text line.now) }
-    ensures front { take (length bytes.old.items) bytes.new.items ≡ bytes.old.items }
-{
-    bytes.extend_from_slice(line)?;
-    if ends_with_return(line) {
-        return bytes.extend_from_slice(b"\r\n");
-    }
-    bytes.extend_from_slice(b"\n")
-}
-
-/// Puts a line with an end behind the bytes, or where memory is lacking nothing.
-fn push_line(bytes: &mut Vec<u8>, line: &[u8]) -> Result<(), AllocError>
-    ensures ok { OnOk result (bytes.new.items ≡ bytes.old.items ++ kept_text line.now) }
-    ensures err { OnErr result (bytes.new.items ≡ bytes.old.items) }
-{
-    let before = bytes.len();
-    let pushed = push_parts(bytes, line);
-    if pushed.is_err() {
-        bytes.truncate(before);
-    }
-    pushed
-}
-
-/// A line as it waits for its answer, once it is put behind the bytes that have to be logged, if it has to be. Where memory is
-/// lacking for that it waits for the answer that says so.
-fn admitted<M: Keeping>(alloc: Global, machine: &M, line: Line, bytes: &mut Vec<u8>) -> Line
-    requires { line ≢ Line.End }
-    ensures { (whole : List ℕ) → IsLine whole line → (logged : List ℕ) × (bytes.new.items ≡ bytes.old.items ++ logged)
-        × Waits M.is_kept (record { line = whole; logged = logged }) result }
-{
-    match line {
-        Line::Text(text) => match machine.keeps(alloc, &text) {
-            Ok(true) => match push_line(bytes, &text) {
-                Ok(()) => Line::Text(text),
-                Err(_) => Line::NoMemory,
-            },
-            Ok(false) => Line::Text(text),
-            Err(_) => Line::NoMemory,
-        },
-        line => line,
+    match answer {
+        Ok(text) => text.as_str(),
+        Err(_) => MEMORY,
     }
 }
 
-/// Reads the next line, as it waits for its answer, and puts it behind the bytes that have to be logged, if it has to be. Nothing where
-/// the input has ended.
-fn read_one<M: Keeping, R: BufRead>(
+/// Puts an answer with its end behind the others.
+fn put_answer(answers: &mut Vec<u8>, text: &str) -> Result<(), AllocError>
+    ensures { OnOk result (answers.new.items ≡ answers.old.items ++ (text.now ++ 10 ∷ [])) }
+{
+    answers.extend_from_slice(text.as_bytes())?;
+    answers.extend_from_slice(b"\n")
+}
+
+/// Runs a line that has to be logged. `Err` where its answer says that memory was lacking: it isn't known what it has come to then, so
+/// the run is to end before anything of it is logged.
+fn run_kept<M: Keeping>(
     alloc: Global,
-    machine: &M,
-    reader: &mut R,
-    bytes: &mut Vec<u8>,
-) -> io::Result<Option<Next>>
-    ensures one { IfOk result (λ next. IfSome (R.remaining reader.old) (λ xs.
-        ReadsOne M.is_kept next xs (R.remaining reader.new) bytes.old.items bytes.new.items)) }
-    ensures err { OnErr result (StaysInLine (R.remaining reader.old) (R.remaining reader.new) × (bytes.new.items ≡ bytes.old.items)) }
+    machine: &mut M,
+    ledger: &mut Ledger,
+    line: &[u8],
+    batch: &mut Batch,
+) -> Result<(), AllocError>
+    requires room { is_full ledger.old ≡ false }
+    requires kept { M.is_kept (content line.now) ≡ true }
+    ensures { OnOk result (length (content line.now) ≤ longest_line → ends_with_byte 10 line.now ≡ true → RunsOne M.Answers M.is_kept line.now machine.old machine.new batch.old.bytes.items batch.new.bytes.items
+        batch.old.answers.items batch.new.answers.items ledger.old ledger.new) }
 {
-    let Next {
-        line,
-        is_next_at_hand,
-    } = next_line(alloc, reader)?;
+    if batch.bytes.extend_from_slice(line).is_err() {
+        return put_answer(&mut batch.answers, MEMORY);
+    }
+    let answer = machine.answer(alloc, content_of(line));
+    if says_memory(&answer) {
+        return Err(AllocError);
+    }
+    let text = text_of(&answer);
+    ledger.note(line, text.as_bytes());
+    put_answer(&mut batch.answers, text)
+}
+
+/// Runs a line that isn't logged.
+fn run_other<M: Keeping>(
+    alloc: Global,
+    machine: &mut M,
+    line: &[u8],
+    answers: &mut Vec<u8>,
+) -> Result<(), AllocError>
+    requires other { M.is_kept (content line.now) ≡ false }
+    ensures { OnOk result (length (content line.now) ≤ longest_line → (bytes : List ℕ) (ledger : Ledger) → RunsOne M.Answers M.is_kept line.now machine.old machine.new bytes bytes
+        answers.old.items answers.new.items ledger ledger) }
+{
+    let answer = machine.answer(alloc, content_of(line));
+    put_answer(answers, text_of(&answer))
+}
+
+/// Runs a line that isn't too long.
+fn run_text<M: Keeping>(
+    alloc: Global,
+    machine: &mut M,
+    ledger: &mut Ledger,
+    line: &[u8],
+    batch: &mut Batch,
+) -> Result<(), AllocError>
+    requires room { is_full ledger.old ≡ false }
+    ensures { OnOk result (length (content line.now) ≤ longest_line → ends_with_byte 10 line.now ≡ true → RunsOne M.Answers M.is_kept line.now machine.old machine.new batch.old.bytes.items batch.new.bytes.items
+        batch.old.answers.items batch.new.answers.items ledger.old ledger.new) }
+{
+    match machine.keeps(alloc, content_of(line)) {
+        Ok(true) => run_kept(alloc, machine, ledger, line, batch),
+        Ok(false) => run_other(alloc, machine, line, &mut batch.answers),
+        Err(_) => put_answer(&mut batch.answers, MEMORY),
+    }
+}
+
+/// Runs a line. Where memory is lacking to hold or to log it, nothing of it happens, and its answer says so.
+fn run_line<M: Keeping>(
+    alloc: Global,
+    machine: &mut M,
+    ledger: &mut Ledger,
+    line: &EndedLine,
+    batch: &mut Batch,
+) -> Result<(), AllocError>
+    requires room { is_full ledger.old ≡ false }
+    ensures { OnOk result ((whole : List ℕ) → IsEndedLine whole line.now → RunsOne M.Answers M.is_kept whole machine.old machine.new
+        batch.old.bytes.items batch.new.bytes.items batch.old.answers.items batch.new.answers.items ledger.old ledger.new) }
+{
     match line {
-        Line::End => Ok(None),
-        line => Ok(Some(Next {
-            line: admitted(alloc, machine, line, bytes),
-            is_next_at_hand,
-        })),
+        EndedLine::Text(line) => run_text(alloc, machine, ledger, line, batch),
+        EndedLine::TooLong => put_answer(&mut batch.answers, BAD_LINE),
+        _ => put_answer(&mut batch.answers, MEMORY),
     }
 }
 
 impl Batch {
-    /// Room for a line at least.
-    pub(crate) fn new(alloc: Global) -> Result<Batch, AllocError>
-        ensures { IfOk result (λ batch. (batch.lines.items ≡ []) × (batch.bytes.items ≡ []) × (0 < deque_capacity batch.lines)) }
+    pub(crate) fn new(alloc: Global) -> Batch
+        ensures { (result.bytes.items ≡ []) × (result.answers.items ≡ []) }
     {
-        Ok(Batch {
-            lines: VecDeque::with_capacity(alloc, 1)?,
+        Batch {
             bytes: Vec::new(alloc),
-        })
-    }
-
-    /// One line more waits, for which there is room.
-    fn put(&mut self, line: Line)
-        requires { deque_len self.old.lines < deque_capacity self.old.lines }
-        ensures lines { self.new.lines.items ≡ self.old.lines.items ++ line ∷ [] }
-        ensures bytes { self.new.bytes.items ≡ self.old.bytes.items }
-        ensures capacity { deque_capacity self.old.lines ≤ deque_capacity self.new.lines }
-    {
-        if self.lines.push_back(line).is_err() {
-            unreachable!();
+            answers: Vec::new(alloc),
         }
     }
 
-    /// Whether one line more waits, which is at hand or not: not where much waits already, or memory is lacking for one more.
-    fn takes_more(&mut self, is_next_at_hand: bool) -> bool
-        ensures lines { self.new.lines.items ≡ self.old.lines.items }
-        ensures bytes { self.new.bytes.items ≡ self.old.bytes.items }
-        ensures capacity { deque_capacity self.old.lines ≤ deque_capacity self.new.lines }
-        ensures room { result ≡ true → deque_len self.new.lines < deque_capacity self.new.lines }
+    pub(crate) fn clear(&mut self)
+        ensures { (self.new.bytes.items ≡ []) × (self.new.answers.items ≡ []) }
     {
-        is_next_at_hand
-            && self.bytes.len() < MOST_BYTES
-            && self.lines.len() < MOST_LINES
-            && self.lines.reserve(1).is_ok()
+        self.bytes.clear();
+        self.answers.clear();
     }
 
-    /// Reads lines that wait from then on: one, unless the input has ended, and those behind it that the reader holds already, as
-    /// long as there is room. A read that fails ends it.
+    /// Whether one line more is run before these are answered, which is at hand or not.
+    fn takes_more(&self, is_next_at_hand: bool) -> bool {
+        is_next_at_hand && self.bytes.len() < MOST_BYTES && self.answers.len() < MOST_BYTES
+    }
+
+    /// Runs lines: one, unless the input has ended, and those behind it that the reader holds already, as long as they and their answers
+    /// are few. `Err` where memory was lacking for the answer to a line that was run.
     pub(crate) fn gather<M: Keeping, R: BufRead>(
         &mut self,
         alloc: Global,
-        machine: &M,
-        reader: &mut R,
-    ) -> Gathered
-        requires room { 0 < deque_capacity self.old.lines }
-        requires lines { self.old.lines.items ≡ [] }
+        machine: &mut M,
+        ledger: &mut Ledger,
+        reader: &mut EndedLines<R>,
+    ) -> Result<Gathered, AllocError>
         requires bytes { self.old.bytes.items ≡ [] }
-        ensures gathers { IfSome (R.remaining reader.old) (λ xs.
-            Gathers M.is_kept result xs (R.remaining reader.new) self.new.lines.items self.new.bytes.items) }
-        ensures capacity { deque_capacity self.old.lines ≤ deque_capacity self.new.lines }
+        requires answers { self.old.answers.items ≡ [] }
+        ensures gathers { IfOk result (λ gathered. IfSome (remaining R.remaining reader.old) (λ xs. Gathers M.Answers M.is_kept gathered xs (remaining R.remaining reader.new)
+            machine.old machine.new self.new.bytes.items self.new.answers.items ledger.old ledger.new)) }
+        ensures unread { IfOk result (λ gathered. gathered ≡ Gathered.Failed → HasNoMore reader.new) }
     {
-        for _ in 0..u64::MAX {
-            match read_one(alloc, machine, reader, &mut self.bytes) {
-                Ok(Some(next)) => {
-                    self.put(next.line);
-                    if !self.takes_more(next.is_next_at_hand) {
-                        return Gathered::Some;
-                    }
-                }
-                Ok(None) => return Gathered::All,
-                Err(_) => return Gathered::Failed,
+        for count in 0..u64::MAX {
+            if ledger.is_full() {
+                return Ok(Gathered::Full);
+            }
+            let Ok(next) = reader.next(alloc) else {
+                return Ok(Gathered::Failed);
+            };
+            match next.line {
+                EndedLine::End => return Ok(Gathered::All),
+                EndedLine::Unended => return Ok(Gathered::Unended),
+                line => run_line(alloc, machine, ledger, &line, self)?,
+            }
+            if !self.takes_more(next.is_next_at_hand) {
+                return Ok(Gathered::Some);
             }
         }
-        Gathered::Some
+        Ok(Gathered::Some)
     }
 }

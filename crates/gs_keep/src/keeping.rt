@@ -3,7 +3,7 @@ use std::alloc::{AllocError, Global};
 
 /// What answers lines, and says which of them may change it.
 pub trait Keeping: Answering {
-    ghost use Rattle.std.specs.Prelude.{◌≡◌, ◌⊎◌, ℕ, Bool, false, List, IfOk};
+    ghost use Rattle.std.specs.Prelude.{◌≡◌, ◌⊎◌, ◌∷◌, ℕ, Bool, false, List, IfOk};
     ghost use Rattle.gs_shell_script.specs.Run.{bad_line_text, memory_text};
 
     /// Whether a line given without its end may change anything.
@@ -18,4 +18,7 @@ pub trait Keeping: Answering {
 
     /// And it is refused as a bad line, unless memory is lacking for it.
     ghost is_refused: { (old new : Self) (line text : List ℕ) → is_kept line ≡ false → Self.Answers old line text new → (text ≡ bad_line_text) ⊎ (text ≡ memory_text) };
+
+    /// What begins as a mark is such a line.
+    ghost marks_are_none: { (line : List ℕ) → is_kept (35 ∷ line) ≡ false };
 }

@@ -1,16 +1,18 @@
-//! A store that outlives its process: each line is logged before it is answered, and a log's lines are run again at the start. It does
-//! so whatever answers the lines, and whatever the log is kept in.
+//! A store that outlives its process: its lines are logged in batches, each closed by a mark, before they are answered, and a log's lines
+//! are run again at the start. It does so whatever answers the lines, and whatever the log is kept in.
 #![tactic(auto)]
 
 mod again;
 mod batch;
 mod fault;
 mod keeping;
+mod sending;
 mod turns;
 mod whole;
 
-pub use again::{Progress, ReplayFault, Replayed, replay};
+pub use again::{Progress, ReplayFault, Replayed, Wrong, replay};
 pub use fault::{KeepFault, StoreFault};
 pub use keeping::Keeping;
+pub use sending::Answers;
 pub use turns::serve;
 pub use whole::keep_on;

@@ -1,189 +1,163 @@
-// A run: lines are gathered, logged and then answered, over and over.
-ghost use Rattle.std.specs.Prelude.{◌≡◌, ◌≢◌, ◌++◌, ◌∷◌, ◌<◌, ◌≤◌, [], ℕ, List, false, IfOk, IfErr, OnOk, OnErr, IfSome, is_err};
-ghost use Rattle.std.specs.Io.KnownBytes.{Appends, Keeps};
-ghost use Rattle.std.specs.VecDeque.{deque_capacity};
-ghost use Rattle.gs_shell_script.specs.Run.{AppendsBeginning, unlines};
-ghost use Rattle.gs_keep.specs.Lines.{Asked};
-ghost use Rattle.gs_keep.specs.Gathering.{AllWait, Waits};
-ghost use Rattle.gs_keep.specs.Serving.{AnswersLogged, AnswersSome, AnswersWaiting, Fails, Kept, Leaves, Rounds, Serves, blames_log};
+// A run: lines are run, logged with their mark and then answered, over and over.
+ghost use Rattle.std.specs.Prelude.{◌≡◌, [], List, ℕ, Bool, false, IfOk, IfErr, OnOk, IfSome};
+ghost use Rattle.gs_shell_line.specs.Ended.{HasNoMore, remaining};
+ghost use Rattle.gs_keep.specs.Sending.{HasStopped, sent};
+ghost use Rattle.gs_keep.specs.Serving.{Closes, Ends, Fails, Keeps, Rounds, SealFails, Seals, Serves, blames_log};
 
 use crate::batch::{Batch, Gathered};
 use crate::fault::KeepFault;
 use crate::keeping::Keeping;
-use gs_keep_log::{Failed, Log};
-use gs_shell_line::Line;
-use gs_shell_script::{MEMORY, RunFault, flush, write_answer, write_line};
-use std::alloc::{AllocError, Global};
-use std::collections::VecDeque;
+use crate::sending::Answers;
+use gs_keep_log::Log;
+use gs_keep_mark::Ledger;
+use gs_shell_line::EndedLines;
+use std::alloc::Global;
 use std::io::{BufRead, Write};
 
-/// Appends bytes to the log and syncs them, if there are any.
-fn keep<L: Log>(log: &mut L, bytes: &[u8]) -> Result<(), Failed>
+/// Puts the mark behind some bytes, appends all to the log, and syncs it.
+fn seal<L: Log>(
+    alloc: Global,
+    log: &mut L,
+    ledger: &mut Ledger,
+    bytes: &mut Vec<u8>,
+) -> Result<(), KeepFault>
     requires { L.has_failed log.old ≡ false }
-    ensures ok { OnOk result (Kept (L.holds log.old) bytes.now (L.holds log.new)) }
-    ensures err { OnErr result (Leaves (L.holds log.old) [] bytes.now (L.holds log.new)) }
-    ensures failed { L.has_failed log.new ≡ is_err result }
+    ensures ok { OnOk result (Seals ledger.old ledger.new (L.holds log.old) (L.holds log.new) bytes.old.items) }
+    ensures err { IfErr result (λ e. SealFails e ledger.old (L.holds log.old) (L.holds log.new) bytes.old.items) }
+    ensures failed { L.has_failed log.new ≡ blames_log result }
+{
+    let Ok(mark) = ledger.mark(alloc) else {
+        return Err(KeepFault::Memory);
+    };
+    if bytes.extend_from_slice(&mark).is_err() {
+        return Err(KeepFault::Memory);
+    }
+    if log.append(bytes).is_err() {
+        return Err(KeepFault::Log);
+    }
+    if log.sync().is_err() {
+        return Err(KeepFault::Log);
+    }
+    ledger.pass(&mark);
+    Ok(())
+}
+
+/// Puts a mark behind lines that have none, if there are such lines.
+pub(crate) fn close<L: Log>(
+    alloc: Global,
+    log: &mut L,
+    ledger: &mut Ledger,
+    is_open: bool,
+) -> Result<(), KeepFault>
+    requires { L.has_failed log.old ≡ false }
+    ensures ok { OnOk result (Closes is_open ledger.old ledger.new (L.holds log.old) (L.holds log.new)) }
+    ensures err { IfErr result (λ e. SealFails e ledger.old (L.holds log.old) (L.holds log.new) []) }
+    ensures failed { L.has_failed log.new ≡ blames_log result }
+{
+    if !is_open {
+        return Ok(());
+    }
+    let mut bytes = Vec::new(alloc);
+    seal(alloc, log, ledger, &mut bytes)
+}
+
+/// Logs lines with their mark, if there are any.
+fn keep<L: Log>(
+    alloc: Global,
+    log: &mut L,
+    ledger: &mut Ledger,
+    bytes: &mut Vec<u8>,
+) -> Result<(), KeepFault>
+    requires { L.has_failed log.old ≡ false }
+    ensures ok { OnOk result (Keeps ledger.old ledger.new (L.holds log.old) (L.holds log.new) bytes.old.items) }
+    ensures err { IfErr result (λ e. SealFails e ledger.old (L.holds log.old) (L.holds log.new) bytes.old.items) }
+    ensures failed { L.has_failed log.new ≡ blames_log result }
 {
     if bytes.is_empty() {
         return Ok(());
     }
-    log.append(bytes)?;
-    log.sync()
+    seal(alloc, log, ledger, bytes)
 }
 
-/// Writes the answer to a line that waits. The writer isn't flushed.
-fn answer_one<M: Keeping, W: Write>(
-    alloc: Global,
-    machine: &mut M,
-    writer: &mut W,
-    line: &Line,
-) -> Result<(), RunFault>
-    ensures ok { OnOk result ((asked : Asked) → Waits M.is_kept asked line.now → (text : List ℕ) × AnswersLogged M.Answers M.is_kept machine.old asked text machine.new
-        × Appends (W.contents writer.old) (W.contents writer.new) (text ++ 10 ∷ [])) }
-    ensures err { OnErr result ((asked : Asked) → Waits M.is_kept asked line.now → (text : List ℕ) × AnswersLogged M.Answers M.is_kept machine.old asked text machine.new
-        × AppendsBeginning (W.contents writer.old) (W.contents writer.new) (text ++ 10 ∷ [])) }
+/// What comes of a round whose lines are answered.
+fn ended(gathered: Gathered) -> Result<bool, KeepFault>
+    ensures { Ends gathered result }
 {
-    match line {
-        Line::End => Ok(()),
-        Line::NoMemory => write_line(writer, MEMORY),
-        line => write_answer(alloc, machine, writer, line),
+    match gathered {
+        Gathered::Some => Ok(true),
+        Gathered::All => Ok(false),
+        Gathered::Unended => Err(KeepFault::Unended),
+        Gathered::Failed => Err(KeepFault::Read),
+        Gathered::Full => Err(KeepFault::TooMany),
     }
 }
 
-/// Writes the answers to all lines that wait, and lets the lines go. The writer isn't flushed.
-fn answer_all<M: Keeping, W: Write>(
-    alloc: Global,
-    machine: &mut M,
-    writer: &mut W,
-    lines: &mut VecDeque<Line>,
-) -> Result<(), RunFault>
-    ensures ok { OnOk result ((asked : List Asked) → AllWait M.is_kept asked lines.old.items →
-        AnswersWaiting M.Answers M.is_kept machine.old asked (W.contents writer.old) (W.contents writer.new) machine.new) }
-    ensures err { OnErr result ((asked : List Asked) → AllWait M.is_kept asked lines.old.items →
-        AnswersSome M.Answers M.is_kept machine.old asked (W.contents writer.old) (W.contents writer.new) machine.new) }
-    ensures lines { OnOk result (lines.new.items ≡ []) }
-    ensures capacity { deque_capacity lines.old ≤ deque_capacity lines.new }
-{
-    while let Some(line) = lines.pop_front() {
-        answer_one(alloc, machine, writer, &line)?;
-    }
-    Ok(())
-}
-
-/// Writes the answers to all lines that wait, and flushes them, if there are any.
-fn answer_and_flush<M: Keeping, W: Write>(
-    alloc: Global,
-    machine: &mut M,
-    writer: &mut W,
-    lines: &mut VecDeque<Line>,
-) -> Result<(), RunFault>
-    ensures ok { OnOk result ((asked : List Asked) → AllWait M.is_kept asked lines.old.items →
-        AnswersWaiting M.Answers M.is_kept machine.old asked (W.contents writer.old) (W.contents writer.new) machine.new) }
-    ensures err { OnErr result ((asked : List Asked) → AllWait M.is_kept asked lines.old.items →
-        AnswersSome M.Answers M.is_kept machine.old asked (W.contents writer.old) (W.contents writer.new) machine.new) }
-    ensures lines { OnOk result (lines.new.items ≡ []) }
-    ensures capacity { deque_capacity lines.old ≤ deque_capacity lines.new }
-{
-    if lines.is_empty() {
-        return Ok(());
-    }
-    answer_all(alloc, machine, writer, lines)?;
-    flush(writer)
-}
-
-/// Gathers lines, logs them and then answers them. Says whether there may be more.
+/// Runs lines, logs them with their mark and then answers them. Says whether there may be more.
 fn round<M: Keeping, L: Log, R: BufRead, W: Write>(
     alloc: Global,
     machine: &mut M,
     log: &mut L,
-    reader: &mut R,
-    writer: &mut W,
-    batch: &mut Batch,
+    ledger: &mut Ledger,
+    reader: &mut EndedLines<R>,
+    writer: &mut Answers<W>,
 ) -> Result<bool, KeepFault>
-    requires goes_on { L.has_failed log.old ≡ false }
-    requires room { 0 < deque_capacity batch.old.lines }
-    requires lines { batch.old.lines.items ≡ [] }
-    requires bytes { batch.old.bytes.items ≡ [] }
-    ensures ok { IfOk result (λ more. IfSome (R.remaining reader.old) (λ xs.
-        Rounds M.Answers M.is_kept machine.old more xs (R.remaining reader.new) (L.holds log.old) (L.holds log.new) (W.contents writer.old) (W.contents writer.new) machine.new)) }
-    ensures err { IfErr result (λ e. IfSome (R.remaining reader.old) (λ xs.
-        Fails M.Answers M.is_kept e machine.old xs (R.remaining reader.new) (L.holds log.old) (L.holds log.new) (W.contents writer.old) (W.contents writer.new) machine.new)) }
+    requires { L.has_failed log.old ≡ false }
+    ensures ok { IfOk result (λ more. IfSome (remaining R.remaining reader.old) (λ xs.
+        Rounds M.Answers M.is_kept machine.old more xs (remaining R.remaining reader.new) (L.holds log.old) (L.holds log.new) (sent W.contents writer.old) (sent W.contents writer.new)
+        ledger.old ledger.new machine.new)) }
+    ensures err { IfErr result (λ e. IfSome (remaining R.remaining reader.old) (λ xs.
+        Fails M.Answers M.is_kept e machine.old xs (remaining R.remaining reader.new) (L.holds log.old) (L.holds log.new) (sent W.contents writer.old) (sent W.contents writer.new) ledger.old)) }
     ensures failed { L.has_failed log.new ≡ blames_log result }
-    ensures fault { IfErr result (λ e. e ≢ KeepFault.Memory) }
-    ensures room { 0 < deque_capacity batch.new.lines }
-    ensures lines { OnOk result (batch.new.lines.items ≡ []) }
-    ensures bytes { OnOk result (batch.new.bytes.items ≡ []) }
+    ensures unread { IfErr result (λ e. e ≡ KeepFault.Read → HasNoMore reader.new) }
+    ensures unsent { IfErr result (λ e. e ≡ KeepFault.Write → HasStopped writer.new) }
 {
-    let gathered = batch.gather(alloc, machine, reader);
-    if keep(log, &batch.bytes).is_err() {
-        return Err(KeepFault::Log);
+    let mut batch = Batch::new(alloc);
+    let Ok(gathered) = batch.gather(alloc, machine, ledger, reader) else {
+        return Err(KeepFault::Memory);
+    };
+    if let Err(fault) = keep(alloc, log, ledger, &mut batch.bytes) {
+        return Err(fault);
     }
-    batch.bytes.clear();
-    if answer_and_flush(alloc, machine, writer, &mut batch.lines).is_err() {
-        return Err(KeepFault::Write);
+    if let Err(fault) = writer.send(&batch.answers) {
+        return Err(fault);
     }
-    match gathered {
-        Gathered::Some => Ok(true),
-        Gathered::All => Ok(false),
-        Gathered::Failed => Err(KeepFault::Read),
-    }
-}
-
-/// Gathers lines, logs them and then answers them, until there are no more.
-fn rounds<M: Keeping, L: Log, R: BufRead, W: Write>(
-    alloc: Global,
-    machine: &mut M,
-    log: &mut L,
-    reader: &mut R,
-    writer: &mut W,
-    batch: &mut Batch,
-) -> Result<(), KeepFault>
-    requires goes_on { L.has_failed log.old ≡ false }
-    requires room { 0 < deque_capacity batch.old.lines }
-    requires lines { batch.old.lines.items ≡ [] }
-    requires bytes { batch.old.bytes.items ≡ [] }
-    ensures ok { OnOk result (IfSome (R.remaining reader.old) (λ input.
-        Serves M.Answers M.is_kept machine.old input [] (L.holds log.old) (L.holds log.new) (W.contents writer.old) (W.contents writer.new) machine.new)) }
-    ensures err { IfErr result (λ e. IfSome (R.remaining reader.old) (λ input.
-        Fails M.Answers M.is_kept e machine.old input (R.remaining reader.new) (L.holds log.old) (L.holds log.new) (W.contents writer.old) (W.contents writer.new) machine.new)) }
-    ensures failed { L.has_failed log.new ≡ blames_log result }
-    ensures fault { IfErr result (λ e. e ≢ KeepFault.Memory) }
-{
-    for _ in 0..u64::MAX {
-        if !round(alloc, machine, log, reader, writer, batch)? {
-            return Ok(());
-        }
-    }
-    Err(KeepFault::Read)
+    ended(gathered)
 }
 
 /// Answers each line of the reader by one line to the writer, as `gs_shell_script::run` does, where each line that may change the
-/// machine is in the log, and synced, before it is answered.
+/// machine is in the log with its answer's digest, and synced, before it is answered. The ledger has to be that of the log.
 ///
-/// Lines that come together are logged together and then answered one by one: one line, and those behind it that the reader
-/// holds already with their `\n`, as long as they are less than some mebibytes. Behind them the writer is flushed.
+/// Lines that come together are run one after another: one line, and those behind it that the reader holds already with their `\n`, as
+/// long as what has to be logged of them and their answers are less than some mebibytes. Then those that have to be logged are appended
+/// with a mark behind them and synced, and then the answers go out and the writer is flushed. So a line that ends the process is in no log.
 ///
-/// Where memory is lacking to hold a line, or to log it, nothing of it happens, and its answer is `refused 33 Memory`. A read, a
-/// write or a call of the log that fails ends the run. The lines that were read before a failed read are logged and answered. Where a
-/// write fails, the lines that were read are logged, also those that aren't answered. Where the log fails, a beginning of the lines
-/// that aren't answered may be in it. After 18,446,744,073,709,551,615 rounds the fault is `Read`. Where memory is lacking to begin, the fault is `Memory`, and nothing is
-/// read.
+/// Where memory is lacking to hold a line, or to log it, nothing of it happens, and its answer is `refused 33 Memory`. Where it is lacking
+/// for the answer to a line that was run, or for the mark, the run ends, and nothing that was run since the last answers is logged or
+/// answered. A read, a write or a call of the log that fails ends the run. The lines that were read before a failed read are logged and
+/// answered, and so are those before a last line that lacks its end, which isn't run. Where a write fails, the lines that were run are
+/// logged, also those that aren't answered. Where the log fails, any bytes may stand behind what it held, and none of the lines is
+/// answered. After 18,446,744,073,709,551,615 lines the fault is `TooMany`.
 pub fn serve<M: Keeping, L: Log, R: BufRead, W: Write>(
     alloc: Global,
     machine: &mut M,
     log: &mut L,
-    reader: &mut R,
-    writer: &mut W,
+    ledger: &mut Ledger,
+    reader: &mut EndedLines<R>,
+    writer: &mut Answers<W>,
 ) -> Result<(), KeepFault>
     requires { L.has_failed log.old ≡ false }
-    ensures ok { OnOk result (IfSome (R.remaining reader.old) (λ input.
-        Serves M.Answers M.is_kept machine.old input [] (L.holds log.old) (L.holds log.new) (W.contents writer.old) (W.contents writer.new) machine.new)) }
-    ensures err { IfErr result (λ e. IfSome (R.remaining reader.old) (λ input.
-        Fails M.Answers M.is_kept e machine.old input (R.remaining reader.new) (L.holds log.old) (L.holds log.new) (W.contents writer.old) (W.contents writer.new) machine.new)) }
+    ensures ok { OnOk result (IfSome (remaining R.remaining reader.old) (λ input.
+        Serves M.Answers M.is_kept machine.old input [] (L.holds log.old) (L.holds log.new) (sent W.contents writer.old) (sent W.contents writer.new) ledger.old ledger.new machine.new)) }
+    ensures err { IfErr result (λ e. IfSome (remaining R.remaining reader.old) (λ input.
+        Fails M.Answers M.is_kept e machine.old input (remaining R.remaining reader.new) (L.holds log.old) (L.holds log.new) (sent W.contents writer.old) (sent W.contents writer.new) ledger.old)) }
     ensures failed { L.has_failed log.new ≡ blames_log result }
+    ensures unread { IfErr result (λ e. e ≡ KeepFault.Read → HasNoMore reader.new) }
+    ensures unsent { IfErr result (λ e. e ≡ KeepFault.Write → HasStopped writer.new) }
 {
-    let Ok(mut batch) = Batch::new(alloc) else {
-        return Err(KeepFault::Memory);
-    };
-    rounds(alloc, machine, log, reader, writer, &mut batch)
+    for count in 0..u64::MAX {
+        if !round(alloc, machine, log, ledger, reader, writer)? {
+            return Ok(());
+        }
+    }
+    Err(KeepFault::TooMany)
 }

@@ -1,7 +1,10 @@
 -- A line that isn't of the grammar changes nothing, and is refused.
-use Rattle.std.specs.Prelude.{◌≡◌, ◌⊎◌, ℕ, List, Option, None, Some, false, is_some, MatchOption}
-use Rattle.std.proofs.Common.{ap, inl, inr, true≢false}
-use Rattle.gs_shell_grammar.specs.Grammar.{Request, line_request}
+use Rattle.std.specs.Prelude.{◌≡◌, ◌⊎◌, ◌∷◌, ◌==◌, ℕ, List, [], Bool, Option, None, Some, true, false, is_some, MatchOption, refl}
+use Rattle.std.specs.List.{onto_first, slice_split}
+use Rattle.std.specs.Str.{is_utf8}
+use Rattle.std.proofs.Common.{ap, cond, inl, inr, true≢false}
+use Rattle.gs_shell_grammar.specs.Grammar.{Request, ◌>>=◌, form_request, four_words, line_request, number_line, number_request, one_word, three_words, two_words, words_request}
+use Rattle.gs_shell_grammar.specs.Operands.{number_of}
 use Rattle.gs_shell_script.specs.Run.{bad_line_text, memory_text}
 use Rattle.gs_shell_desk.specs.Answering.{AnswersText}
 use Rattle.gs_keep_desk.specs.declared.KeptDesk.{KeptDesk}
@@ -27,3 +30,31 @@ pub other_lines_are_refused : {D : Type 0} (seen : D → List ℕ) (failures : D
 unfolding AnswersText
 other_lines_are_refused seen failures old new line text other (inl h) = inr h.0
 other_lines_are_refused seen failures old new line text other (inr h) = none_answered (line_request line) _ _ _ other h
+
+-- ---- what begins as a mark is none of the grammar
+
+number_none : (w : List ℕ) (o : Option ℕ) → (o >>= λ n. number_request (35 ∷ w) n) ≡ None
+number_none w None = refl
+number_none w (Some n) = refl
+
+form_none : (w : List ℕ) (ws : List (List ℕ)) → form_request ((35 ∷ w) ∷ ws) ≡ None
+unfolding one_word two_words three_words four_words number_line
+form_none w [] = refl
+form_none w (a ∷ []) = number_none w (number_of a)
+form_none w (a ∷ b ∷ []) = refl
+form_none w (a ∷ b ∷ c ∷ []) = refl
+form_none w (a ∷ b ∷ c ∷ d ∷ ws) = refl
+
+none_if : {X : Type 0} (b : Bool) (o : Option X) → o ≡ None → cond b o None ≡ None
+none_if true o none = none
+none_if false o none = refl
+
+words_none : (w : List ℕ) (ws : List (List ℕ)) → words_request ((35 ∷ w) ∷ ws) ≡ None
+words_none w ws = none_if _ (form_request ((35 ∷ w) ∷ ws)) (form_none w ws)
+
+split_none : (words : List (List ℕ)) → words_request (onto_first 35 words) ≡ None
+split_none [] = words_none [] []
+split_none (w ∷ ws) = words_none w ws
+
+pub marks_are_none : (line : List ℕ) → is_some (line_request (35 ∷ line)) ≡ false
+marks_are_none line = ap is_some (none_if (is_utf8 (35 ∷ line)) (words_request (slice_split (λ b. b == 32) (35 ∷ line))) (split_none (slice_split (λ b. b == 32) line)))

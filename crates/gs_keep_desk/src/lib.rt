@@ -42,13 +42,15 @@ impl<D: Disk + Drop> Answering for KeptDesk<D> {
 impl<D: Disk + Drop> Keeping for KeptDesk<D> {
     ghost use Rattle.std.specs.Prelude.{is_some};
     ghost use Rattle.gs_shell_grammar.specs.Grammar.{line_request};
-    ghost use Rattle.gs_keep_desk.specs.Keeps.{other_lines_are_refused, other_lines_change_nothing};
+    ghost use Rattle.gs_keep_desk.specs.Keeps.{marks_are_none, other_lines_are_refused, other_lines_change_nothing};
 
     ghost is_kept = { λ line. is_some (line_request line) };
 
     ghost changes_nothing = { λ old new line text. other_lines_change_nothing D.seen D.failures old new line text };
 
     ghost is_refused = { λ old new line text. other_lines_are_refused D.seen D.failures old new line text };
+
+    ghost marks_are_none = { λ line. marks_are_none line };
 
     fn keeps(&self, alloc: Global, line: &[u8]) -> Result<bool, AllocError> {
         match gs_shell_grammar::parse(alloc, line) {

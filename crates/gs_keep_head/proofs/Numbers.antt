@@ -10,7 +10,9 @@ use Rattle.std.proofs.lemmas.Fmt.{decimal_is_IsNumeral, decimal_nonempty, digits
 use Rattle.std.proofs.lemmas.Str.{IsUtf8-from_ascii}
 use Rattle.std.proofs.lemmas.Str.Parse.{IsNumeralModel, numerals_by_value, tells_all_ascii_digits}
 use Rattle.gs_base.specs.Configs.{is_within}
-use Rattle.gs_keep_head.specs.Head.{AreSizes, Sizes, ◌>>=◌, head_text, head_words, number_of, store_sizes, words_sizes}
+use Rattle.gs_keep_head.specs.declared.Form.{Form}
+use Rattle.gs_keep_head.specs.declared.Form.TheVariants as form
+use Rattle.gs_keep_head.specs.Head.{AreSizes, Sizes, ◌>>=◌, form_digit, head_text, head_words, number_of, store_sizes, words_sizes}
 use Rattle.gs_keep_head.proofs.Splitting.{AllPlain, joined, joined_ascii, plain, plain_digits, split_joined}
 
 -- ---- sizes are below 2 ^ 64
@@ -71,9 +73,13 @@ number_decimal n h =
 abbrev chain : (o1 o2 o3 o4 o5 : Option ℕ) → Option Sizes
 chain o1 o2 o3 o4 o5 = o1 >>= λ a. o2 >>= λ b. o3 >>= λ c. o4 >>= λ d. o5 >>= λ e. store_sizes a b c d e
 
-pub words_say : (s : Sizes) → AreSizes s → words_sizes (head_words s) ≡ Some s
+pub words_say : (f : Form) (s : Sizes) → AreSizes s → words_sizes (head_words f s) ≡ Some s
 unfolding words_sizes
-words_say s h =
+words_say form.One s h =
+    let m = small s h in
+    (λ i. chain (number_decimal s.servers m.servers i) (number_decimal s.racks m.racks i) (number_decimal s.replicas m.replicas i) (number_decimal s.chunk m.chunk i) (number_decimal s.block m.block i))
+    ∙ ap (λ b. cond b (Some s) None) h
+words_say form.Two s h =
     let m = small s h in
     (λ i. chain (number_decimal s.servers m.servers i) (number_decimal s.racks m.racks i) (number_decimal s.replicas m.replicas i) (number_decimal s.chunk m.chunk i) (number_decimal s.block m.block i))
     ∙ ap (λ b. cond b (Some s) None) h
@@ -83,15 +89,19 @@ words_say s h =
 plain_number : (n : ℕ) → n < 2 ^ 64 → plain (decimal n) ≡ true
 plain_number n h = plain_digits (decimal n) (decimal_is_IsNumeral n h).0.1
 
-abbrev behind : Sizes → List (List ℕ)
-behind s =
-    codes "1" ∷ codes "--servers" ∷ decimal s.servers ∷ codes "--racks" ∷ decimal s.racks ∷ codes "--replicas" ∷ decimal s.replicas
+abbrev behind : Form → Sizes → List (List ℕ)
+behind f s =
+    form_digit f ∷ codes "--servers" ∷ decimal s.servers ∷ codes "--racks" ∷ decimal s.racks ∷ codes "--replicas" ∷ decimal s.replicas
     ∷ codes "--chunk" ∷ decimal s.chunk ∷ codes "--block" ∷ decimal s.block ∷ []
 
-all_plain : (s : Sizes) → AreSizes s → AllPlain (behind s)
-all_plain s h =
+digit_plain : (f : Form) → plain (form_digit f) ≡ true
+digit_plain form.One = refl
+digit_plain form.Two = refl
+
+all_plain : (f : Form) (s : Sizes) → AreSizes s → AllPlain (behind f s)
+all_plain f s h =
     let m = small s h in (
-      refl,
+      digit_plain f,
       (
         refl,
         (
@@ -113,12 +123,13 @@ all_plain s h =
       ),
     )
 
-is_joined : (s : Sizes) → head_text s ≡ joined (codes "chunkkeep") (behind s)
+is_joined : (f : Form) (s : Sizes) → head_text f s ≡ joined (codes "chunkkeep") (behind f s)
 unfolding head_text
-is_joined s = refl
+is_joined form.One s = refl
+is_joined form.Two s = refl
 
-pub head_splits : (s : Sizes) → AreSizes s → slice_split (λ b. b == 32) (head_text s) ≡ head_words s
-head_splits s h = ap (slice_split (λ b. b == 32)) (is_joined s) ∙ split_joined (codes "chunkkeep") (behind s) refl (all_plain s h)
+pub head_splits : (f : Form) (s : Sizes) → AreSizes s → slice_split (λ b. b == 32) (head_text f s) ≡ head_words f s
+head_splits f s h = ap (slice_split (λ b. b == 32)) (is_joined f s) ∙ split_joined (codes "chunkkeep") (behind f s) refl (all_plain f s h)
 
-pub head_utf8 : (s : Sizes) → AreSizes s → IsUtf8 (head_text s)
-head_utf8 s h = IsUtf8-from_ascii (head_text s) (subst IsAscii (sym (is_joined s)) (joined_ascii (codes "chunkkeep") (behind s) refl (all_plain s h)))
+pub head_utf8 : (f : Form) (s : Sizes) → AreSizes s → IsUtf8 (head_text f s)
+head_utf8 f s h = IsUtf8-from_ascii (head_text f s) (subst IsAscii (sym (is_joined f s)) (joined_ascii (codes "chunkkeep") (behind f s) refl (all_plain f s h)))

@@ -1,5 +1,5 @@
 -- The words of a first line, one by one.
-use Rattle.std.proofs.Common.{◌≡◌, ◌<◌, ◌≤◌, ◌∷◌, [], ℕ, List, ◌&&◌, cond, length, map, get_or, Option, None, refl, arith, codes, bytes_eq, Bor}
+use Rattle.std.proofs.Common.{◌≡◌, ◌<◌, ◌≤◌, ◌∷◌, [], ℕ, List, ◌&&◌, ◌||◌, cond, length, map, get_or, Option, None, refl, arith, codes, bytes_eq, Bor}
 use Rattle.gs_keep_head.specs.Head.{Sizes, named_sizes, words_sizes}
 
 pub not_twelve : (ws : List (Bor (List ℕ))) → (length ws ≡ 12 → ⊥) → words_sizes (map (λ w. w.now) ws) ≡ None
@@ -22,7 +22,7 @@ not_twelve (w0 ∷ w1 ∷ w2 ∷ w3 ∷ w4 ∷ w5 ∷ w6 ∷ w7 ∷ w8 ∷ w9 �
 -- what twelve words name
 abbrev pub named : (ws : List (Bor (List ℕ))) (d : Bor (List ℕ)) → Option Sizes
 named ws d =
-    cond (bytes_eq (get_or ws 0 d).now (codes "chunkkeep") && bytes_eq (get_or ws 1 d).now (codes "1"))
+    cond (bytes_eq (get_or ws 0 d).now (codes "chunkkeep") && (bytes_eq (get_or ws 1 d).now (codes "1") || bytes_eq (get_or ws 1 d).now (codes "2")))
     (named_sizes (get_or ws 2 d).now (get_or ws 3 d).now (get_or ws 4 d).now (get_or ws 5 d).now (get_or ws 6 d).now (get_or ws 7 d).now (get_or ws 8 d).now (get_or ws 9 d).now (get_or ws 10 d).now (get_or ws 11 d).now)
     None
 

@@ -1,10 +1,13 @@
 -- The first line of a log, without its end.
-use Rattle.std.specs.Prelude.{◌≡◌, ◌≢◌, ◌++◌, ◌∷◌, ◌^◌, ◌&&◌, ◌==◌, ℕ, true, not, List, [], length, codes, bytes_eq, nat_lt, Option, Some, None, option_and_then, Result, Ok, Err, if◌then◌else◌}
+use Rattle.std.specs.Prelude.{◌≡◌, ◌≢◌, ◌++◌, ◌∷◌, ◌^◌, ◌&&◌, ◌||◌, ◌==◌, ℕ, true, not, List, [], length, codes, bytes_eq, nat_lt, Option, Some, None, option_and_then, Result, Ok, Err, if◌then◌else◌}
 use Rattle.std.specs.Fmt.{decimal}
 use Rattle.std.specs.Str.{all_ascii_digits}
 use Rattle.std.specs.Str.Parse.{digits_value}
 use Rattle.gs_base.specs.Configs.{is_config}
 use Rattle.gs_base.specs.declared.config.Config.{Config}
+use Rattle.gs_keep_head.specs.declared.Form.{Form}
+use Rattle.gs_keep_head.specs.declared.Form.TheVariants as form
+use Rattle.gs_keep_head.specs.declared.HeadLine.{HeadLine}
 use Rattle.gs_keep_head.specs.declared.HeadFault.{HeadFault}
 use Rattle.gs_keep_head.specs.declared.HeadFault.TheVariants as fault
 
@@ -22,24 +25,29 @@ sizes_of c = record { servers = c.servers; racks = c.racks; replicas = c.replica
 abbrev pub AreSizes : Sizes → Type 0
 AreSizes s = is_config s.servers s.racks s.replicas s.block s.chunk ≡ true
 
+-- how a line tells the form of its log
+abbrev pub form_digit : Form → List ℕ
+form_digit form.One = codes "1"
+form_digit form.Two = codes "2"
+
 -- the first line of the log of a store of these sizes
-unfoldable pub head_text : Sizes → List ℕ
-head_text s =
-    codes "chunkkeep 1 --servers " ++ (decimal s.servers ++ (codes " --racks " ++ (decimal s.racks ++ (codes " --replicas " ++ (decimal s.replicas
-    ++ (codes " --chunk " ++ (decimal s.chunk ++ (codes " --block " ++ decimal s.block))))))))
+unfoldable pub head_text : Form → Sizes → List ℕ
+head_text f s =
+    codes "chunkkeep " ++ (form_digit f ++ (codes " --servers " ++ (decimal s.servers ++ (codes " --racks " ++ (decimal s.racks ++ (codes " --replicas " ++ (decimal s.replicas
+    ++ (codes " --chunk " ++ (decimal s.chunk ++ (codes " --block " ++ decimal s.block))))))))))
 
 -- its words
-abbrev pub head_words : Sizes → List (List ℕ)
-head_words s =
-    codes "chunkkeep" ∷ codes "1" ∷ codes "--servers" ∷ decimal s.servers ∷ codes "--racks" ∷ decimal s.racks ∷ codes "--replicas" ∷ decimal s.replicas
+abbrev pub head_words : Form → Sizes → List (List ℕ)
+head_words f s =
+    codes "chunkkeep" ∷ form_digit f ∷ codes "--servers" ∷ decimal s.servers ∷ codes "--racks" ∷ decimal s.racks ∷ codes "--replicas" ∷ decimal s.replicas
     ∷ codes "--chunk" ∷ decimal s.chunk ∷ codes "--block" ∷ decimal s.block ∷ []
 
 -- What is read is the line of a store of its sizes; what isn't read is the line of no store, unless memory is lacking to tell.
-abbrev pub Reads : Result Config HeadFault → List ℕ → Type 0
-Reads (Ok config) line = line ≡ head_text (sizes_of config)
+abbrev pub Reads : Result HeadLine HeadFault → List ℕ → Type 0
+Reads (Ok head) line = line ≡ head_text head.form (sizes_of head.config)
 Reads (Err fault.Memory) line = Unit {0}
-Reads (Err fault.Version) line = (s : Sizes) → AreSizes s → line ≢ head_text s
-Reads (Err fault.Other) line = (s : Sizes) → AreSizes s → line ≢ head_text s
+Reads (Err fault.Version) line = (f : Form) (s : Sizes) → AreSizes s → line ≢ head_text f s
+Reads (Err fault.Other) line = (f : Form) (s : Sizes) → AreSizes s → line ≢ head_text f s
 
 -- ---- how the words are read
 
@@ -72,7 +80,7 @@ named_sizes a servers b racks c replicas d chunk e block = do
 
 unfoldable pub words_sizes : List (List ℕ) → Option Sizes
 words_sizes (name ∷ version ∷ a ∷ servers ∷ b ∷ racks ∷ c ∷ replicas ∷ d ∷ chunk ∷ e ∷ block ∷ []) =
-    if bytes_eq name (codes "chunkkeep") && bytes_eq version (codes "1") then named_sizes a servers b racks c replicas d chunk e block else None
+    if bytes_eq name (codes "chunkkeep") && (bytes_eq version (codes "1") || bytes_eq version (codes "2")) then named_sizes a servers b racks c replicas d chunk e block else None
 words_sizes words = None
 
 abbrev pub SizedAs : Option Config → Option Sizes → Type 0

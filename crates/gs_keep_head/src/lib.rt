@@ -1,9 +1,9 @@
-//! The first line of the log of a store that is kept: the version of its form, and the sizes of the store.
+//! The first line of the log of a store that is kept: its form, and the sizes of the store.
 #![tactic(auto)]
 
-ghost use Rattle.std.specs.Prelude.{◌≡◌, ◌≢◌, ◌==◌, ◌&&◌, ℕ, true, bytes_eq, codes, if◌then◌else◌, IfOk, IfErr, map, string_bytes};
+ghost use Rattle.std.specs.Prelude.{◌≡◌, ◌≢◌, ◌==◌, ◌&&◌, ◌||◌, ℕ, true, false, bytes_eq, codes, if◌then◌else◌, IfOk, IfErr, map, string_bytes};
 ghost use Rattle.std.specs.List.{slice_split};
-ghost use Rattle.gs_keep_head.specs.Head.{Reads, SizedAs, Sizes, head_text, named_number, named_sizes, number_of, sizes_of, words_sizes};
+ghost use Rattle.gs_keep_head.specs.Head.{Reads, SizedAs, Sizes, form_digit, head_text, named_number, named_sizes, number_of, sizes_of, words_sizes};
 
 use gs_base::Config;
 use std::alloc::{AllocError, Global};
@@ -31,18 +31,44 @@ impl From<AllocError> for HeadFault {
     }
 }
 
+/// The form of a log.
+#[derive(Clone, Copy, Debug, PartialEq, Eq)]
+pub enum Form {
+    /// Lines alone.
+    One,
+    /// Batches of lines, each with a mark behind it.
+    Two,
+}
+
+/// What a first line says.
+#[derive(Clone, Copy, Debug, PartialEq, Eq)]
+pub struct HeadLine {
+    pub form: Form,
+    pub config: Config,
+}
+
+fn form_digit(form: Form) -> &'static str
+    ensures { result.now ≡ form_digit form }
+{
+    match form {
+        Form::One => "1",
+        Form::Two => "2",
+    }
+}
+
 /// The first line of the log of a store of these sizes, without its end.
 #[tactic(auto, unfolding(crate::specs::Head::head_text))]
-pub fn head(alloc: Global, config: &Config) -> Result<String, AllocError>
-    ensures { IfOk result (λ text. string_bytes text ≡ head_text (sizes_of config.now)) }
+pub fn head(alloc: Global, form: Form, config: &Config) -> Result<String, AllocError>
+    ensures { IfOk result (λ text. string_bytes text ≡ head_text form (sizes_of config.now)) }
 {
+    let digit = form_digit(form);
     let servers = config.servers;
     let racks = config.racks;
     let replicas = config.replicas;
     let chunk = config.chunk;
     let block = config.block;
     format!(in alloc;
-        "chunkkeep 1 --servers {servers} --racks {racks} --replicas {replicas} --chunk {chunk} --block {block}"
+        "chunkkeep {digit} --servers {servers} --racks {racks} --replicas {replicas} --chunk {chunk} --block {block}"
     )
 }
 
@@ -93,11 +119,11 @@ fn first_line(
     d: Pair<'_>,
     e: Pair<'_>,
 ) -> Option<Config>
-    ensures { SizedAs result (if bytes_eq head.entry.name.now (codes "chunkkeep") && bytes_eq head.entry.word.now (codes "1") then
+    ensures { SizedAs result (if bytes_eq head.entry.name.now (codes "chunkkeep") && (bytes_eq head.entry.word.now (codes "1") || bytes_eq head.entry.word.now (codes "2")) then
         named_sizes a.entry.name.now a.entry.word.now b.entry.name.now b.entry.word.now c.entry.name.now c.entry.word.now
         d.entry.name.now d.entry.word.now e.entry.name.now e.entry.word.now else None) }
 {
-    if head.name == "chunkkeep" && head.word == "1" {
+    if head.name == "chunkkeep" && (head.word == "1" || head.word == "2") {
         return named_sizes(a, b, c, d, e);
     }
     None
@@ -150,14 +176,22 @@ fn fault_of(words: &[&str]) -> HeadFault
     ensures { result ≢ HeadFault.Memory }
 {
     match *words {
-        ["chunkkeep", version, ..] if version != "1" => HeadFault::Version,
+        ["chunkkeep", version, ..] if version != "1" && version != "2" => HeadFault::Version,
         _ => HeadFault::Other,
     }
 }
 
-/// The sizes of the store of whose log this is the first line, without its end. A line is taken exactly as [`head`] writes it: with
-/// no number written otherwise, no space more, and no size of which there is no store.
-pub fn read_head(alloc: Global, line: &[u8]) -> Result<Config, HeadFault>
+/// Whether a text is the first line of the log of a store of these sizes.
+fn is_head(alloc: Global, form: Form, config: &Config, text: &str) -> Result<bool, AllocError>
+    ensures { IfOk result (λ is. (is ≡ true → text.now ≡ head_text form (sizes_of config.now)) × (is ≡ false → text.now ≢ head_text form (sizes_of config.now))) }
+{
+    let again = head(alloc, form, config)?;
+    Ok(again.as_str() == text)
+}
+
+/// The form and the sizes of the store of whose log this is the first line, without its end. A line is taken exactly as [`head`] writes
+/// it: with no number written otherwise, no space more, and no size of which there is no store.
+pub fn read_head(alloc: Global, line: &[u8]) -> Result<HeadLine, HeadFault>
     ensures { Reads result line.now }
 {
     let Ok(text) = str::from_utf8(line) else {
@@ -167,9 +201,17 @@ pub fn read_head(alloc: Global, line: &[u8]) -> Result<Config, HeadFault>
     let Some(config) = sizes(&words) else {
         return Err(fault_of(&words));
     };
-    let again = head(alloc, &config)?;
-    if again.as_str() == text {
-        return Ok(config);
+    if is_head(alloc, Form::Two, &config, text)? {
+        return Ok(HeadLine {
+            form: Form::Two,
+            config,
+        });
+    }
+    if is_head(alloc, Form::One, &config, text)? {
+        return Ok(HeadLine {
+            form: Form::One,
+            config,
+        });
     }
     Err(HeadFault::Other)
 }

@@ -1,5 +1,6 @@
 -- What a log holds, what a crash leaves of it, and what its calls do.
-use Rattle.std.specs.Prelude.{◌≡◌, ◌++◌, ◌∷◌, ℕ, List, [], length, take, drop, Option, Some, None, IfSome, Bool, true, false, refl}
+use Rattle.std.specs.Prelude.{◌≡◌, ◌++◌, ◌∷◌, ◌≤◌, ℕ, List, [], length, take, drop, Option, Some, IfSome, refl}
+use Rattle.std.proofs.Common.{lit≤}
 
 -- the bytes that each crash leaves, and those behind them that aren't synced yet
 pub record Held : Type 0 where
@@ -10,9 +11,9 @@ pub record Held : Type 0 where
 abbrev pub whole : Held → List ℕ
 whole h = h.durable ++ h.pending
 
--- A crash leaves what is durable, and any beginning of what isn't.
+-- A crash leaves what is durable, and behind it any bytes, no more than those that aren't: each of them may be as it was written or any other.
 abbrev pub MayLeave : Held → List ℕ → Type 0
-MayLeave h c = (count : ℕ) × (c ≡ h.durable ++ take count h.pending)
+MayLeave h c = (behind : List ℕ) × (length behind ≤ length h.pending) × (c ≡ h.durable ++ behind)
 
 -- with these bytes at its end
 abbrev pub appended : List ℕ → Held → Held
@@ -57,7 +58,11 @@ two_and_three = record { durable = 1 ∷ 2 ∷ []; pending = 3 ∷ 4 ∷ 5 ∷ [
 
 a_crash_leaves_one_of_three : MayLeave two_and_three (1 ∷ 2 ∷ 3 ∷ [])
 unfolding two_and_three
-a_crash_leaves_one_of_three = (1, refl)
+a_crash_leaves_one_of_three = (3 ∷ [], lit≤ tt, refl)
+
+a_crash_leaves_other_bytes : MayLeave two_and_three (1 ∷ 2 ∷ 0 ∷ 4 ∷ 0 ∷ [])
+unfolding two_and_three
+a_crash_leaves_other_bytes = (0 ∷ 4 ∷ 0 ∷ [], lit≤ tt, refl)
 
 a_sync_breaks_off : settled 1 two_and_three ≡ record { durable = 1 ∷ 2 ∷ 3 ∷ []; pending = 4 ∷ 5 ∷ [] }
 unfolding two_and_three

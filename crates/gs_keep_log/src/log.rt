@@ -5,7 +5,7 @@ ghost use Rattle.gs_keep_log.specs.Log.{LogDoes, LogDoesPart, appended, partly_a
 #[derive(Clone, Copy, Debug, PartialEq, Eq)]
 pub struct Failed;
 
-/// Bytes that grow at their end. A crash leaves what was synced, and any beginning of what was appended since.
+/// Bytes that grow at their end. A crash leaves what was synced, and behind it any bytes, no more than were appended since.
 ///
 /// Of a log that isn't known nothing is said but whether it has failed. Once a call has failed no other may be made: what a
 /// disk does behind a failure nobody promises.

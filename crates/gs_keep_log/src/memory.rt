@@ -78,6 +78,13 @@ impl MemoryLog {
         joined(self.alloc, &self.durable, front(&self.pending, count))
     }
 
+    /// What a crash leaves that leaves these bytes in place of those that aren't synced, or as many of them as there are of those.
+    pub fn left_with(&self, others: &[u8]) -> Result<Vec<u8>, AllocError>
+        ensures { IfOk result (λ bytes. bytes.items ≡ (held self.now).durable ++ take (length (held self.now).pending) others.now) }
+    {
+        joined(self.alloc, &self.durable, front(others, self.unsynced()))
+    }
+
     /// How many bytes aren't synced.
     pub fn unsynced(&self) -> usize
         ensures { result ≡ length (held self.now).pending }

@@ -1,5 +1,5 @@
 -- Lines and marks, one behind the other.
-use Rattle.std.proofs.Common.{◌≡◌, ◌<◌, ◌+◌, ◌-◌, ◌++◌, ◌∷◌, ◌==◌, ◌&&◌, ◌*◌, ◌/◌, ◌%◌, [], ℕ, zero, suc, List, Bool, true, false, true≢false, cond, eqb, nat_lt, length, drop, get_or, map, flat_map, codes, slice_index, refl, sym, ap, subst, ◌∙◌, arith, append_assoc, append-nil, length-append}
+use Rattle.std.proofs.Common.{◌≡◌, ◌<◌, ◌+◌, ◌-◌, ◌++◌, ◌∷◌, ◌&&◌, ◌/◌, ◌%◌, [], ℕ, zero, suc, List, Bool, true, false, true≢false, cond, eqb, nat_lt, length, drop, get_or, map, codes, slice_index, refl, sym, ap, subst, ◌∙◌, arith, append_assoc, append-nil, length-append}
 use Rattle.std.proofs.lemmas.Bool.Decides.{nat_tests}
 use Rattle.std.proofs.lemmas.List.{get_or-append-add}
 use Rattle.std.specs.Io.BufRead.{ends_with_byte}

@@ -2,8 +2,8 @@
 use Rattle.std.proofs.Common.{◌≡◌, ◌<◌, ◌+◌, ◌++◌, ◌∷◌, ◌⊎◌, ⊎_elim, [], ℕ, List, Bool, true, Option, Some, None, length, map, refl, sym, ap, subst, ◌∙◌, arith, append_assoc, inl, inr}
 use Rattle.std.proofs.lemmas.List.{append_cancel_left}
 use Rattle.std.specs.List.{AllByRecursion}
-use Rattle.gs_keep_mark.specs.Marks.{Entry, Totals, behind, digest, mark_of, marked, text_of, told_by, with_batch}
-use Rattle.gs_keep_mark.specs.Started.{Alike, AllAlike, AreAmong, AreBatches, HaveMarksOf, IsBatch, IsOneOf, NoMark, StartRunsWhatWasAnswered, TellsApart, answers_of, one_or_none}
+use Rattle.gs_keep_mark.specs.Marks.{Entry, Totals, behind, mark_of, marked, text_of, told_by, with_batch}
+use Rattle.gs_keep_mark.specs.Started.{Alike, AllAlike, AreAmong, AreBatches, IsOneOf, NoMark, StartRunsWhatWasAnswered, TellsApart, answers_of, one_or_none}
 use Rattle.gs_keep_mark.proofs.Lines.{batch_same, has_mark, lines_same, mark_tells}
 use Rattle.gs_keep_mark.proofs.Texts.{answers_with, count_with, text_at_least, text_grows, text_passed, text_with, totals_same}
 

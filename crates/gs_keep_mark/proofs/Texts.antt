@@ -1,5 +1,5 @@
 -- What totals come to behind a batch.
-use Rattle.std.proofs.Common.{◌≡◌, ◌<◌, ◌+◌, ◌++◌, ◌∷◌, [], ℕ, List, length, map, flat_map, refl, sym, ap, ◌∙◌, arith, append_assoc, append-nil, length-append}
+use Rattle.std.proofs.Common.{◌≡◌, ◌<◌, ◌+◌, ◌++◌, ◌∷◌, [], ℕ, List, length, map, sym, ap, ◌∙◌, arith, append_assoc, append-nil, length-append}
 use Rattle.gs_keep_mark.specs.Marks.{Entry, Totals, behind, mark_of, noted, text_of, with_batch}
 use Rattle.gs_keep_mark.specs.Started.{answers_of}
 use Rattle.gs_keep_mark.proofs.Lines.{mark_long}

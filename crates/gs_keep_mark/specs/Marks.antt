@@ -1,5 +1,5 @@
 -- A log of batches: each is its lines, and behind them a mark.
-use Rattle.std.specs.Prelude.{◌≡◌, ◌==◌, ◌&&◌, ◌++◌, ◌∷◌, ◌+◌, ◌/◌, ◌%◌, ℕ, zero, suc, Bool, true, false, List, [], length, flat_map, map, codes, refl}
+use Rattle.std.specs.Prelude.{◌≡◌, ◌==◌, ◌&&◌, ◌++◌, ◌∷◌, ◌+◌, ◌/◌, ◌%◌, ℕ, zero, suc, Bool, false, List, [], length, flat_map, codes, refl}
 use Rattle.std.specs.Io.BufRead.{ends_with_byte}
 use Rattle.sha2.specs.Sha256.{sha256}
 use Rattle.hex.specs.Hex.{encode_lower}

@@ -1,91 +1,142 @@
-//! How much of a log is whole lines.
+//! How far a log has whole lines, and marks.
 #![tactic(auto)]
 
-ghost use Rattle.std.specs.Prelude.{◌≡◌, ◌≤◌, ◌==◌, ◌++◌, [], List, ℕ, false, length, take, drop, IfOk, IfSome, MatchOption};
-ghost use Rattle.std.specs.List.{list_any};
-ghost use Rattle.gs_keep.specs.Replaying.{EndsLine};
-ghost use Rattle.std.specs.Io.KnownBytes.{Consumes};
-ghost use Rattle.gs_keep_measure.specs.Measure.{Measures};
+ghost use Rattle.std.specs.Prelude.{◌≡◌, ◌≤◌, ◌+◌, ◌<◌, List, ℕ, false, true, length, IfErr, IfOk, IfSome, MatchOption};
+ghost use Rattle.std.specs.Io.BufRead.{drop_through, take_through};
+ghost use Rattle.gs_shell_line.specs.Ended.{HasNoMore, remaining};
+ghost use Rattle.gs_keep_mark.specs.Marks.{is_whole_mark};
+ghost use Rattle.gs_keep_measure.specs.Measure.{IsTold, Measures, is_nearly_mark, may_stand};
+ghost use Rattle.gs_keep_measure.specs.Steps.{Grows, TakesOne};
 
-use std::io::{self, BufRead, ErrorKind};
+use gs_keep_mark::is_whole_mark;
+use gs_shell_line::{EndedLine, EndedLines};
+use std::alloc::Global;
+use std::io::{self, BufRead};
 
-/// How much of a text is whole lines.
+/// How far a log has whole lines, and marks.
 #[derive(Clone, Copy, Debug, PartialEq, Eq)]
 pub struct Measure {
-    /// The bytes up to and with the last `\n`.
+    /// The bytes up to and with the last mark, or 0 where there is none.
+    pub marked: u64,
+    /// The bytes up to and with the last whole line, unless one is longer than a line may be.
     pub whole: u64,
-    /// The bytes behind it.
-    pub rest: u64,
+    /// Whether a line is longer than a line may be.
+    pub is_lost: bool,
 }
 
-/// The length up to and with the last `\n`, or 0 where there is none.
-fn whole_len(bytes: &[u8]) -> usize
-    ensures bound { result ≤ length bytes.now }
-    ensures ends { EndsLine (take result bytes.now) }
-    ensures none { list_any (λ x. x == 10) (drop result bytes.now) ≡ false }
-{
-    let mut end = bytes.len();
-    while end > 0 && bytes[end - 1] != b'\n' {
-        end -= 1;
-    }
-    end
+/// Why a log isn't measured.
+#[derive(Debug, Drop)]
+pub enum MeasureFault {
+    Read(io::Error),
+    /// Memory is lacking for a line.
+    Memory,
+    /// A mark stands behind a line that is longer than a line may be, or there are more bytes than can be counted.
+    Damaged,
 }
 
-/// The measure of a text with some bytes more.
-fn measure_more(measure: Measure, bytes: &[u8]) -> Option<Measure>
-    ensures { IfSome result (λ more. (text : List ℕ) → Measures text measure → Measures (text ++ bytes.now) more) }
+/// The measure of a text with a whole line more.
+fn with_line(now: Measure, line: &[u8]) -> Option<Measure>
+    ensures { IfSome result (λ more. Grows now more line.now) }
 {
-    let whole = whole_len(bytes);
-    let all = measure.rest.checked_add(bytes.len() as u64)?;
-    if whole == 0 {
+    let whole = now.whole.checked_add(line.len() as u64)?;
+    if !is_whole_mark(line) {
         return Some(Measure {
-            whole: measure.whole,
-            rest: all,
+            marked: now.marked,
+            whole,
+            is_lost: now.is_lost,
         });
     }
-    let rest = (bytes.len() - whole) as u64;
+    if now.is_lost {
+        return None;
+    }
     Some(Measure {
-        whole: measure.whole.checked_add(all - rest)?,
-        rest,
+        marked: whole,
+        whole,
+        is_lost: false,
     })
 }
 
-/// Measures what the reader shows next. Nothing where it has ended.
-fn measure_part<B: BufRead>(reader: &mut B, measure: Measure) -> io::Result<Option<Measure>>
-    ensures { IfOk result (λ o. MatchOption o (IfSome (B.remaining reader.old) (λ left. left ≡ []))
-        (λ more. (part : List ℕ) × Consumes (B.remaining reader.old) (B.remaining reader.new) part × ((text : List ℕ) → Measures text measure → Measures (text ++ part) more))) }
+/// Measures the next line. Nothing where there is none, or the last one lacks its end.
+fn measure_one<B: BufRead>(
+    alloc: Global,
+    reader: &mut EndedLines<B>,
+    now: Measure,
+) -> Result<Option<Measure>, MeasureFault>
+    ensures more { IfOk result (λ more. IfSome (remaining B.remaining reader.old) (λ xs. TakesOne more xs (remaining B.remaining reader.new) now)) }
+    ensures unread { IfErr result (λ e. IsTold e (HasNoMore reader.new)) }
 {
-    let available = match reader.fill_buf() {
-        Ok(available) => available,
-        Err(error) => {
-            return if error.kind() == ErrorKind::Interrupted {
-                Ok(Some(measure))
-            } else {
-                Err(error)
-            };
-        }
+    let next = match reader.next(alloc) {
+        Ok(next) => next,
+        Err(error) => return Err(MeasureFault::Read(error)),
     };
-    let count = available.len();
-    if count == 0 {
-        return Ok(None);
+    match next.line {
+        EndedLine::End | EndedLine::Unended => Ok(None),
+        EndedLine::NoMemory => Err(MeasureFault::Memory),
+        EndedLine::TooLong => Ok(Some(Measure {
+            marked: now.marked,
+            whole: now.whole,
+            is_lost: true,
+        })),
+        EndedLine::Text(line) => match with_line(now, &line) {
+            Some(more) => Ok(Some(more)),
+            None => Err(MeasureFault::Damaged),
+        },
     }
-    let Some(more) = measure_more(measure, available) else {
-        return Err(io::Error::from(ErrorKind::FileTooLarge));
-    };
-    reader.consume(count);
-    Ok(Some(more))
 }
 
-/// Measures all that the reader has left. A text of more than 2 ^ 64 bytes is `FileTooLarge`.
-pub fn measure_all<B: BufRead>(reader: &mut B) -> io::Result<Measure>
-    ensures { IfOk result (λ m. IfSome (B.remaining reader.old) (λ text. Measures text m)) }
+/// Measures all that the reader has left.
+pub fn measure_all<B: BufRead>(
+    alloc: Global,
+    reader: &mut EndedLines<B>,
+) -> Result<Measure, MeasureFault>
+    ensures measure { IfOk result (λ m. IfSome (remaining B.remaining reader.old) (λ text. Measures text m)) }
+    ensures unread { IfErr result (λ e. IsTold e (HasNoMore reader.new)) }
 {
-    let mut now = Measure { whole: 0, rest: 0 };
+    let mut now = Measure {
+        marked: 0,
+        whole: 0,
+        is_lost: false,
+    };
     for _ in 0..u64::MAX {
-        match measure_part(reader, now)? {
+        match measure_one(alloc, reader, now)? {
             Some(more) => now = more,
             None => return Ok(now),
         }
     }
-    Err(io::Error::from(ErrorKind::TimedOut))
+    Err(MeasureFault::Damaged)
+}
+
+/// Whether a byte may stand in a mark at a place.
+fn may_stand(place: usize, byte: u8) -> bool
+    ensures { result ≡ may_stand place byte }
+{
+    if place == 0 {
+        return byte == b'#';
+    }
+    if place == 1 || place == 22 || place == 87 {
+        return byte == b' ';
+    }
+    if place == 152 {
+        return byte == b'\n';
+    }
+    if place <= 21 {
+        return byte >= b'0' && byte <= b'9';
+    }
+    (byte >= b'0' && byte <= b'9') || (byte >= b'a' && byte <= b'f')
+}
+
+/// Whether bytes are a mark by their form, but for one byte at most: if a log ends so, a bit of its last mark may have flipped.
+pub fn is_nearly_mark(bytes: &[u8]) -> bool
+    ensures { result ≡ is_nearly_mark bytes.now }
+{
+    if bytes.len() != 153 {
+        return false;
+    }
+    let mut wrong: u64 = 0;
+    for place in 0..153usize {
+        if !may_stand(place, bytes[place]) {
+            wrong += 1;
+        }
+    }
+    wrong <= 1
 }

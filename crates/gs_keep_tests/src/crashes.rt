@@ -1,10 +1,12 @@
 use gs_base::{Config, Refusal};
-use gs_keep::{Progress, Replayed, keep_on};
+use gs_keep::{Answers, Progress, Replayed, keep_on};
 use gs_keep_desk::KeptDesk;
 use gs_keep_log::{Fault, MemoryLog};
+use gs_keep_mark::is_mark;
 use gs_keep_measure::measure_all;
 use gs_nodes::empty_disks;
 use gs_shell_desk::Desk;
+use gs_shell_line::{EndedLine, EndedLines};
 use std::alloc::{AllocError, Global};
 use std::io::{self, BufReader};
 use std::test::Fail;
@@ -21,11 +23,20 @@ const SHORT: Told<'static> = Told {
     answers: b"ok\nok\nok 0\nok 1\nok 2\nok 616263\nok 2\nok 6162\n",
 };
 
+/// What may stand in place of what wasn't synced.
+const GARBAGE: &[u8] =
+    b"mkdir /other\nrm -r /a\nappend /a/f 6162\nno line\nrollingUpgrade finalize\nmkdir /another\nrm -r /a\nappend /a/f 6162\nno line\nat 7\n";
+
+const ZEROS: &[u8] = &[0; 256];
+
 /// The lines of a long script.
 const LINES: u64 = 10_000;
 
 /// The places where its log is cut.
 const PLACES: usize = 200;
+
+/// The parts that what isn't synced is left in.
+const PARTS: usize = 11;
 
 /// What a call of the log does that doesn't fail.
 const NO_FAULT: Fault = Fault {
@@ -52,7 +63,7 @@ struct Ran {
     log: MemoryLog,
 }
 
-/// Goes on from a log that ends with a whole line, with lines of which so many bytes come at once.
+/// Goes on from a log that ends with a mark, with lines of which so many bytes come at once.
 fn kept_on(
     alloc: Global,
     logged: &[u8],
@@ -66,19 +77,20 @@ fn kept_on(
         Err(unopened) => return Err(Fail::from(unopened.refusal)),
     };
     let mut log = MemoryLog::new(alloc, Vec::from_slice(alloc, logged)?, fault);
-    let mut lines = logged;
-    let mut reader = BufReader::with_capacity(alloc, most, input)?;
+    let mut lines = EndedLines::new(logged);
+    let reader = BufReader::with_capacity(alloc, most, input)?;
     let mut answers = Vec::new(alloc);
     let len = logged.len() as u64;
     let _ = keep_on(
         alloc,
         &mut desk,
         &mut log,
+        b"",
         len,
         &mut lines,
         &mut Nobody,
-        &mut reader,
-        &mut answers,
+        &mut EndedLines::new(reader),
+        &mut Answers::new(&mut answers),
     );
     Ok(Ran { answers, log })
 }
@@ -88,6 +100,20 @@ fn lines_in(text: &[u8]) -> usize {
     text.iter().filter(|byte| **byte == b'\n').count()
 }
 
+/// The lines of a log without its marks.
+fn unmarked(alloc: Global, log: &[u8]) -> Result<Vec<u8>, Fail> {
+    let mut left = EndedLines::new(log);
+    let mut lines = Vec::new(alloc);
+    for _ in 0..log.len() {
+        match left.next(alloc)?.line {
+            EndedLine::Text(line) if is_mark(&line) => {}
+            EndedLine::Text(line) => lines.extend_from_slice(&line)?,
+            _ => return Ok(lines),
+        }
+    }
+    Ok(lines)
+}
+
 /// What is wrong where a crash leaves this of a log, once so much was answered.
 fn fault_behind(
     alloc: Global,
@@ -95,20 +121,25 @@ fn fault_behind(
     left: &[u8],
     answered: &[u8],
 ) -> Result<&'static str, Fail> {
-    if !told.script.starts_with(left) || !told.answers.starts_with(answered) {
+    let Ok(measure) = measure_all(alloc, &mut EndedLines::new(left)) else {
+        return Ok("the log can't be measured");
+    };
+    let Some(logged) = left.get(..measure.marked as usize) else {
+        return Ok("the log is measured wrongly");
+    };
+    let lines = unmarked(alloc, logged)?;
+    if !told.script.starts_with(&lines) || !told.answers.starts_with(answered) {
         return Ok("the log or the answers differ");
     }
-    if lines_in(left) < lines_in(answered) {
-        return Ok("a line was answered that isn't in the log");
+    if lines_in(&lines) < lines_in(answered) {
+        return Ok("a line was answered that a start doesn't run");
     }
-    let measure = measure_all(&mut BufReader::new(alloc, left)?)?;
-    let whole = measure.whole as usize;
-    let (Some(logged), Some(rest)) = (left.get(..whole), told.script.get(whole..)) else {
-        return Ok("the log is measured wrongly");
+    let Some(rest) = told.script.get(lines.len()..) else {
+        return Ok("the log has more than the script");
     };
     let again = kept_on(alloc, logged, rest, 64, NO_FAULT)?;
     if !told.answers.ends_with(&again.answers)
-        || lines_in(logged).saturating_add(lines_in(&again.answers)) != lines_in(told.answers)
+        || lines_in(&lines).saturating_add(lines_in(&again.answers)) != lines_in(told.answers)
     {
         return Ok("it doesn't go on as if nothing had been");
     }
@@ -118,11 +149,17 @@ fn fault_behind(
 /// What is wrong where a call of the log fails, whatever a crash leaves then.
 fn fault_at(alloc: Global, most: usize, fault: Fault) -> Result<&'static str, Fail> {
     let ran = kept_on(alloc, b"", SHORT.script, most, fault)?;
-    for count in 0..=ran.log.unsynced() {
-        let left = ran.log.left(count)?;
-        let wrong = fault_behind(alloc, SHORT, &left, &ran.answers)?;
-        if !wrong.is_empty() {
-            return Ok(wrong);
+    for part in 0..=PARTS {
+        let count = ran.log.unsynced().saturating_mul(part) / PARTS;
+        for left in [
+            ran.log.left(count)?,
+            ran.log.left_with(GARBAGE.get(..count).unwrap_or(GARBAGE))?,
+            ran.log.left_with(ZEROS.get(..count).unwrap_or(ZEROS))?,
+        ] {
+            let wrong = fault_behind(alloc, SHORT, &left, &ran.answers)?;
+            if !wrong.is_empty() {
+                return Ok(wrong);
+            }
         }
     }
     Ok("")
@@ -135,7 +172,7 @@ fn answered_behind(alloc: Global, most: usize, calls: u64) -> Result<usize, Fail
 }
 
 // The lines come one by one, some at a time, and all at once. Each append and each sync fails, with nothing of it done, some or all, and a
-// crash leaves each length of what isn't synced. There are just so many calls: one less, and lines aren't answered.
+// crash leaves some lengths of what isn't synced, as it was written or otherwise. There are just so many calls: one less, and lines aren't answered.
 #[test]
 fn each_crash_is_gone_on_from(rt: HostRuntime) -> Result<(), Fail> {
     let lines = lines_in(SHORT.answers);
@@ -201,7 +238,7 @@ fn a_long_log_is_gone_on_from_wherever_it_is_cut(rt: HostRuntime) -> Result<(), 
         answers: &ran.answers,
     };
     assert_eq!(rt; lines_in(told.answers) as u64, LINES);
-    assert_eq!(rt; log.len(), script.len());
+    assert_eq!(rt; unmarked(rt.alloc(), &log)?.len(), script.len());
     for place in 0..PLACES {
         let left = log.get(..cut_at(&log, place)).unwrap_or(&log);
         assert_eq!(rt; fault_behind(rt.alloc(), told, left, b"")?, "", "{place}");

@@ -12,6 +12,12 @@ pub mod Joined
 pub mod Joining
 pub mod Locating
 pub mod Moving
+pub mod OnePlace
+pub mod Outcomes
+pub mod Overtaking
+pub mod ViewsRise
+pub mod Others
+pub mod Ending
 pub mod Reached
 pub mod Reaching
 pub mod Reading

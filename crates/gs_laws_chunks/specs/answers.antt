@@ -2,3 +2,4 @@ pub mod Answered
 pub mod Asked
 pub mod Resting
 pub mod Behind
+pub mod Replied

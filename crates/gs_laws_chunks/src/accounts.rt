@@ -14,6 +14,12 @@ ghost use Rattle.gs_laws_chunks.specs.accounts.Copying.{CopiesAreOfViews, Copies
 ghost use Rattle.gs_laws_chunks.specs.accounts.Acknowledged.{DoneStays, RepeatsAreAlike};
 ghost use Rattle.gs_laws_chunks.specs.accounts.Asked.{EditsWereAsked};
 ghost use Rattle.gs_laws_chunks.specs.accounts.Joining.{StoresAgreeFirst, StoresAgreeOn};
+ghost use Rattle.gs_laws_chunks.specs.accounts.OnePlace.{EditsHaveOnePlace};
+ghost use Rattle.gs_laws_chunks.specs.accounts.Ending.{PreparesEndEdits, ViewsEndEdits};
+ghost use Rattle.gs_laws_chunks.specs.accounts.Others.{OthersWereCopied};
+ghost use Rattle.gs_laws_chunks.specs.accounts.Outcomes.{EditsComeTo};
+ghost use Rattle.gs_laws_chunks.specs.accounts.ViewsRise.{LocationsAreNotAbove, ViewsRise};
+ghost use Rattle.gs_laws_chunks.specs.accounts.Overtaking.{EditsOvertake, EditsStandInOrder, SettledOvertake};
 ghost use Rattle.gs_laws_chunks.specs.accounts.Reading.{BytesAreFetched, LocationsWereLookedUp, ReadsAreLegal};
 ghost use Rattle.gs_laws_chunks.specs.accounts.Sealing.{RolledBackStay, SurvivorsKeepTheirText, SurvivorsName};
 ghost use Rattle.gs_laws_chunks.specs.accounts.Standing.{QuietStaysStill, ReplicasStand};
@@ -166,6 +172,63 @@ pub fn each_edit_was_asked_for<D>()
 pub fn done_edits_stay<D>()
     ensures stays { (x : Setup D) → DoneStays x }
     ensures repeats { (x : Setup D) → RepeatsAreAlike x }
+{
+    configurations_have_sizes();
+    a_message_edits_a_replica_by_what_it_says();
+}
+
+/// An edit is what was asked for, behind the edits before it, and so is what its client is told: a write is that write; a record that fits stands right after the text, and its client is told where that ended; one that doesn't fit fills the chunk up.
+fn an_edit_comes_to_what_was_asked_for()
+    ensures { EditsComeTo }
+{}
+
+/// An edit that was asked for of a chunk has one place in it. Each list of the chunk that has the edit has it there, behind the same edits: that of any stamp, in any world of a run, whatever was rolled back in between.
+fn each_edit_has_one_place<D>()
+    ensures { (x : Setup D) → EditsHaveOnePlace x }
+{
+    configurations_have_sizes();
+    a_message_edits_a_replica_by_what_it_says();
+}
+
+/// The edits of one client stand in each list of a chunk in the order of its requests' numbers. So an edit overtakes: once it stands in a list, no edit that its client asked for before it comes to any list that
+/// has it, but those that stood in front of it already. And once it is settled, none of them gets settled while it stays so.
+fn edits_of_a_client_stand_in_its_order<D>()
+    ensures order { (x : Setup D) → EditsStandInOrder x }
+    ensures overtakes { (x : Setup D) → EditsOvertake x }
+    ensures settled { (x : Setup D) → SettledOvertake x }
+{
+    configurations_have_sizes();
+    a_message_edits_a_replica_by_what_it_says();
+}
+
+/// An accepted prepare ends what was asked for before it: while that upgrade stands, or is rolled back, no edit is settled that was asked for under a stamp of an earlier epoch, but those that were settled at the prepare.
+fn a_prepare_ends_what_was_asked_before_it<D>()
+    ensures { (x : Setup D) → PreparesEndEdits x }
+{
+    configurations_have_sizes();
+    a_message_edits_a_replica_by_what_it_says();
+}
+
+/// An edit that was asked for of another chunk stands in a list of a chunk only where it was copied: the chunk is a copy, and what was copied has it at the same place. So to a copy nothing comes that is asked for of its source.
+fn edits_of_other_chunks_were_copied<D>()
+    ensures { (x : Setup D) → OthersWereCopied x }
+{
+    configurations_have_sizes();
+    a_message_edits_a_replica_by_what_it_says();
+}
+
+/// A settled view without a primary ends what was asked for under its stamp and under earlier ones: no such edit is settled later that isn't settled then, unless the epoch of the view was ended by a rollback. It is of a chunk that a file has then.
+fn a_view_without_a_primary_ends_what_was_asked_before_it<D>()
+    ensures { (x : Setup D) → ViewsEndEdits x }
+{
+    configurations_have_sizes();
+    a_message_edits_a_replica_by_what_it_says();
+}
+
+/// The settled view of a chunk is of no lower stamp later. So no view that a client was ever told is of a stamp above that of the settled one.
+fn settled_views_rise<D>()
+    ensures rise { (x : Setup D) → ViewsRise x }
+    ensures told { (x : Setup D) → LocationsAreNotAbove x }
 {
     configurations_have_sizes();
     a_message_edits_a_replica_by_what_it_says();

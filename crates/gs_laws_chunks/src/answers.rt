@@ -6,6 +6,7 @@ ghost use Rattle.gs_nodes.specs.declared.place.MasterPlace.{MasterPlace};
 ghost use Rattle.gs_laws_chunks.specs.answers.Answered.{AnswersAreMade};
 ghost use Rattle.gs_laws_chunks.specs.answers.Asked.{BeginsAsked, ScriptsAsked, StaysAsked, StaysAskedUnarmed};
 ghost use Rattle.gs_laws_chunks.specs.answers.Behind.{ListsAreByCommits};
+ghost use Rattle.gs_laws_chunks.specs.answers.Replied.{BeginsReplied, StaysReplied};
 ghost use Rattle.gs_laws_chunks.specs.answers.Resting.{StaysStill};
 
 use gs_block::promises::configurations_have_sizes;
@@ -27,6 +28,12 @@ fn of_each_reply_its_client_has_asked<D>()
 /// The master isn't started again meanwhile, and no failure of a disk is arranged.
 fn an_answer_is_made_for_its_call<D>()
     ensures { (seen : D → List ℕ) (failures : D → ℕ) (armed : DiskId → ℕ → MasterPlace D → MasterPlace D) → AnswersAreMade seen failures armed }
+{}
+
+/// Whatever a client has as its reply, a message was sent that says it, for the number that the client has used last: an answer, what an edit came to, a part of a chunk, or a refusal. So it is over each run, whatever comes, and in which order.
+fn each_reply_was_sent_for_its_request<D>()
+    ensures begun { (seen : D → List ℕ) (failures : D → ℕ) (armed : DiskId → ℕ → MasterPlace D → MasterPlace D) → BeginsReplied seen failures armed }
+    ensures kept { (seen : D → List ℕ) (failures : D → ℕ) (armed : DiskId → ℕ → MasterPlace D → MasterPlace D) → StaysReplied seen failures armed }
 {}
 
 /// As long as a client only looks, whatever else comes, the names, the phase and the epoch of the master stand where no call waits, and all that was called before has a number that the client has had: nothing of before changes them.

@@ -7,11 +7,13 @@ ghost use Rattle.gs_world.specs.Histories.{arms, failures_of, seen_of};
 ghost use Rattle.gs_laws_chunks.specs.accounts.Running.{Setup};
 ghost use Rattle.gs_laws_world.specs.steady.Unarmed.{unarmed};
 ghost use Rattle.gs_laws_chunks.specs.calls.Asked.{ArmsAlone, CallsWaitAsSent, EndsAreCalled, RecordsAreForCalls, TurnsAreForCalls};
+ghost use Rattle.gs_laws_chunks.specs.calls.Fresh.{CallsAreUsed, EditsAreUsed, LocationsAreToldSince};
 ghost use Rattle.gs_laws_chunks.specs.calls.One.{RequestsAreOneCall};
 ghost use Rattle.gs_laws_chunks.specs.calls.Reached.{ReachedHaveRun};
-ghost use Rattle.gs_laws_chunks.specs.calls.Told.{DisksWereTold, KeptWereTold, RepliesWereTold, ToldStoodThere};
+ghost use Rattle.gs_laws_chunks.specs.calls.Told.{DisksWereTold, KeptWereTold, NewWereToldSince, RepliesWereTold, ToldStoodThere};
 
 use gs_block::promises::configurations_have_sizes;
+use gs_laws_server::a_message_edits_a_replica_by_what_it_says;
 
 /// A store may arrange failures of disks. That changes nothing that its disks tell, and nothing that the master has in memory. Nor does a store that arranges none.
 fn failures_that_are_arranged_change_nothing<D>()
@@ -44,8 +46,8 @@ fn each_request_is_one_call<D>()
     configurations_have_sizes();
 }
 
-/// A reply of a run may tell where a chunk is. It was told so in the turn of a step, to a call of this very request that was sent before that step. The step is one of a run that leads to the same store, which needn't be the given one.
-/// This holds whether the reply is sent then, or is kept and given again, also after failures of disks and restarts.
+/// A reply of a run may tell where a chunk is. It was told so in the turn of a step of that very run, to a call of this very request that was sent before that step.
+/// This holds whether the reply is sent then, or is kept and given again, also after failures of disks and restarts. A request that nobody had called yet at some world of the run is told so at a step since.
 /// Right after the move that tells so, the chunk stood at the path and the index that the call named, on the view that is told. The view has a primary where the chunk is to be written.
 /// These are the names to which so many of the records of that turn lead.
 fn each_location_is_of_the_place_that_its_client_asked<D>()
@@ -53,6 +55,17 @@ fn each_location_is_of_the_place_that_its_client_asked<D>()
     ensures stood { ToldStoodThere D }
     ensures kept { (seen : D → List ℕ) (failures : D → ℕ) (armed : DiskId → ℕ → MasterPlace D → MasterPlace D) → KeptWereTold seen failures armed }
     ensures disks { (seen : D → List ℕ) (failures : D → ℕ) (armed : DiskId → ℕ → MasterPlace D → MasterPlace D) → DisksWereTold seen failures armed }
+    ensures since { (seen : D → List ℕ) (failures : D → ℕ) (armed : DiskId → ℕ → MasterPlace D → MasterPlace D) → NewWereToldSince seen failures armed }
 {
     configurations_have_sizes();
+}
+
+/// Nothing is asked under a number that its client hasn't used yet: no message asks for an edit under it, and none calls. So if a client hasn't used a number in a world of a run, and has a location as its reply to that number later, it was told so at a step since.
+fn a_number_that_was_not_used_is_nowhere<D>()
+    ensures edits { (x : Setup D) → EditsAreUsed x }
+    ensures calls { (seen : D → List ℕ) (failures : D → ℕ) (armed : DiskId → ℕ → MasterPlace D → MasterPlace D) → CallsAreUsed seen failures armed }
+    ensures locations { (seen : D → List ℕ) (failures : D → ℕ) (armed : DiskId → ℕ → MasterPlace D → MasterPlace D) → LocationsAreToldSince seen failures armed }
+{
+    configurations_have_sizes();
+    a_message_edits_a_replica_by_what_it_says();
 }

@@ -7,3 +7,4 @@ pub mod Places
 pub mod Steps
 pub mod Answering
 pub mod Doing
+pub mod Files

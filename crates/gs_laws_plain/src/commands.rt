@@ -4,6 +4,7 @@
 ghost use Rattle.gs_laws_plain.specs.commands.Answering.{NewCallsAnswerPlainly};
 ghost use Rattle.gs_laws_plain.specs.commands.Doing.{NewCallsDoAsAnswered};
 ghost use Rattle.gs_laws_plain.specs.commands.Edits.{EditsAreCommands};
+ghost use Rattle.gs_laws_plain.specs.commands.Files.{RecordsStandInFiles, TextsStandInFiles};
 ghost use Rattle.gs_laws_plain.specs.commands.OnePlace.{EditsOfAPlaceAreCommands, OneEditIsACommand};
 ghost use Rattle.gs_laws_plain.specs.commands.Places.{EachPlaceHasItsEdits, EditsOfPlacesAreCommands, NothingElse};
 ghost use Rattle.gs_laws_plain.specs.commands.Records.{RecordIsCommand, RecordsAreCommands};
@@ -29,6 +30,13 @@ fn records_are_commands()
 fn edits_of_a_place_are_commands()
     ensures one { OneEditIsACommand }
     ensures all { EditsOfAPlaceAreCommands }
+{}
+
+/// What stands in a text stands in its file, behind as many chunks as come before it. So a record that is appended to a text stands in the file right after that, at the place that a client makes of the index of the chunk and of
+/// the offset that it is told, at which the text ended.
+fn bytes_of_a_text_stand_in_its_file()
+    ensures texts { TextsStandInFiles }
+    ensures records { RecordsStandInFiles }
 {}
 
 /// Where edits come at once to chunks that stand at one place each, the commands that edit these places lead from tree to tree; each place has the

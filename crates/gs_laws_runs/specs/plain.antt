@@ -8,3 +8,4 @@ pub mod Over
 pub mod Told
 pub mod Ends
 pub mod Back
+pub mod Done

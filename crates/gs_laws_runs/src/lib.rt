@@ -6,8 +6,8 @@ mod plain;
 mod replies;
 
 pub use plain::{
-    a_request_that_is_over_makes_no_edit_in_a_run, a_rollback_shows_what_its_prepare_showed,
-    a_run_is_a_run_of_the_plain_machine, copies_are_of_what_stands_at_their_places,
-    edits_come_to_one_place_each,
+    a_done_edit_is_made_at_its_place, a_request_that_is_over_makes_no_edit_in_a_run,
+    a_rollback_shows_what_its_prepare_showed, a_run_is_a_run_of_the_plain_machine,
+    copies_are_of_what_stands_at_their_places, edits_come_to_one_place_each,
 };
 pub use replies::replies_are_the_plain_machines;

@@ -5,6 +5,7 @@
 ghost use Rattle.gs_laws_chunks.specs.accounts.Back.{GivesReplicasBack, NoOtherText};
 ghost use Rattle.gs_laws_chunks.specs.accounts.Running.{Setup};
 ghost use Rattle.gs_laws_runs.specs.plain.Back.{RollbacksGoBackPlainly};
+ghost use Rattle.gs_laws_runs.specs.plain.Done.{DoneAreMade, ToldAreMade};
 ghost use Rattle.gs_laws_runs.specs.plain.Fresh.{AddedAreAsMade, CopiesAreOfPlaces, NewAreAsMade, PlacesAreHeld};
 ghost use Rattle.gs_laws_runs.specs.plain.Over.{OverMakesNoEdits, RefusedMakeNoEdits};
 ghost use Rattle.gs_laws_runs.specs.plain.Plainly.{BeginsPlain, EditsOnePlace, RunsArePlain, StepsArePlain};
@@ -87,6 +88,20 @@ pub fn a_run_is_a_run_of_the_plain_machine<D>()
     ensures begins { (x : Setup D) → BeginsPlain x }
     ensures steps { (x : Setup D) → StepsArePlain x }
     ensures runs { (x : Setup D) → RunsArePlain x }
+{
+    configurations_have_sizes();
+    a_message_edits_a_replica_by_what_it_says();
+    each_rollback_is_of_a_prepare::<D>();
+    a_rollback_gives_back_what_was_settled::<D>();
+}
+
+/// In a run that begins before anybody asks for an edit, and ends when its client has been told done, the edit is made at one step: it is settled of its chunk right after the step, and wasn't before. It is the one that was asked for, behind the edits
+/// before it, and its client is told what it comes to there. Wherever a file had the chunk before the step, it is a command of the plain machine at that path and index, unless a rollback is committed at that step.
+/// So it is where a client hasn't used a number yet at the beginning, and at the end has what an edit came to as the reply to that number.
+/// Two kinds of edits are left aside: a record that has passed a full chunk, of which nothing is made, and an edit whose chunk no file has any more, or whose upgrade was rolled back.
+pub fn a_done_edit_is_made_at_its_place<D>()
+    ensures done { (x : Setup D) → DoneAreMade x }
+    ensures told { (x : Setup D) → ToldAreMade x }
 {
     configurations_have_sizes();
     a_message_edits_a_replica_by_what_it_says();

@@ -1,3 +1,4 @@
+pub mod Digested
 pub mod Following
 pub mod Lines
 pub mod Machine

@@ -1,6 +1,7 @@
 //! A plain machine of trees and bytes, with what each line may be answered from it and where that leads.
 //! It knows no node and no message. That a store answers each script so isn't proved yet: what is proved here is of the machine, and of a client's dialogues.
 
+ghost use Rattle.gs_laws_scripts.specs.explained.Digested.{DigestsAreExplained};
 ghost use Rattle.gs_laws_scripts.specs.explained.Following.{LooksComeBack, PlainAnswersAreAFunction};
 ghost use Rattle.gs_laws_scripts.specs.explained.Told.{AppendsAreExplained, ReadsAreExplained, StatsAreExplained, WritesAreExplained};
 
@@ -17,11 +18,12 @@ fn looks_come_back()
     ensures { LooksComeBack }
 {}
 
-/// Where a client is answered each request by what stands, `write`, `append`, `stat` and `read` come to what the machine allows, and lead to its next state.
+/// Where a client is answered each request by what stands, `write`, `append`, `stat`, `read` and `digest` come to what the machine allows, and lead to its next state.
 /// It doesn't matter how often a part is looked up and tried. Before each request of a `write` and an `append` some of what is owed may be paid.
 fn dialogues_are_explained()
     ensures writes { WritesAreExplained }
     ensures appends { AppendsAreExplained }
     ensures stats { StatsAreExplained }
     ensures reads { ReadsAreExplained }
+    ensures digests { DigestsAreExplained }
 {}

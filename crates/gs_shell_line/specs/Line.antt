@@ -6,8 +6,8 @@ use Rattle.std.specs.Io.BufRead.{ends_with_byte, strip_last}
 use Rattle.std.specs.Io.KnownBytes.{Consumes, IsAtEnd}
 use Rattle.gs_shell_line.specs.declared.Line.{Line}
 use Rattle.gs_shell_line.specs.declared.Line.TheVariants.{End, Text, TooLong, NoMemory}
-use Rattle.gs_shell_line.specs.declared.Taken.{Taken}
-use Rattle.gs_shell_line.specs.declared.Taken.TheVariants.{Held, Long, Lost}
+use Rattle.gs_shell_line.specs.declared.taken.Taken.{Taken}
+use Rattle.gs_shell_line.specs.declared.taken.Taken.TheVariants.{Held, Long, Lost}
 
 -- the most bytes of a line that is held, without its end
 abbrev pub longest_line : ℕ

@@ -10,6 +10,12 @@ ghost use Rattle.gs_shell_line.specs.Line.{HasLineEnd, Holds, IsLine, TakesPart,
 use std::alloc::Global;
 use std::io::{self, BufRead, ErrorKind};
 
+mod ended;
+mod taken;
+
+pub use ended::{EndedLine, EndedLines, NextEnded, content_of};
+use taken::{Reads, Taken, take_line};
+
 /// The most bytes of a line that is held, without the line's end.
 pub const MOST_BYTES: usize = 1_048_576;
 
@@ -36,47 +42,6 @@ pub struct Next {
     pub is_next_at_hand: bool,
 }
 
-/// A line as far as it is read.
-#[derive(Debug, Drop)]
-enum Taken {
-    Held(Vec<u8>),
-    Long,
-    Lost,
-}
-
-/// A line with one more part of it.
-#[derive(Debug, Drop)]
-struct Part {
-    taken: Taken,
-    /// Whether the line is read with its end.
-    is_done: bool,
-    /// Whether what the reader showed holds the end of the line behind it, too.
-    is_next_at_hand: bool,
-}
-
-/// The length up to and including the first `byte`, or the whole length.
-fn len_through(bytes: &[u8], byte: u8) -> usize
-    ensures bound { result ≤ length bytes.now }
-    ensures some { 0 < length bytes.now → 0 < result }
-    ensures before { All (λ x. x ≢ byte) (take (result - 1) bytes.now) }
-{
-    let mut i = 0;
-    while i < bytes.len() {
-        if bytes[i] == byte {
-            return i + 1;
-        }
-        i += 1;
-    }
-    i
-}
-
-/// Whether a line ends within the bytes.
-fn has_line_end(bytes: &[u8]) -> bool
-    ensures { result ≡ list_any (λ x. x == 10) bytes.now }
-{
-    bytes.contains(&b'\n')
-}
-
 /// Removes the last byte if it is `byte`, and says whether it did.
 fn pop_if_last(bytes: &mut Vec<u8>, byte: u8) -> bool
     ensures popped { result ≡ ends_with_byte byte bytes.old.items }
@@ -91,25 +56,6 @@ fn pop_if_last(bytes: &mut Vec<u8>, byte: u8) -> bool
     }
     bytes.truncate(n - 1);
     true
-}
-
-/// The line with some more of its bytes. Once it can't be a line that is held, its bytes are let go.
-fn with_part(taken: Taken, part: &[u8]) -> Taken
-    ensures { (done : List ℕ) → Holds taken done → Holds result (done ++ part.now) }
-{
-    match taken {
-        Taken::Held(mut bytes) => {
-            if part.len() > MOST_BYTES + 2 || bytes.len() > MOST_BYTES + 2 - part.len() {
-                return Taken::Long;
-            }
-            match bytes.extend_from_slice(part) {
-                Ok(()) => Taken::Held(bytes),
-                Err(_) => Taken::Lost,
-            }
-        }
-        Taken::Long => Taken::Long,
-        Taken::Lost => Taken::Lost,
-    }
 }
 
 /// What stands next, once the line is read with its end.
@@ -134,40 +80,6 @@ fn finished(taken: Taken) -> Line
     }
 }
 
-/// Takes what the reader shows, up to and including the line's end.
-fn take_part<B: BufRead>(reader: &mut B, taken: Taken) -> io::Result<Part>
-    ensures ok { IfOk result (λ p. (part : List ℕ) × TakesPart (B.remaining reader.old) (B.remaining reader.new) p.is_done part
-        × ((done : List ℕ) → Holds taken done → Holds p.taken (done ++ part))) }
-    ensures at_hand { IfOk result (λ p. OnSome (B.remaining reader.old) (p.is_next_at_hand ≡ true → IfSome (B.remaining reader.new) HasLineEnd)) }
-    ensures err { OnErr result (StaysInLine (B.remaining reader.old) (B.remaining reader.new)) }
-    ensures retried { IfErr result (λ e. error_kind e ≢ ErrorKind.Interrupted) }
-{
-    let available = match reader.fill_buf() {
-        Ok(available) => available,
-        Err(e) => {
-            return if e.kind() == ErrorKind::Interrupted {
-                Ok(Part {
-                    taken,
-                    is_done: false,
-                    is_next_at_hand: false,
-                })
-            } else {
-                Err(e)
-            };
-        }
-    };
-    let end = len_through(available, b'\n');
-    let is_done = end == 0 || available[end - 1] == b'\n';
-    let is_next_at_hand = has_line_end(&available[end..]);
-    let taken = with_part(taken, &available[..end]);
-    reader.consume(end);
-    Ok(Part {
-        taken,
-        is_done,
-        is_next_at_hand,
-    })
-}
-
 /// What stands next in the reader, which is left behind it, and whether the line behind that is at hand too. A line ends at
 /// `\n`, or where the reader does. No more than a line's `MOST_BYTES` and two bytes of its end are held at any time.
 ///
@@ -181,16 +93,9 @@ pub fn next_line<B: BufRead>(alloc: Global, reader: &mut B) -> io::Result<Next>
     ensures err { OnErr result (StaysInLine (B.remaining reader.old) (B.remaining reader.new)) }
     ensures retried { IfErr result (λ e. error_kind e ≢ ErrorKind.Interrupted) }
 {
-    let mut taken = Taken::Held(Vec::new(alloc));
-    for _ in 0..u64::MAX {
-        let part = take_part(reader, taken)?;
-        taken = part.taken;
-        if part.is_done {
-            return Ok(Next {
-                line: finished(taken),
-                is_next_at_hand: part.is_next_at_hand,
-            });
-        }
-    }
-    Err(io::Error::from(ErrorKind::TimedOut))
+    let part = take_line(alloc, reader, &mut Reads::new())?;
+    Ok(Next {
+        line: finished(part.taken),
+        is_next_at_hand: part.is_next_at_hand,
+    })
 }

@@ -1,10 +1,10 @@
 -- Under which stamps edits were numbered: the list of a view has each edit where that of the view has it in which it was numbered, behind the same edits.
 use Rattle.std.specs.Prelude.{◌≡◌, ◌⊎◌, ◌+◌, ◌<◌, ◌≤◌, ◌++◌, ℕ, true, List, [], ◌∷◌, Option, Some, length, slice_get, take}
-use Rattle.gs_base.specs.declared.epoch.EpochEnd.TheVariants.{Prepare}
+use Rattle.gs_base.specs.declared.epoch.EpochEnd.TheVariants.{Prepare, Rollback}
 use Rattle.gs_base.specs.declared.numbers.ReqId.{ReqId}
 use Rattle.gs_base.specs.declared.numbers.Stamp.{Stamp}
 use Rattle.gs_replica.specs.Stands.{Edit}
-use Rattle.gs_laws_chunk.specs.machine.Stamps.{epoch_of, stamp_at}
+use Rattle.gs_laws_chunk.specs.machine.Stamps.{epoch_of, stamp_at, start_of}
 use Rattle.gs_laws_chunk.specs.machine.Machine.{Known, ChunkWorld}
 use Rattle.gs_laws_chunk.specs.machine.Events.{Leads}
 use Rattle.gs_laws_chunk.specs.machine.Laws.{Birth, IsReached, world_of}
@@ -15,6 +15,21 @@ use Rattle.gs_laws_chunk.specs.machine.Mastering.{AreOfMaster}
 abbrev pub StandsPrepared : Known → ℕ → ℕ → ℕ → Type 0
 StandsPrepared k lower t place = t ≤ k.view → k.stood t ≡ true → epoch_of t ≤ k.current → k.how (epoch_of t) ≡ Prepare → k.kept (epoch_of t) ≡ true → lower ≤ k.prepared (epoch_of t) → k.prepared (epoch_of t) < t
     → place < length (k.list (k.prepared (epoch_of t)))
+
+-- A rollback that was accepted gave up the view of a stamp, before that of another was settled.
+pub record WasGivenUp (k : Known) (u t : ℕ) : Type 0 where
+  pub e : ℕ
+  pub within : e + 1 ≤ k.current
+  pub prepare : k.how e ≡ Prepare
+  pub kept : k.kept e ≡ true
+  pub how : k.how (e + 1) ≡ Rollback
+  pub accepted : start_of (e + 1) ≤ t
+  pub after : k.prepared e < u
+  pub before : u < start_of (e + 1)
+
+-- And each view that was settled between has the place in its list, but those that were given up.
+abbrev pub StandsBetween : Known → ℕ → ℕ → ℕ → Type 0
+StandsBetween k lower t place = t ≤ k.view → k.stood t ≡ true → (u : ℕ) → lower ≤ u → u < t → k.stood u ≡ true → (WasGivenUp k u t → ⊥) → place < length (k.list u)
 
 -- where it is told under which stamp the edit of a request is asked for
 module _ (under : ReqId → Option Stamp) where
@@ -28,6 +43,7 @@ module _ (under : ReqId → Option Stamp) where
     pub asked : under edit.req ≡ Some (stamp_at stamp)
     pub same : take (place + 1) (k.list stamp) ≡ take (place + 1) (k.list t)
     pub prepared : StandsPrepared k stamp t place
+    pub between : StandsBetween k stamp t place
 
   -- so was each edit of any list but those with which the chunk was born
   abbrev pub AreNumbered : List Edit → Known → Type 0

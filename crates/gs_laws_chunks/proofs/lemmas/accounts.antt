@@ -69,3 +69,10 @@ pub mod Cutting
 pub mod ToldBack
 pub mod Rising
 pub mod Reaching
+pub mod OnePlace
+pub mod Outcomes
+pub mod Overtaking
+pub mod ViewsRise
+pub mod Others
+pub mod Ending
+pub mod LeftBehind

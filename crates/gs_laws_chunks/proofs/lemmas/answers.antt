@@ -4,3 +4,4 @@ pub mod Parts
 pub mod Resting
 pub mod Sparing
 pub mod Behind
+pub mod Replied

@@ -6,3 +6,4 @@ pub mod Arming
 pub mod One
 pub mod Reached
 pub mod Stood
+pub mod Fresh

@@ -10,7 +10,7 @@ use Rattle.gs_world.specs.Histories.{History}
 use Rattle.gs_laws_chunk.specs.machine.Stamps.{stamp_at}
 use Rattle.gs_laws_chunk.specs.machine.Machine.{Known, ChunkWorld}
 use Rattle.gs_laws_chunk.specs.machine.Laws.{IsReached}
-use Rattle.gs_laws_chunk.specs.machine.Numbering.{AreNumbered, IsBehind, StandsPrepared}
+use Rattle.gs_laws_chunk.specs.machine.Numbering.{AreNumbered, IsBehind, StandsBetween, StandsPrepared}
 use Rattle.gs_laws_parts.specs.server.Requests.{Asked, IsOfOneEdit, named}
 use Rattle.gs_world.specs.Runs.{Step}
 use Rattle.gs_laws_lift.specs.stores.Going.{AllSent}
@@ -45,6 +45,7 @@ pub record StandsFirst (k : Known) (t place : ℕ) (stamp : Stamp) : Type 0 wher
   pub late : k.born < number
   pub same : take (place + 1) (k.list number) ≡ take (place + 1) (k.list t)
   pub prepared : StandsPrepared k number t place
+  pub between : StandsBetween k number t place
 
 -- So no list of a lower stamp has an edit of a request of this chunk, if none with which the chunk was born is.
 abbrev pub NumberedIsFirst : (ℕ → Asked) → Type 0

@@ -9,3 +9,4 @@ pub mod Steps
 pub mod Raised
 pub mod Answering
 pub mod Doing
+pub mod Files

@@ -27,3 +27,4 @@ pub mod Copying
 pub mod Ends
 pub mod Back
 pub mod Refused
+pub mod Made

@@ -1,5 +1,5 @@
 -- What a line may be answered, and where that leads the machine.
-use Rattle.std.specs.Prelude.{[], ◌&&◌, ◌*◌, ◌+◌, ◌++◌, ◌-◌, ◌/◌, ◌==◌, ◌||◌, ◌∷◌, ◌≡◌, ◌⊎◌, Bool, Err, List, MatchBool, MatchOption, None, Ok, Option, Result, Some, drop, false, if◌then◌else◌, length, map, min, nat_le, nat_lt, slice_get, suc, take, true, zero, ℕ}
+use Rattle.std.specs.Prelude.{[], ◌&&◌, ◌*◌, ◌+◌, ◌++◌, ◌-◌, ◌/◌, ◌==◌, ◌||◌, ◌∷◌, ◌≡◌, ◌⊎◌, Bool, Err, List, MatchBool, MatchOption, None, Ok, Option, Result, Some, drop, false, if◌then◌else◌, length, map, min, nat_le, nat_lt, slice_get, suc, take, true, zero, ℕ, ◌<◌}
 use Rattle.std.specs.List.{range_with_len}
 use Rattle.gs_base.specs.Refusals.{number_of}
 use Rattle.gs_base.specs.declared.refusal.Refusal.{Refusal}
@@ -218,6 +218,14 @@ LandsOr size p bytes index GoesOn old answer new =
     MatchBool (fits size bytes (text_at p index old).bytes) ((answer ≡ Ok (answers.Number (index * size + length (text_at p index old).bytes))) × (new ≡ done size (Edits p index (machines.Append bytes)) old))
     (GoesOn (done size (Edits p index (machines.Append bytes)) old))
 
+-- some of the edits that are owed to a text would fill it up, which isn't full itself
+abbrev pub IsSeenFull : ℕ → Text → Type 0
+IsSeenFull size text = (length text.bytes < size) × (pick : List ℕ) × (length (settled_each size pick text).bytes ≡ size)
+
+-- Or a record passes: whoever leads the chunk asks no other member where its text is full. So what fills it up may be owed still, and may never be paid. Then nothing is done there, and the record goes on.
+abbrev pub LandsOrPasses : ℕ → Path → List ℕ → ℕ → (Machine → Type 0) → Machine → Result Answer Refusal → Machine → Type 0
+LandsOrPasses size p bytes index GoesOn old answer new = LandsOr size p bytes index GoesOn old answer new ⊎ (IsSeenFull size (text_at p index old) × GoesOn old)
+
 -- the most bytes of a record
 abbrev pub is_too_long : ℕ → List ℕ → Bool
 is_too_long size bytes = nat_lt (size / 4) (length bytes)
@@ -230,7 +238,7 @@ Lands size p bytes (suc more) index old answer new = (payments : List Payment) �
     × (IsPutOff (MayBe (Adds p index) now) now answer new
     ⊎ ((is_preparing now.phase ≡ false) × (more_payments : List Payment) × (grown : Machine) × (grown ≡ paid_now size more_payments (done size (Adds p index) now))
     × MatchBool (is_too_long size bytes) (((answer ≡ Err refusals.TooLong) × (new ≡ grown)) ⊎ IsPutOff (λ made. made ≡ grown) grown answer new)
-    (IsPutOff (MayBe (Edits p index (machines.Append bytes)) grown) grown answer new ⊎ LandsOr size p bytes index (λ next. Lands size p bytes more (index + 1) next answer new) grown answer new)))
+    (IsPutOff (MayBe (Edits p index (machines.Append bytes)) grown) grown answer new ⊎ LandsOrPasses size p bytes index (λ next. Lands size p bytes more (index + 1) next answer new) grown answer new)))
 
 -- A record goes to the last chunk of a file; a file without one gets its first. One of no bytes is refused.
 abbrev pub Appends : ℕ → List ℕ → Path → List Text → Machine → Result Answer Refusal → Machine → Type 0

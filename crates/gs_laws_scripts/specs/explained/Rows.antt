@@ -75,7 +75,7 @@ records_is_explained = (
     inr (Ok answers.Done, (_, _, ([], inl (refl, refl)), refl, refl), inl refl),
     (
       _,
-      inr (Ok (answers.Number 0), ([], _, refl, inr (refl, ([], _, refl, inr (refl, [], _, refl, inr (refl, refl))))), inl refl),
+      inr (Ok (answers.Number 0), ([], _, refl, inr (refl, ([], _, refl, inr (refl, [], _, refl, inr (inl (refl, refl)))))), inl refl),
       (
         _,
         inr (Err refusals.TooLong, ([], _, refl, inr (refl, ([], _, refl, inr (refl, [], _, refl, inl (refl, refl))))), inl refl),
@@ -84,7 +84,7 @@ records_is_explained = (
           inr (Ok answers.Done, ([], _, refl, inr (refl, ([], _, refl, inr (refl, (refl, refl))))), inl refl),
           (
             _,
-            inr (Ok (answers.Number 16), ([], _, refl, inr (refl, ([], _, refl, inr (refl, [], _, refl, inr ([], _, refl, inr (refl, [], _, refl, inr (refl, refl))))))), inl refl),
+            inr (Ok (answers.Number 16), ([], _, refl, inr (refl, ([], _, refl, inr (refl, [], _, refl, inr (inl ([], _, refl, inr (refl, [], _, refl, inr (inl (refl, refl))))))))), inl refl),
             (
               _,
               inr (Ok (answers.Bytes (97 ∷ 0 ∷ 0 ∷ 0 ∷ 122 ∷ 122 ∷ 122 ∷ 122 ∷ [])), ([], _, refl, inr (refl, ([], [], refl, refl))), inl refl),
@@ -222,7 +222,7 @@ an_unsure_record_is_explained = (
     inr (Ok answers.Done, (_, _, ([], inl (refl, refl)), refl, refl), inl refl),
     (
       _,
-      inr (Ok (answers.Number 0), ([], _, refl, inr (refl, ([], _, refl, inr (refl, [], _, refl, inr (refl, refl))))), inl refl),
+      inr (Ok (answers.Number 0), ([], _, refl, inr (refl, ([], _, refl, inr (refl, [], _, refl, inr (inl (refl, refl)))))), inl refl),
       (
         _,
         inr (Ok answers.Done, ([], refl), inl refl),
@@ -283,7 +283,7 @@ an_upgrade_is_explained = (
             inr (Ok answers.Done, ([], _, refl, inr (refl, ([], _, refl, inr (refl, (refl, refl))))), inl refl),
             (
               _,
-              inr (Ok (answers.Number 4), ([], _, refl, inr (refl, ([], _, refl, inr (refl, [], _, refl, inr (refl, refl))))), inl refl),
+              inr (Ok (answers.Number 4), ([], _, refl, inr (refl, ([], _, refl, inr (refl, [], _, refl, inr (inl (refl, refl)))))), inl refl),
               (
                 _,
                 inr (Ok answers.Done, (_, _, ([], inl (refl, refl)), refl, refl), inl refl),

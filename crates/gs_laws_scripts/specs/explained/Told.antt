@@ -32,7 +32,7 @@ use Rattle.gs_shell_grammar.specs.Grammar as lines
 use Rattle.gs_tree.specs.Edits.{chunks_in}
 use Rattle.gs_tree.specs.Entry.{Dir, File}
 use Rattle.gs_tree.specs.Find.{at}
-use Rattle.gs_laws_scripts.specs.explained.Lines.{Adds, Edits, IsOfStore, Leads, MayBe, done, is_too_long}
+use Rattle.gs_laws_scripts.specs.explained.Lines.{Adds, Edits, IsOfStore, IsSeenFull, Leads, MayBe, done, is_too_long}
 use Rattle.gs_laws_scripts.specs.explained.Machine.{Machine, Payment, Text, fits, is_preparing, is_rolling, new_machine, new_text, paid_now, settled_each, text_at, with_rows}
 use Rattle.gs_laws_scripts.specs.explained.Machine as machines
 use Rattle.std.proofs.Common.{arith, inl}
@@ -76,9 +76,15 @@ IsOutcome size text (machines.Append bytes) (outcomes.Appended offset) = (is_too
 IsOutcome size text (machines.Append bytes) outcomes.Padded = (is_too_long size bytes ≡ false) × (fits size bytes text ≡ false)
 IsOutcome size text edit outcome = ⊥
 
--- An edit that is told done is done at its place, while no prepare is under way. One that nobody is sure of may be owed there. A record that is too long is owed nowhere.
+-- A record passes a text that would be full with some of what is owed to it.
+abbrev pub IsPassed : ℕ → Text → machines.Edit → EditOutcome → Type 0
+IsPassed size text (machines.Append bytes) outcomes.Padded = (is_too_long size bytes ≡ false) × IsSeenFull size text
+IsPassed size text edit outcome = ⊥
+
+-- An edit that is told done is done at its place, while no prepare is under way; or it has passed, and nothing is done. One that nobody is sure of may be owed there. A record that is too long is owed nowhere.
 abbrev pub TellsEdited : ℕ → Machine → Path → ℕ → machines.Edit → Result EditOutcome Refusal → Machine → Type 0
-TellsEdited size now p index edit (Ok outcome) new = (is_preparing now.phase ≡ false) × IsOutcome size (text_at p index now).bytes edit outcome × (new ≡ done size (Edits p index edit) now)
+TellsEdited size now p index edit (Ok outcome) new =
+    (is_preparing now.phase ≡ false) × ((IsOutcome size (text_at p index now).bytes edit outcome × (new ≡ done size (Edits p index edit) now)) ⊎ (IsPassed size (text_at p index now) edit outcome × (new ≡ now)))
 TellsEdited size now p index edit (Err refusal) new =
     MatchBool (is_over size edit) (((refusal ≡ refusals.TooLong) × (new ≡ now)) ⊎ IsLeft (λ made. made ≡ now) now refusal new) (IsLeft (MayBe (Edits p index edit) now) now refusal new)
 
@@ -192,7 +198,7 @@ it_is_told = (
   (
     one_file,
     ([], ((refl, (λ none. absurd (cc)), refl, omega arith), refl)),
-    (done 16 (Edits f 0 (machines.Write 0 (97 ∷ []))) one_file, ([], (refl, tt, refl)), refl),
+    (done 16 (Edits f 0 (machines.Write 0 (97 ∷ []))) one_file, ([], (refl, inl (tt, refl))), refl),
   ),
 )
 

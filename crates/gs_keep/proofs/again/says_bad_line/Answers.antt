@@ -1,6 +1,6 @@
 use Rattle.std.proofs.Common.{◌∙◌, true≢false, List, ℕ, ap, sym, codes, nat_eq}
 use Rattle.std.specs.Cmp.Lexicographic.{pointwise}
-use Rattle.gs_keep.proofs.Asking.{bad_line_is}
+use Rattle.gs_keep.proofs.Lines.{bad_line_is}
 use Rattle.gs_keep.proofs.again.says_bad_line.Goals as goal
 
 pub returns-in-Ok : goal.returns-in-Ok

@@ -1,6 +1,6 @@
 use Rattle.std.proofs.Common.{◌∙◌, true≢false, List, ℕ, ap, sym, codes, nat_eq}
 use Rattle.std.specs.Cmp.Lexicographic.{pointwise}
-use Rattle.gs_keep.proofs.Asking.{memory_is}
+use Rattle.gs_keep.proofs.Lines.{memory_is}
 use Rattle.gs_keep.proofs.again.says_memory.Goals as goal
 
 pub returns-in-Ok-clause-ok : goal.returns-in-Ok-clause-ok

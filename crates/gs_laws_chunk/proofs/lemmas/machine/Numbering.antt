@@ -15,7 +15,7 @@ use Rattle.gs_laws_chunk.specs.machine.Events.{Event, Raises, Rises, Promises, S
 use Rattle.gs_laws_chunk.specs.machine.Acting.{actor}
 use Rattle.gs_laws_chunk.specs.machine.Laws.{Birth, IsReached}
 use Rattle.gs_laws_chunk.specs.machine.Mastering.{AreOfMaster}
-use Rattle.gs_laws_chunk.specs.machine.Numbering.{AreNumbered, BornNumbered, IsBehind, IsNumberedAt, MastersNumber, NumbersAsked, ServersNumber, StandsPrepared, StaysBehind}
+use Rattle.gs_laws_chunk.specs.machine.Numbering.{AreNumbered, BornNumbered, IsBehind, IsNumberedAt, MastersNumber, NumbersAsked, ServersNumber, StandsBetween, StandsPrepared, StaysBehind, WasGivenUp}
 use Rattle.gs_laws_chunk.proofs.lemmas.machine.Facts.{reached_world}
 use Rattle.gs_laws_chunk.proofs.lemmas.machine.Known.{IsPrepared, Later, false_true, later_of}
 use Rattle.gs_laws_chunk.proofs.lemmas.machine.Knowing.{asked_known}
@@ -47,7 +47,7 @@ record Settled (u v : ChunkWorld) : Type 0 where
   top : v.known.top ≡ stamp
   stood : (t : ℕ) → v.known.stood t ≡ cond (nat_eq t stamp) stands (u.known.stood t)
   list : (t : ℕ) → v.known.list t ≡ cond (nat_eq t stamp) edits (u.known.list t)
-  from : (place : ℕ) (edit : Edit) → slice_get edits place ≡ Some edit → (old : ℕ) × (old ≤ u.known.view) × (take (place + 1) edits ≡ take (place + 1) (u.known.list old)) × ((lower : ℕ) → StandsPrepared u.known lower old place → StandsPrepared v.known lower stamp place)
+  from : (place : ℕ) (edit : Edit) → slice_get edits place ≡ Some edit → (old : ℕ) × (old ≤ u.known.view) × (take (place + 1) edits ≡ take (place + 1) (u.known.list old)) × ((lower : ℕ) → StandsPrepared u.known lower old place → StandsPrepared v.known lower stamp place) × ((lower : ℕ) → StandsBetween u.known lower old place → StandsBetween v.known lower stamp place)
 
 abbrev Changes : Event → ChunkWorld → ChunkWorld → Type 0
 Changes e u v = Still e u v ⊎ Settled u v
@@ -99,6 +99,46 @@ module _ (u : ChunkWorld) (ok : WorldOk u) where
             let epoch : epoch_of u.known.view ≡ e = elim (link.legit e is) [ inl under_it ↦ absurd (omega arith) | inr above ↦ omega arith ] in
             subst (λ n. n ≤ u.known.current → u.known.how n ≡ Prepare → u.known.kept n ≡ true → lower ≤ u.known.prepared n → u.known.prepared n < u.known.view → place < length (u.known.list (u.known.prepared n))) epoch
             (first (omega arith) stands) now how kept over (omega arith)
+      ])
+
+  settles_between : (members : List ℕ) (count : ℕ) (holder : Option ℕ) → Can u (Settles members count holder) → (place : ℕ) (edit : Edit) → slice_get (u.known.list u.known.view) place ≡ Some edit → (lower : ℕ) → StandsBetween u.known lower u.known.view place
+      → StandsBetween (happens u (Settles members count holder)).known lower u.known.top place
+  settles_between members count holder can place edit at lower first within stood x low under stood_x spared =
+      let up = moving u ok can.0 in
+      let same : (happens u (Settles members count holder)).known.list x ≡ u.known.list x = ap (λ b. cond b (take count (u.known.list u.known.view)) (u.known.list x)) (below x u.known.top under) in
+      let was : u.known.stood x ≡ true = sym (ap (λ b. cond b true (u.known.stood x)) (below x u.known.top under)) ∙ stood_x in
+      subst (λ xs. place < length xs) (sym same) (elim (cases_eq x u.known.view) [
+        | inl here ↦ subst (λ t. place < length (u.known.list t)) (sym here) (slice_get_within (u.known.list u.known.view) place edit at)
+        | inr other ↦ elim (cases_lt u.known.view x) [
+          | inl over ↦ absurd (false_true (u.known.stood x) ((ok.known).fresh x over).3 was)
+          | inr under_it ↦
+              let known = asked_known u ok members can.1 (λ j y. (can.2 j y).0) in
+              let stands : u.known.stood u.known.view ≡ true = (ok.known).now (sym (ok.entry).standing ∙ known) in
+              first (omega arith) stands x low (omega arith) was (λ g. spared (record { e = g.e; within = g.within; prepare = g.prepare; kept = g.kept; how = g.how; accepted = (let h = g.accepted in omega arith); after = g.after; before = g.before }))
+        ]
+      ])
+
+  -- What stands in the prepared list, and behind a rollback: each view that was settled since the prepare is given up.
+  rolls_between : (members : List ℕ) → Can u (CommitsRollback members true) → (place : ℕ) (edit : Edit) → slice_get (u.known.list (u.known.prepared (u.known.current - 1))) place ≡ Some edit → (lower : ℕ) → StandsBetween u.known lower (u.known.prepared (u.known.current - 1)) place
+      → StandsBetween (happens u (CommitsRollback members true)).known lower (start_of u.known.current) place
+  rolls_between members can place edit at lower first within stood x low under stood_x spared =
+      let c = committing u ok can.0 in
+      let up = (ok.known).viewtop in
+      let least = c.below in
+      let e : ℕ = u.known.current - 1 in
+      let p : ℕ = u.known.prepared e in
+      let is : IsPrepared u.known e = prepared_then u ok can.0 (can.1 refl).0 in
+      let early = (ok.known).before e is in
+      let next : e + 1 ≡ u.known.current = c.same in
+      let start : start_of (e + 1) ≡ start_of u.known.current = ap start_of next in
+      let same : (happens u (CommitsRollback members true)).known.list x ≡ u.known.list x = ap (λ b. cond b (u.known.list p) (u.known.list x)) (below x (start_of u.known.current) under) in
+      let was : u.known.stood x ≡ true = sym (ap (λ b. cond b true (u.known.stood x)) (below x (start_of u.known.current) under)) ∙ stood_x in
+      subst (λ xs. place < length xs) (sym same) (elim (cases_eq x p) [
+        | inl here ↦ subst (λ t. place < length (u.known.list t)) (sym here) (slice_get_within (u.known.list p) place edit at)
+        | inr other ↦ elim (cases_lt p x) [
+          | inl over ↦ absurd (spared (record { e = e; within = omega arith; prepare = is.1; kept = is.2; how = ap u.known.how next ∙ c.how; accepted = omega arith; after = over; before = omega arith }))
+          | inr under_it ↦ first early ((ok.known).ready e is) x low (omega arith) was (λ g. spared (record { e = g.e; within = g.within; prepare = g.prepare; kept = g.kept; how = g.how; accepted = (let h = g.accepted in omega arith); after = g.after; before = g.before }))
+        ]
       ])
 
   changes : (e : Event) → Can u e → Changes e u (happens u e)
@@ -158,7 +198,7 @@ module _ (u : ChunkWorld) (ok : WorldOk u) where
     top = refl;
     stood = λ t. refl;
     list = λ t. refl;
-    from = λ place edit at. (let l = take_within (u.known.list u.known.view) count place edit at in (u.known.view, omega arith, take_fewer (place + 1) count (u.known.list u.known.view) (omega arith), settles_prepared members count holder can place edit (take_from (u.known.list u.known.view) count place edit at)));
+    from = λ place edit at. (let l = take_within (u.known.list u.known.view) count place edit at in (u.known.view, omega arith, take_fewer (place + 1) count (u.known.list u.known.view) (omega arith), settles_prepared members count holder can place edit (take_from (u.known.list u.known.view) count place edit at), settles_between members count holder can place edit (take_from (u.known.list u.known.view) count place edit at)));
   })
   changes (CommitsRollback members true) can =
       let c = committing u ok can.0 in
@@ -174,7 +214,7 @@ module _ (u : ChunkWorld) (ok : WorldOk u) where
         top = refl;
         stood = λ t. refl;
         list = λ t. refl;
-        from = λ place edit at. (u.known.prepared (u.known.current - 1), (ok.known).before (u.known.current - 1) (prepared_then u ok can.0 (can.1 refl).0), refl, λ lower first within stood now how kept over under. absurd (two_ends (u.known.how u.known.current) (ap u.known.how (sym (epoch_of-start u.known.current)) ∙ how) c.how));
+        from = λ place edit at. (u.known.prepared (u.known.current - 1), (ok.known).before (u.known.current - 1) (prepared_then u ok can.0 (can.1 refl).0), refl, λ lower first within stood now how kept over under. absurd (two_ends (u.known.how u.known.current) (ap u.known.how (sym (epoch_of-start u.known.current)) ∙ how) c.how), rolls_between members can place edit at);
       })
   changes (CommitsRollback members false) can =
       let c = committing u ok can.0 in
@@ -254,14 +294,29 @@ prepared_on a b later before anew lower t place low first within stood now how k
       subst (λ p. place < length (b.list p)) (sym same) (omega (arith, length-append (a.list (a.prepared (epoch_of t))) more.0))
 ]
 
+given_up_on : (a b : Known) → Later a b → (x t : ℕ) → WasGivenUp a x t → WasGivenUp b x t
+given_up_on a b later x t g =
+    let within = g.within in
+    let current = later.current in
+    let prepared = later.prepared g.e (omega arith) in
+    let after = g.after in
+    record { e = g.e; within = omega arith; prepare = later.how g.e (omega arith) ∙ g.prepare; kept = later.kept g.e (omega arith) ∙ g.kept; how = later.how (g.e + 1) g.within ∙ g.how; accepted = g.accepted; after = omega arith; before = g.before }
+
+between_on : (a b : Known) → Later a b → (lower t place : ℕ) → t ≤ a.view → StandsBetween a lower t place → StandsBetween b lower t place
+between_on a b later lower t place low first within stood x least less stood_x spared =
+    let was = first low (sym (later.stood t low) ∙ stood) x least less (sym (later.stood x (omega arith)) ∙ stood_x) (λ g. spared (given_up_on a b later x t g)) in
+    let more = later.list x (omega arith) in
+    let long : length (b.list x) ≡ length (a.list x ++ more.0) = ap length more.1 in
+    omega (arith, length-append (a.list x) more.0)
+
 module _ (under : ReqId → Option Stamp) where
   pub born_numbered : (b : Birth) → BornNumbered under b
   born_numbered b t place edit at = inl at
 
   -- the lists of settled views have more, and a list has the same first edits as one had
   module _ (a b : Known) (born : b.born ≡ a.born) (view : a.view ≤ b.view) (stood : (t : ℕ) → t ≤ a.view → b.stood t ≡ a.stood t) (grown : (t : ℕ) → t ≤ a.view → (more : List Edit) × (b.list t ≡ a.list t ++ more)) where
-    moved : (t t2 place : ℕ) (edit : Edit) → (n : IsNumberedAt under a t place edit) → StandsPrepared b n.stamp t2 place → t ≤ t2 → slice_get (a.list t) place ≡ Some edit → take (place + 1) (b.list t2) ≡ take (place + 1) (a.list t) → IsNumberedAt under b t2 place edit
-    moved t t2 place edit n prepared more at first =
+    moved : (t t2 place : ℕ) (edit : Edit) → (n : IsNumberedAt under a t place edit) → StandsPrepared b n.stamp t2 place → StandsBetween b n.stamp t2 place → t ≤ t2 → slice_get (a.list t) place ≡ Some edit → take (place + 1) (b.list t2) ≡ take (place + 1) (a.list t) → IsNumberedAt under b t2 place edit
+    moved t t2 place edit n prepared between more at first =
         let g = grown n.stamp n.settled in
         let there : slice_get (a.list n.stamp) place ≡ Some edit = take_from (a.list n.stamp) (place + 1) place edit (subst (λ xs. slice_get xs place ≡ Some edit) (sym n.same) (take_at (a.list t) (place + 1) place edit (omega arith) at)) in
         let within : place < length (a.list n.stamp) = slice_get_within (a.list n.stamp) place edit there in record {
@@ -273,6 +328,7 @@ module _ (under : ReqId → Option Stamp) where
           asked = n.asked;
           same = ap (take (place + 1)) g.1 ∙ take-append-le (place + 1) (a.list n.stamp) g.0 (omega arith) ∙ n.same ∙ sym first;
           prepared = prepared;
+          between = between;
         }
 
   -- ---- the master
@@ -284,7 +340,7 @@ module _ (under : ReqId → Option Stamp) where
         let was : slice_get (u.known.list t) place ≡ Some edit = subst (λ xs. slice_get xs place ≡ Some edit) same at in
         ⊎_elim (λ first. inl first)
         (λ (n : IsNumberedAt under u.known t place edit). inr (moved u.known v.known s.born (let x = s.view in omega arith) (λ x l. s.stood x) (λ x l. ([], s.master none x ∙ sym (append-nil (u.known.list x)))) t t place edit n
-        (λ within. prepared_on u.known v.known later (ok.known).before anew n.stamp t place (let x = s.view in omega arith) n.prepared within) (omega arith) was (ap (take (place + 1)) same)))
+        (λ within. prepared_on u.known v.known later (ok.known).before anew n.stamp t place (let x = s.view in omega arith) n.prepared within) (λ within. between_on u.known v.known later n.stamp t place (let x = s.view in omega arith) n.between within) (omega arith) was (ap (take (place + 1)) same)))
         (numbered t place edit was)
 
     settled_numbered : Settled u v → AreNumbered under origin v.known
@@ -296,10 +352,10 @@ module _ (under : ReqId → Option Stamp) where
         old_stood : (x : ℕ) → x ≤ u.known.view → v.known.stood x ≡ u.known.stood x
         old_stood x l = (let up = s.above in s.stood x ∙ ap (λ b. cond b s.stands (u.known.stood x)) (below x s.stamp (omega arith)))
 
-        from_old : (t1 : ℕ) → t1 ≤ t → slice_get (u.known.list t1) place ≡ Some edit → take (place + 1) (v.known.list t) ≡ take (place + 1) (u.known.list t1) → ((lower : ℕ) → StandsPrepared u.known lower t1 place → StandsPrepared v.known lower t place) → (slice_get origin place ≡ Some edit) ⊎ IsNumberedAt under v.known t place edit
-        from_old t1 l was first prepared =
+        from_old : (t1 : ℕ) → t1 ≤ t → slice_get (u.known.list t1) place ≡ Some edit → take (place + 1) (v.known.list t) ≡ take (place + 1) (u.known.list t1) → ((lower : ℕ) → StandsPrepared u.known lower t1 place → StandsPrepared v.known lower t place) → ((lower : ℕ) → StandsBetween u.known lower t1 place → StandsBetween v.known lower t place) → (slice_get origin place ≡ Some edit) ⊎ IsNumberedAt under v.known t place edit
+        from_old t1 l was first prepared between =
             ⊎_elim (λ born. inl born)
-            (λ (n : IsNumberedAt under u.known t1 place edit). inr (moved u.known v.known s.born (let x = s.view in let y = s.above in omega arith) old_stood (λ x l. ([], old_list x l ∙ sym (append-nil (u.known.list x)))) t1 t place edit n (prepared n.stamp n.prepared) l was first))
+            (λ (n : IsNumberedAt under u.known t1 place edit). inr (moved u.known v.known s.born (let x = s.view in let y = s.above in omega arith) old_stood (λ x l. ([], old_list x l ∙ sym (append-nil (u.known.list x)))) t1 t place edit n (prepared n.stamp n.prepared) (between n.stamp n.between) l was first))
             (numbered t1 place edit was)
 
         by_stamp : (b : Bool) → nat_eq t s.stamp ≡ b → (slice_get origin place ≡ Some edit) ⊎ IsNumberedAt under v.known t place edit
@@ -311,12 +367,15 @@ module _ (under : ReqId → Option Stamp) where
             let was : slice_get (u.known.list f.0) place ≡ Some edit = take_from (u.known.list f.0) (place + 1) place edit (subst (λ xs. slice_get xs place ≡ Some edit) first (take_at (v.known.list t) (place + 1) place edit (omega arith) at)) in
             let up = s.above in
             let low = f.1 in
-            from_old f.0 (omega arith) was first (λ lower p. subst (λ n. StandsPrepared v.known lower n place) (sym here) (f.3 lower p))
+            from_old f.0 (omega arith) was first (λ lower p. subst (λ n. StandsPrepared v.known lower n place) (sym here) (f.3 lower p)) (λ lower p. subst (λ n. StandsBetween v.known lower n place) (sym here) (f.4 lower p))
         by_stamp false is =
             let same : v.known.list t ≡ u.known.list t = s.list t ∙ ap (λ b. cond b s.edits (u.known.list t)) is in
             from_old t (omega arith) (subst (λ xs. slice_get xs place ≡ Some edit) same at) (ap (take (place + 1)) same) (λ lower p within stood. elim (cases_lt u.known.view t) [
               | inl above ↦ absurd (false_true (u.known.stood t) ((ok.known).fresh t above).3 (sym (ap (λ b. cond b s.stands (u.known.stood t)) is) ∙ sym (s.stood t) ∙ stood))
               | inr low ↦ prepared_on u.known v.known later (ok.known).before anew lower t place low p within stood
+            ]) (λ lower p within stood. elim (cases_lt u.known.view t) [
+              | inl above ↦ absurd (false_true (u.known.stood t) ((ok.known).fresh t above).3 (sym (ap (λ b. cond b s.stands (u.known.stood t)) is) ∙ sym (s.stood t) ∙ stood))
+              | inr low ↦ between_on u.known v.known later lower t place low p within stood
             ])
 
   masters_number : (origin : List Edit) (w v : ChunkWorld) → WorldOk w → (leads : Leads w v) → AreOfMaster w v leads → AreNumbered under origin w.known → AreNumbered under origin v.known
@@ -356,7 +415,7 @@ module _ (under : ReqId → Option Stamp) where
       from_old was first =
           ⊎_elim (λ born. inl born)
           (λ (n : IsNumberedAt under w.known t place edit). inr (moved w.known v.known later.born later.view later.stood later.list t t place edit n
-          (λ within. prepared_on w.known v.known later (ok.known).before (λ e over is. absurd (let now = is.0 in let same = same_current in omega arith)) n.stamp t place (let s = same_view in omega arith) n.prepared within) (omega arith) was first))
+          (λ within. prepared_on w.known v.known later (ok.known).before (λ e over is. absurd (let now = is.0 in let same = same_current in omega arith)) n.stamp t place (let s = same_view in omega arith) n.prepared within) (λ within. between_on w.known v.known later n.stamp t place (let s = same_view in omega arith) n.between within) (omega arith) was first))
           (numbered t place edit was)
 
       -- a list that grows is of a view that was settled, in which a server may number
@@ -378,6 +437,7 @@ module _ (under : ReqId → Option Stamp) where
             asked = subst (λ (e : Edit). under e.req ≡ Some (stamp_at t)) last.1 was_asked;
             same = refl;
             prepared = λ within stood now how kept over under. absurd (omega arith);
+            between = λ within stood x low under stood_x spared. absurd (omega arith);
           }))
           (at_push (w.known.list t) new place edit (subst (λ xs. slice_get xs place ≡ Some edit) is at))
 

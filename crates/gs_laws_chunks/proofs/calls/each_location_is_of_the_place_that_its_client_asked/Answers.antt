@@ -1,4 +1,4 @@
-use Rattle.gs_laws_chunks.proofs.lemmas.calls.Runs.{disks_told, kept_told, replies_told}
+use Rattle.gs_laws_chunks.proofs.lemmas.calls.Runs.{disks_told, kept_told, replies_told, told_since}
 use Rattle.gs_laws_chunks.proofs.lemmas.calls.Stood.{told_stood}
 use Rattle.gs_laws_chunks.proofs.calls.each_location_is_of_the_place_that_its_client_asked.Goals as goal
 
@@ -13,3 +13,6 @@ returns-clause-disks g c seen failures armed = disks_told seen failures armed c.
 
 pub returns-clause-stood : goal.returns-clause-stood
 returns-clause-stood g c = told_stood
+
+pub returns-clause-since : goal.returns-clause-since
+returns-clause-since g c seen failures armed = told_since seen failures armed c.configurations_have_sizes.ensures

@@ -103,7 +103,7 @@ module _ (bytes : ReqId → List ℕ) (asked : ℕ → Asked) (size : ℕ) (sent
 
 -- ---- each edit of each list
 
-some_at : (place : ℕ) (edit : Edit) (edits : List Edit) → edits ≡ [] → slice_get edits place ≡ Some edit → ⊥
+pub some_at : (place : ℕ) (edit : Edit) (edits : List Edit) → edits ≡ [] → slice_get edits place ≡ Some edit → ⊥
 some_at place edit edits none at = none_at (subst (λ xs. slice_get xs place ≡ Some edit) none at)
   where
     none_at : ◌≡◌ {A = Option Edit} (slice_get [] place) (Some edit) → ⊥

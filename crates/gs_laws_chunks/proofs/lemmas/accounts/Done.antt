@@ -66,7 +66,7 @@ at_middle xs y ys = subst (λ zs. slice_get zs (length xs) ≡ Some y) (append_a
 front_of : {X : Type 0} (xs ys : List X) → take (length xs) (xs ++ ys) ≡ xs
 front_of xs ys = take-append-le (length xs) xs ys (omega arith) ∙ take_all (length xs) xs (omega arith)
 
-some_of : {X : Type 0} (o : Option X) → is_some o ≡ true → (x : X) × (o ≡ Some x)
+pub some_of : {X : Type 0} (o : Option X) → is_some o ≡ true → (x : X) × (o ≡ Some x)
 some_of None is = absurd (cc)
 some_of (Some x) is = (x, refl)
 
@@ -82,10 +82,10 @@ asked_here chunk handle under stamp is = by_handle (chunk == handle) refl is
 
 -- ---- epochs
 
-undone_is : (d : Durable) (s : Stamp) → slice_get d.ends s.epoch ≡ Some Rollback → is_undone d s ≡ true
+pub undone_is : (d : Durable) (s : Stamp) → slice_get d.ends s.epoch ≡ Some Rollback → is_undone d s ≡ true
 undone_is d s is = rw is refl
 
-ends_long : (past : List EpochEnd) (epoch : ℕ) (phase : Phase) → are_ends past epoch phase ≡ true → length past ≡ epoch
+pub ends_long : (past : List EpochEnd) (epoch : ℕ) (phase : Phase) → are_ends past epoch phase ≡ true → length past ≡ epoch
 ends_long past epoch phase is = (let same = (both_true (length past == epoch) _ is).0 in grind (arith, nat_tests))
 
 -- ---- what the machine has done

@@ -623,7 +623,7 @@ module _ {D : Type 0} (seen : D → List ℕ) (failures : D → ℕ) (armed : Di
 
 -- ---- a new store
 
-one_or_last : {A : Type 0} (xs : List A) (x : A) (place : ℕ) (y : A) → slice_get (xs ++ x ∷ []) place ≡ Some y → (slice_get xs place ≡ Some y) ⊎ ((place ≡ length xs) × (y ≡ x))
+pub one_or_last : {A : Type 0} (xs : List A) (x : A) (place : ℕ) (y : A) → slice_get (xs ++ x ∷ []) place ≡ Some y → (slice_get xs place ≡ Some y) ⊎ ((place ≡ length xs) × (y ≡ x))
 one_or_last [] x zero y is = inr (refl, cc)
 one_or_last [] x (suc place) y is = absurd cc
 one_or_last (z ∷ xs) x zero y is = inl is
@@ -637,7 +637,7 @@ new_many : (many : ℕ) → length (new_clients many) ≡ many
 new_many zero = refl
 new_many (suc many) = (let long = length-append (new_clients many) (silent (record { 0 = many + 1 }) ∷ []) in let before = new_many many in grind (arith, common_steps))
 
-new_numbered : (many : ℕ) → Numbered_all (new_clients many)
+pub new_numbered : (many : ℕ) → Numbered_all (new_clients many)
 new_numbered zero place n is = absurd cc
 new_numbered (suc many) place n is = by (one_or_last (new_clients many) (silent (record { 0 = many + 1 })) place n is) (new_numbered many place n)
   where

@@ -37,7 +37,7 @@ use Rattle.gs_laws_world.specs.steady.Saying.{IsStepWithin}
 use Rattle.gs_laws_lift.proofs.lemmas.stores.Beginning.{begins_none}
 use Rattle.gs_laws_lift.proofs.lemmas.stores.Posting.{posted_all}
 use Rattle.gs_laws_lift.specs.stores.Going.{AllSent}
-use Rattle.gs_laws_chunks.proofs.lemmas.calls.Runs.{StandsAsked, begins, posts, step_asks}
+use Rattle.gs_laws_chunks.proofs.lemmas.calls.Runs.{StandsAsked, Tellings, begins, posts, step_asks}
 use Rattle.gs_laws_chunks.specs.calls.Asked.{ArmsAlone}
 use Rattle.gs_laws_chunks.specs.calls.One.{AreOneCall, IsCalledIn, RequestsAreOneCall}
 
@@ -218,12 +218,16 @@ module _ {D : Type 0} (seen : D → List ℕ) (failures : D → ℕ) (armed : Di
       (old_now old event.happening seen asked) (new_now old event.happening seen asked (sent_by h.outcome) calls)) one
   step_one old new (Takes client) (found, takes, same) asked one = subst AreOneCall (sym same) one
 
-  run_one : (arms : ArmsAlone seen failures armed) (steps : List Step) (begun old new : History D) → RunsTo seen failures armed steps old new → AllByRecursion IsStepWithin steps → StandsAsked seen failures armed begun old → AreOneCall old.sent → AreOneCall new.sent
-  run_one arms [] begun old new same within k one = subst (λ (h : History D). AreOneCall h.sent) (sym same) one
-  run_one arms (step ∷ steps) begun old new (mid, goes, rest) within k one =
-      run_one arms steps begun mid new rest within.1 (step_asks seen failures armed arms begun old mid step goes within.0 k) (step_one old mid step goes k.asked one)
+  -- whatever is told
+  abbrev Anything : Tellings
+  Anything req chunk view epoch = Unit {0}
+
+  run_one : (arms : ArmsAlone seen failures armed) (steps : List Step) (old new : History D) → RunsTo seen failures armed steps old new → AllByRecursion IsStepWithin steps → StandsAsked seen failures armed Anything old → AreOneCall old.sent → AreOneCall new.sent
+  run_one arms [] old new same within k one = subst (λ (h : History D). AreOneCall h.sent) (sym same) one
+  run_one arms (step ∷ steps) old new (mid, goes, rest) within k one =
+      run_one arms steps mid new rest within.1 (step_asks seen failures armed arms Anything old mid step goes within.0 (λ req chunk view epoch told. tt) k) (step_one old mid step goes k.asked one)
 
   pub requests_are_one : HaveSizes → RequestsAreOneCall seen failures armed
   requests_are_one sizes now r =
-      run_one r.arms r.steps r.begun r.begun now r.runs r.within (begins seen failures armed sizes now r)
+      run_one r.arms r.steps r.begun now r.runs r.within (begins seen failures armed sizes now r Anything)
       (λ req a b x y. absurd (begins_none seen failures armed sizes r.config (λ q. []) r.clients r.disks r.begun r.new r.begins (λ m. ⊥) x.1.0 x.0 x.1.1))

@@ -52,7 +52,7 @@ use Rattle.gs_nodes.specs.declared.place.MasterPlace.{MasterPlace}
 use Rattle.gs_nodes.specs.declared.place.MasterPlace.TheVariants.{Away, Closed, Standing}
 use Rattle.gs_world.proofs.Sending.{sent_still, step_stays}
 use Rattle.gs_world.specs.Histories.{History, Upshot, told}
-use Rattle.gs_world.specs.Runs.{Comes, Goes, RunsTo, StaySent, Step}
+use Rattle.gs_world.specs.Runs.{Comes, Goes, StaySent, Step}
 use Rattle.gs_world.specs.Sent.{message_of}
 use Rattle.gs_laws_chunks.proofs.lemmas.answers.Asked.{reopens_said, servers_said}
 use Rattle.gs_laws_chunks.proofs.lemmas.answers.Parts.{Armed, Asked, Heard, Opened, Part, Rested, Served, Ticked, Told}
@@ -65,7 +65,7 @@ use Rattle.gs_laws_lift.proofs.lemmas.stores.DoingAll.{failed_answers}
 use Rattle.gs_laws_lift.proofs.lemmas.stores.Reopening.{standing_is}
 use Rattle.gs_laws_chunks.proofs.lemmas.calls.Turns.{IsTurnFor, for_calls, turn_for}
 use Rattle.gs_laws_chunks.specs.calls.Asked.{ArmsAlone, StandForCalls, WaitAsSent, WaitAt, WereSent, heard_at}
-use Rattle.gs_laws_chunks.specs.calls.Told.{WasTold}
+use Rattle.gs_laws_chunks.specs.calls.Told.{IsToldAt}
 
 -- ---- messages
 
@@ -144,34 +144,20 @@ none_below place records below none = (let less = ap (λ (xs : List PlainEntry).
 pub none_told : (req : ReqId) (chunk : ℕ) (view : View) (epoch : ℕ) → IsToldIn fin.empty req chunk view epoch → ⊥
 none_told req chunk view epoch k = false≢true (ap is_some (sym (fin.get-empty client_cmp req.client) ∙ k.has))
 
-module _ {D : Type 0} (seen : D → List ℕ) (failures : D → ℕ) (armed : DiskId → ℕ → MasterPlace D → MasterPlace D) where
-  pub one_more : (steps : List Step) (begun old new : History D) (step : Step) → RunsTo seen failures armed steps begun old → Goes seen failures armed step old new → RunsTo seen failures armed (steps ++ step ∷ []) begun new
-  one_more [] begun old new step same goes = (new, subst (λ (h : History D). Goes seen failures armed step h new) same goes, refl)
-  one_more (first ∷ steps) begun old new step (mid, one, rest) goes = (mid, one, one_more steps mid old new step rest goes)
+module _ {D : Type 0} (seen : D → List ℕ) (failures : D → ℕ) (armed : DiskId → ℕ → MasterPlace D → MasterPlace D) (W : ReqId → ℕ → View → ℕ → Type 0) where
+  abbrev pub KeptAt : History D → Type 0
+  KeptAt h = (m : MasterOf D) → h.nodes.master ≡ Standing m → (req : ReqId) (chunk : ℕ) (view : View) (epoch : ℕ) → KeepsLocation m.state req chunk view epoch → W req chunk view epoch
 
-  pub told_later : (begun old new : History D) (step : Step) → Goes seen failures armed step old new → (req : ReqId) (chunk : ℕ) (view : View) (epoch : ℕ) → WasTold seen failures armed begun old req chunk view epoch → WasTold seen failures armed begun new req chunk view epoch
-  told_later begun old new step goes req chunk view epoch w =
-      record { old = w.old; mid = w.mid; before = w.before; step = w.step; after = w.after ++ step ∷ []; first = w.first; goes = w.goes; rest = one_more w.after w.mid old new step w.rest goes; told = w.told }
+  abbrev pub ToldAt : History D → Type 0
+  ToldAt h = (d : Durable) → TellsAt seen h.nodes.master d → (req : ReqId) (chunk : ℕ) (view : View) (epoch : ℕ) → IsToldIn d.replies req chunk view epoch → W req chunk view epoch
 
-  abbrev pub KeptAt : History D → History D → Type 0
-  KeptAt begun h = (m : MasterOf D) → h.nodes.master ≡ Standing m → (req : ReqId) (chunk : ℕ) (view : View) (epoch : ℕ) → KeepsLocation m.state req chunk view epoch → WasTold seen failures armed begun h req chunk view epoch
-
-  abbrev pub ToldAt : History D → History D → Type 0
-  ToldAt begun h = (d : Durable) → TellsAt seen h.nodes.master d → (req : ReqId) (chunk : ℕ) (view : View) (epoch : ℕ) → IsToldIn d.replies req chunk view epoch → WasTold seen failures armed begun h req chunk view epoch
-
-  module _ (arms : ArmsAlone seen failures armed) (begun old new : History D) (step : Step) (goes : Goes seen failures armed step old new) (before : List Step) (runs : RunsTo seen failures armed before begun old) (within : StepWithin step old) (asked : AreAsked seen old)
-      (lasts : LastsThrough seen old.nodes.master) (waits : WaitAt old.sent old.nodes.master) (kept : KeptAt begun old) (disks : ToldAt begun old) where
-    abbrev W : ReqId → ℕ → View → ℕ → Type 0
-    W req chunk view epoch = WasTold seen failures armed begun new req chunk view epoch
-
+  module _ (arms : ArmsAlone seen failures armed) (old new : History D) (step : Step) (goes : Goes seen failures armed step old new) (here : (req : ReqId) (chunk : ℕ) (view : View) (epoch : ℕ) → IsToldAt step old req chunk view epoch → W req chunk view epoch)
+      (within : StepWithin step old) (asked : AreAsked seen old) (lasts : LastsThrough seen old.nodes.master) (waits : WaitAt old.sent old.nodes.master) (kept : KeptAt old) (disks : ToldAt old) where
     stay : StaySent old.sent new.sent
     stay = step_stays seen failures armed step old new goes
 
     were_still : (all : List (ReqId × Call)) → WereSent old.sent all → WereSent new.sent all
     were_still all were req call there = (let w = were req call there in record { message = w.message; there = sent_still w.message old.sent new.sent stay w.there; to = w.to; from = w.from; is = w.is })
-
-    later : (req : ReqId) (chunk : ℕ) (view : View) (epoch : ℕ) → WasTold seen failures armed begun old req chunk view epoch → W req chunk view epoch
-    later = told_later begun old new step goes
 
     -- what is left of the master, and what is sent
     pub record LeavesTold (place : MasterPlace D) (messages : List Message) : Type 0 where
@@ -183,7 +169,7 @@ module _ {D : Type 0} (seen : D → List ℕ) (failures : D → ℕ) (armed : Di
 
     module _ (m : MasterOf D) (at : old.nodes.master ≡ Standing m) where
       kept_before : (req : ReqId) (chunk : ℕ) (view : View) (epoch : ℕ) → KeepsLocation m.state req chunk view epoch → W req chunk view epoch
-      kept_before req chunk view epoch k = later req chunk view epoch (kept m at req chunk view epoch k)
+      kept_before req chunk view epoch k = kept m at req chunk view epoch k
 
       waits_there : is_failed m.state.fault ≡ false → WaitAsSent old.sent m.state ⊎ (is_failed m.state.fault ≡ true) → WaitAsSent old.sent m.state
       waits_there sound (inl w) = w
@@ -194,8 +180,7 @@ module _ {D : Type 0} (seen : D → List ℕ) (failures : D → ℕ) (armed : Di
 
       of_turn : (t : Turn) → TurnsAt step old m t → is_failed m.state.fault ≡ false → (f : IsTurnFor step old m t) → (req : ReqId) (chunk : ℕ) (view : View) (epoch : ℕ) → WasToldFor f.all m.config (heard_at step old.sent) m.state t req chunk view epoch → W req chunk view epoch
       of_turn t made sound f req chunk view epoch (inl k) = kept_before req chunk view epoch k
-      of_turn t made sound f req chunk view epoch (inr is) =
-          record { old = old; mid = new; before = before; step = step; after = []; first = runs; goes = goes; rest = refl; told = record { m = m; t = t; at = at; sound = sound; turns = made; all = f.all; were = f.were; told = is } }
+      of_turn t made sound f req chunk view epoch (inr is) = here req chunk view epoch (record { m = m; t = t; at = at; sound = sound; turns = made; all = f.all; were = f.were; told = is })
 
       part_told : (t : Turn) → TurnsAt step old m t → is_failed m.state.fault ≡ false → (many : ℕ) (e : Durable) → replayed m.state.durable (take many t.records) ≡ Some e → (req : ReqId) (chunk : ℕ) (view : View) (epoch : ℕ) → IsToldIn e.replies req chunk view epoch → W req chunk view epoch
       part_told t made sound many e fit req chunk view epoch k =
@@ -271,14 +256,14 @@ module _ {D : Type 0} (seen : D → List ℕ) (failures : D → ℕ) (armed : Di
 
     -- ---- what its disks tell then
 
-    pub told_new : ToldAt begun new
+    pub told_new : ToldAt new
     told_new e tells req chunk view epoch k =
         let d = tells_some seen failures old.nodes.master lasts in
         let on = step_on seen failures armed arms.lasts arms.told step old new d.0 goes within lasts d.1 in
         by_on d.0 d.1 on.durable on.on (subst (λ (x : Durable). IsToldIn x.replies req chunk view epoch) (tells_once seen failures new.nodes.master e on.durable tells on.tells) k)
       where
         by_on : (d : Durable) → TellsAt seen old.nodes.master d → (f : Durable) → TellsOn (TurnsAt step old) old.nodes.master d f → IsToldIn f.replies req chunk view epoch → W req chunk view epoch
-        by_on d was f (inl same) k = later req chunk view epoch (disks d was req chunk view epoch (subst (λ (x : Durable). IsToldIn x.replies req chunk view epoch) same k))
+        by_on d was f (inl same) k = disks d was req chunk view epoch (subst (λ (x : Durable). IsToldIn x.replies req chunk view epoch) same k)
         by_on d was f (inr part) k =
             let m = part.master in
             let state = sound_tells seen failures m part.sound (subst (LastsThrough seen) part.place lasts) in
@@ -341,7 +326,7 @@ module _ {D : Type 0} (seen : D → List ℕ) (failures : D → ℕ) (armed : Di
               below k less = omega arith
 
           by_kept : (req : ReqId) (chunk : ℕ) (view : View) (epoch : ℕ) → KeepsLocation (restarted d log) req chunk view epoch → W req chunk view epoch
-          by_kept req chunk view epoch (inl k) = later req chunk view epoch (disks d tells req chunk view epoch k)
+          by_kept req chunk view epoch (inl k) = disks d tells req chunk view epoch k
           by_kept req chunk view epoch (inr k) = absurd (none_told req chunk view epoch k)
 
       closed_left : (first second : D) → LeavesTold (Closed first second) []

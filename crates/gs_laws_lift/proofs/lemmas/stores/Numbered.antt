@@ -120,7 +120,7 @@ numbering_goes_on seen config bytes asked born chunk step old new origin w v rea
 pub numbered_first : (asked : ℕ → Asked) → NumberedIsFirst asked
 numbered_first asked chunk origin k numbered apart t place edit stamp at under = ⊎_elim
     (λ first. absurd (never (asked_under asked chunk edit.req) (apart place edit first) under))
-    (λ (n : IsNumberedAt (asked_under asked chunk) k t place edit). record { number = n.stamp; is = same (sym under ∙ n.asked); within = n.within; stood = n.stood; late = n.late; same = n.same; prepared = n.prepared })
+    (λ (n : IsNumberedAt (asked_under asked chunk) k t place edit). record { number = n.stamp; is = same (sym under ∙ n.asked); within = n.within; stood = n.stood; late = n.late; same = n.same; prepared = n.prepared; between = n.between })
     (numbered t place edit at)
   where
     never : (o : Option Stamp) → o ≡ None → o ≡ Some stamp → ⊥

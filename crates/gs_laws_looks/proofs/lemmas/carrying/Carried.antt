@@ -41,6 +41,7 @@ use Rattle.gs_laws_world.specs.steady.Unarmed.{unarmed}
 use Rattle.gs_laws_world.specs.steady.Saying.{IsAskedWithin, IsStepWithin}
 use Rattle.gs_laws_chunks.proofs.lemmas.desks.Ending.{Alike, CanPost, IsOver, alike_covers, as_it_is, asking_client, delivered_posts, ended, master_posts, sent_moment, server_posts}
 use Rattle.gs_laws_chunks.proofs.lemmas.desks.Sending.{Posting, sends, sends_none}
+use Rattle.gs_laws_looks.specs.carrying.Asked.{Delivers}
 use Rattle.gs_laws_looks.specs.carrying.Carried.{CallsAreCarried, IsCarried}
 
 -- what the client has asked last
@@ -116,6 +117,7 @@ module _ {D : Type 0} (seen : D → List ℕ) (failures : D → ℕ) where
       pub covers : Covers after new
       pub within : AllByRecursion IsStepWithin steps
       pub looking : AllByRecursion (IsLooking client) steps
+      pub only : AllByRecursion Delivers steps
       pub last : (number : ℕ) → LastIs client number old.nodes.clients → LastIs client number new.nodes.clients
       pub moment : new.moment ≡ old.moment
 
@@ -138,6 +140,7 @@ module _ {D : Type 0} (seen : D → List ℕ) (failures : D → ℕ) where
       covers = b.covers;
       within = both IsStepWithin a.steps b.steps a.within b.within;
       looking = both (IsLooking client) a.steps b.steps a.looking b.looking;
+      only = both Delivers a.steps b.steps a.only b.only;
       last = λ number is. b.last number (a.last number is);
       moment = b.moment ∙ a.moment;
     }
@@ -156,6 +159,7 @@ module _ {D : Type 0} (seen : D → List ℕ) (failures : D → ℕ) where
       covers = subst (λ w. Covers sent w) (sym same) covers;
       within = tt;
       looking = tt;
+      only = tt;
       last = λ number is. subst (λ (w : Way D). LastIs client number w.nodes.clients) (sym same) is;
       moment = ap (λ (w : Way D). w.moment) same;
     }
@@ -177,15 +181,16 @@ module _ {D : Type 0} (seen : D → List ℕ) (failures : D → ℕ) where
         by x (inr before) = last x before
     part_last old moment happening outcome new none (Rested silent same) number last = subst (λ (n : Nodes D). LastIs client number n.clients) (sym same) last
 
-    calm_event : (happening : Happening) (by : NodeId) (outcome : Upshot) (nodes : Nodes D) (old new : Way D) (sent : Sent) → IsLooking client (Comes (record { moment = old.moment; happening = happening })) → IsAskedWithin happening
+    calm_event : (happening : Happening) (by : NodeId) (outcome : Upshot) (nodes : Nodes D) (old new : Way D) (sent : Sent) → IsLooking client (Comes (record { moment = old.moment; happening = happening })) → Delivers (Comes (record { moment = old.moment; happening = happening })) → IsAskedWithin happening
         → ((req : ReqId) (request : Request) → happening ≡ happenings.Ask req request → ⊥) → AtNode seen failures unarmed old.moment happening (history sent old) by outcome nodes → CanPost sent by outcome → Covers sent old → IsNumber old.moment.0 → IsOver outcome (with_nodes nodes old) new → Calm old new sent
-    calm_event happening by outcome nodes old new sent looking within none at can covers small over = (let one = one_event happening by outcome nodes old new sent at can covers over in record {
+    calm_event happening by outcome nodes old new sent looking delivers within none at can covers small over = (let one = one_event happening by outcome nodes old new sent at can covers over in record {
       steps = Comes (record { moment = old.moment; happening = happening }) ∷ [];
       after = one.after;
       runs = (history one.after new, (one.said, one.happens), refl);
       covers = one.covers;
       within = ((small, within), tt);
       looking = (looking, tt);
+      only = (delivers, tt);
       last = λ number last. part_last (history sent old) old.moment happening one.happens.outcome new.nodes none (part_of seen failures unarmed (history sent old) old.moment happening one.happens.by one.happens.outcome new.nodes one.happens.at) number last;
       moment = one.moment;
     })
@@ -194,7 +199,7 @@ module _ {D : Type 0} (seen : D → List ℕ) (failures : D → ℕ) where
 
     delivers_one : (message : Message) (old : Way D) (said : Result (Unit {0}) Refusal) (new : Way D) (sent : Sent) → IsDelivered seen failures message old said new → IsSent message sent → Covers sent old → IsNumber old.moment.0 → Calm old new sent
     delivers_one message old said new sent d (id, is) covers small =
-        calm_event (happenings.Deliver id) message.to (told d.turn) d.nodes old new sent (refl, tt) tt (λ req request is. absurd cc)
+        calm_event (happenings.Deliver id) message.to (told d.turn) d.nodes old new sent (refl, tt) tt tt (λ req request is. absurd cc)
         (subst (λ (o : Option Message). MatchOption o ((told d.turn ≡ Err refusals.Range) × (d.nodes ≡ old.nodes) × (message.to ≡ id.sender)) (λ m. ComesTo seen failures unarmed id.sender m old.moment old.nodes message.to (told d.turn) d.nodes)) (sym is)
         (inl (refl, d.turn, d.delivers, refl))) (delivered_posts seen failures message old.moment sent old.nodes d.turn d.nodes covers.servers d.delivers) covers small (ended d.turn (with_nodes d.nodes old) said new d.ends)
 
@@ -203,7 +208,7 @@ module _ {D : Type 0} (seen : D → List ℕ) (failures : D → ℕ) where
         let all : AllSent sent (message ∷ rest) = subst (λ (l : List Message). AllSent sent l) is covers.queue in (all.0, record { queue = all.1; held = covers.held; servers = covers.servers; clients = covers.clients; short = covers.short })
 
     from_queue : (queue : List Message) (old new : Way D) (sent : Sent) → Calm (with_queue queue old) new sent → Calm old new sent
-    from_queue queue old new sent c = record { steps = c.steps; after = c.after; runs = c.runs; covers = c.covers; within = c.within; looking = c.looking; last = c.last; moment = c.moment }
+    from_queue queue old new sent c = record { steps = c.steps; after = c.after; runs = c.runs; covers = c.covers; within = c.within; looking = c.looking; only = c.only; last = c.last; moment = c.moment }
 
     delivers_next : (many : ℕ) (old new : Way D) (queue : List Message) → old.queue ≡ queue → ((mid : Way D) → DeliversAll seen failures many mid new → Leads mid new)
         → WithFirst queue (new ≡ old) (λ message rest. (said : Result (Unit {0}) Refusal) × (mid : Way D) × IsDelivered seen failures message (with_queue rest old) said mid × DeliversAll seen failures many mid new) → Leads old new
@@ -225,12 +230,12 @@ module _ {D : Type 0} (seen : D → List ℕ) (failures : D → ℕ) where
 
     master_ticks : (old new : Way D) → MasterTicked seen failures old new → Leads old new
     master_ticks old new t sent covers small =
-        calm_event (happenings.Tick keepers.Master) nodes.Master (told t.turn) (with_master t.place old.nodes) old new sent (refl, tt) tt (λ req request is. absurd cc) (refl, (t.place, t.turn, t.ticks, refl, refl)) (master_posts sent t.turn) covers small
+        calm_event (happenings.Tick keepers.Master) nodes.Master (told t.turn) (with_master t.place old.nodes) old new sent (refl, tt) tt tt (λ req request is. absurd cc) (refl, (t.place, t.turn, t.ticks, refl, refl)) (master_posts sent t.turn) covers small
         (ended t.turn (with_nodes (with_master t.place old.nodes) old) t.said new t.ends)
 
     server_ticks : (id : ℕ) (old new : Way D) → ServerTicked id old new → Leads old new
     server_ticks id old new t sent covers small =
-        calm_event (happenings.Tick (keepers.Server id)) (nodes.Server id) (told t.turn) t.nodes old new sent (refl, tt) tt (λ req request is. absurd cc) (refl, (t.turn, t.ticks, refl))
+        calm_event (happenings.Tick (keepers.Server id)) (nodes.Server id) (told t.turn) t.nodes old new sent (refl, tt) tt tt (λ req request is. absurd cc) (refl, (t.turn, t.ticks, refl))
         (server_posts sent id (λ s. ServerDoes (servers.tick s old.moment) s) old.nodes t.turn t.nodes covers.servers t.ticks) covers small (ended t.turn (with_nodes t.nodes old) t.said new t.ends)
 
     servers_tick : (many : ℕ) (old new : Way D) → ServersTick many old new → Leads old new

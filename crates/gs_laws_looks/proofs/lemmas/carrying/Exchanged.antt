@@ -1,218 +1,128 @@
 -- What a desk carries for a client that reads is a request with its reply.
-use Rattle.std.proofs.Common.{if◌then◌else◌, ◌≡◌, ◌∙◌, inl, ◌-◌, ◌<◌, ℕ, Bool, true, false, List, [], ◌∷◌, Option, Some, None, MatchOption, Result, Ok, Err, Vec, refl, sym, ap, subst, arith, nat_le, slice_set}
+use Rattle.std.proofs.Common.{◌≡◌, ◌∙◌, ◌⊎◌, inl, inr, ℕ, List, [], ◌∷◌, Option, Some, None, Ok, Err, refl, sym, ap, subst}
 use Rattle.std.specs.Prelude.{unwrap_or}
-use Rattle.std.specs.declared.alloc.Global.{Global}
-use Rattle.std.proofs.lemmas.Bool.Decides.{nat_tests}
-use Rattle.gs_base.specs.Told.{IsNumber}
+use Rattle.std.specs.List.{AllByRecursion}
+use Rattle.gs_base.specs.declared.numbers.ClientId.{ClientId}
 use Rattle.gs_base.specs.declared.numbers.Moment.{Moment}
 use Rattle.gs_base.specs.declared.numbers.ReqId.{ReqId}
-use Rattle.gs_base.specs.declared.refusal.Refusal.{Refusal}
-use Rattle.gs_base.specs.declared.refusal.Refusal.TheVariants as refusals
-use Rattle.gs_client.specs.Nodes.{Asks, Node, given_up, messages_of, request_of}
 use Rattle.gs_client.specs.declared.link.Reply.{Reply}
 use Rattle.gs_client.specs.declared.link.Reply.TheVariants as replies
+use Rattle.gs_msg.specs.declared.event.Happening.{Happening}
 use Rattle.gs_msg.specs.declared.event.Happening.TheVariants as happenings
 use Rattle.gs_msg.specs.declared.event.Request.{Request}
-use Rattle.gs_msg.specs.declared.message.Message.{Message}
-use Rattle.gs_msg.specs.declared.node.NodeId.TheVariants as nodes
-use Rattle.gs_nodes.specs.Happenings.{AtClient, ClientAsks, client_in}
-use Rattle.gs_nodes.specs.Nodes.{Nodes, with_clients}
-use Rattle.gs_shell_desk.specs.Ways.{AnswersAsked, IsAsked, Way, shortened_by, with_nodes}
-use Rattle.gs_world.proofs.Staying.{at_client}
-use Rattle.gs_world.specs.Histories.{Happens}
-use Rattle.gs_world.specs.Runs.{Comes, Goes, Step, Takes}
-use Rattle.gs_world.specs.Sent.{Sent}
-use Rattle.gs_laws_chunks.proofs.lemmas.answers.Asked.{found_now}
-use Rattle.gs_laws_chunks.proofs.lemmas.answers.Parts.{asking}
+use Rattle.gs_msg.specs.declared.event.Request.TheVariants as requests
+use Rattle.gs_world.specs.Histories.{History}
+use Rattle.gs_world.specs.Runs.{Comes, RunsTo, Step, Takes}
 use Rattle.gs_laws_chunks.specs.answers.Resting.{IsLooking}
-use Rattle.gs_laws_looks.proofs.lemmas.carrying.Carried.{Calm, LastIs, OneEvent, chain, delivers_whole, one_event, waited_if}
+use Rattle.gs_laws_looks.proofs.lemmas.carrying.Asked.{requests_are_carried}
+use Rattle.gs_laws_looks.specs.carrying.Asked.{Delivers, IsAnswered, OnlyDelivers, WasAsked, WasAskedAndTaken, WasRefused}
 use Rattle.gs_laws_looks.specs.carrying.Exchanged.{HasReply, IsExchanged, Looks, LooksAreCarried, Went}
-use Rattle.gs_laws_chunks.proofs.lemmas.desks.Ending.{alike_to, as_it_is, asking_client, shortened_alike}
-use Rattle.gs_laws_world.specs.steady.Asking.{MayBeAsked, asks_at}
-use Rattle.gs_laws_chunks.specs.desks.Reached.{Covers, history}
+use Rattle.gs_laws_chunks.specs.desks.Reached.{history}
+use Rattle.gs_laws_world.specs.steady.Asking.{asks_at}
 use Rattle.gs_laws_world.specs.steady.Unarmed.{unarmed}
-use Rattle.gs_laws_world.specs.steady.Saying.{IsStepWithin}
 
-node_is : {a b : Node} → ◌≡◌ {A = Option Node} (Some a) (Some b) → a ≡ b
-node_is is = cc
+-- where messages are delivered and nodes tick nothing is asked
+looks_so : (client : ClientId) (step : Step) → Delivers step → IsLooking client step
+looks_so client (Comes event) is = by event.happening is
+  where
+    by : (h : Happening) → Delivers (Comes (record event { happening = h })) → IsLooking client (Comes (record event { happening = h }))
+    by (happenings.Deliver message) is = (refl, tt)
+    by (happenings.Tick node) is = (refl, tt)
+    by (happenings.Ask req request) is = absurd is
+    by (happenings.Beat server) is = absurd is
+    by (happenings.Restart node) is = absurd is
+    by (happenings.Lose server chunk) is = absurd is
+    by (happenings.Damage server chunk block) is = absurd is
+    by (happenings.FailDisk disk call) is = absurd is
+looks_so client (Takes other) is = absurd is
 
-module _ {D : Type 0} (seen : D → List ℕ) (failures : D → ℕ) (sent : Sent) (old new : Way D) (req : ReqId) (request : Request) (reply : Reply) (covers : Covers sent old) (small : IsNumber old.moment.0) (may : IsNumber req.number × MayBeAsked request)
-    (looking : IsLooking req.client (Comes (asks_at old.moment req request))) where
-  abbrev Asks_at : Result (Vec Message Global) Refusal → Nodes D → Type 0
-  Asks_at out after = AtClient req.client (Err refusals.Range) (ClientAsks req.number request) old.nodes out after
+all_look : (client : ClientId) (steps : List Step) → AllByRecursion Delivers steps → AllByRecursion (IsLooking client) steps
+all_look client [] is = tt
+all_look client (step ∷ steps) is = (looks_so client step is.0, all_look client steps is.1)
 
-  abbrev its_step : Step
-  its_step = Comes (asks_at old.moment req request)
+-- what is asked is a look-up, or nothing is asked of the master, under whatever number
+looks_too : (request : Request) (moment next : Moment) (req other : ReqId) → IsLooking req.client (Comes (asks_at moment req request)) → IsLooking other.client (Comes (asks_at next other request))
+looks_too (requests.Call call) moment next req other is = (refl, (refl, is.1.1))
+looks_too (requests.Write handle members primary stamp op bytes) moment next req other is = (refl, tt)
+looks_too (requests.Fetch to handle stamp epoch asked) moment next req other is = (refl, tt)
 
-  within_ask : IsStepWithin (Comes (asks_at old.moment req request))
-  within_ask = (small, may)
+module _ {D : Type 0} (seen : D → List ℕ) (failures : D → ℕ) where
+  looks_on : (client : ClientId) (old new : History D) → OnlyDelivers seen failures old new → Looks seen failures client old new
+  looks_on client old new d = record { steps = d.steps; runs = d.runs; within = d.within; looking = all_look client d.steps d.only }
 
-  -- the client takes what it has heard
-  abbrev Heard_there : Way D → Type 0
-  Heard_there third = (nodes_then : Nodes D) × (found : Option Reply) × AtClient req.client None (λ n found after. (found ≡ n.reply) × (after ≡ given_up n)) third.nodes found nodes_then × (reply ≡ unwrap_or found replies.Lost) × (new ≡ with_nodes nodes_then third)
+  reply_found : (found : Option Reply) (reply : Reply) → reply ≡ unwrap_or found replies.Lost → (reply ≡ replies.Lost → ⊥) → found ≡ Some reply
+  reply_found None reply is some = absurd (some is)
+  reply_found (Some other) reply is some = ap Some (sym is)
 
-  takes_it : (third : Way D) (after : Sent) → Heard_there third → Looks seen failures req.client (history after third) (history after new)
-  takes_it third after heard = record {
-    steps = Takes req.client ∷ [];
-    runs = (history after new, subst (λ (w : Way D). Goes seen failures unarmed (Takes req.client) (history after third) (history after w)) (sym heard.4) (heard.1, heard.2, refl), refl);
-    within = (tt, tt);
-    looking = ((refl, tt), tt);
-  }
-
-  covers_then : (third : Way D) (after : Sent) → Heard_there third → Covers after third → Covers after new
-  covers_then third after heard c =
-      let kept = at_client req.client None (λ n found after. (found ≡ n.reply) × (after ≡ given_up n)) third.nodes heard.1 heard.0 heard.2 in
-      subst (λ w. Covers after w) (sym heard.4) (record { queue = c.queue; held = c.held; servers = c.servers ∙ sym kept.servers; clients = c.clients ∙ sym kept.clients; short = c.short })
-
-  -- ---- it is taken
-
-  module _ (out : Vec Message Global) (nodes_there : Nodes D) (at : Asks_at (Ok out) nodes_there) (a : IsAsked seen failures req.client out.items (with_nodes nodes_there old) reply new) where
-    one : OneEvent seen failures (happenings.Ask req request) (Ok (out.items, None)) nodes_there old a.first sent
-    one = one_event seen failures (happenings.Ask req request) (nodes.Client req.client) (Ok (out.items, None)) nodes_there old a.first sent (refl, (Ok out, at, refl))
-        (inl (asking_client sent req.client (ClientAsks req.number request) old.nodes nodes_there out covers.clients at)) covers (a.first, a.sends, as_it_is a.first)
-
-    calm : Calm seen failures req.client a.first a.third one.after
-    calm = chain seen failures req.client a.first a.second a.third (delivers_whole seen failures req.client a.first a.second a.delivers) (waited_if seen failures req.client a.waited.0 a.second a.third a.waited.2) one.after one.covers
-        (subst (λ (m : Moment). IsNumber m.0) (sym one.moment) small)
-
-    asked_happens : Happens seen failures unarmed (asks_at old.moment req request) (history sent old) (Ok tt) (history one.after a.first)
-    asked_happens = subst (λ s. Happens seen failures unarmed (asks_at old.moment req request) (history sent old) s (history one.after a.first)) one.says one.happens
-
-    -- of whatever is replied nothing but look-ups was asked
-    looks_on : Looks seen failures req.client (history sent old) (history calm.after a.third)
-    looks_on = record {
-      steps = its_step ∷ calm.steps;
-      runs = (history one.after a.first, (Ok tt, asked_happens), calm.runs);
-      within = (within_ask, calm.within);
-      looking = (looking, calm.looking);
+  module _ (client : ClientId) (old mid : History D) (request : Request) (reply : Reply) (w : WasAsked seen failures client old request reply mid) (looking : IsLooking w.req.client (Comes (asks_at w.moment w.req request))) where
+    has_reply : (reply ≡ replies.Lost → ⊥) → HasReply seen failures client old request reply mid
+    has_reply some = record {
+      moment = w.moment;
+      req = w.req;
+      own = w.own;
+      node = w.node;
+      there = w.there;
+      fresh = w.fresh;
+      asked = w.asked;
+      happens = w.happens;
+      asks = w.asks;
+      behind = looks_on client w.asked mid w.behind;
+      last = w.last;
+      found = w.found;
+      number = w.number;
+      has = reply_found w.last.reply reply w.has some;
     }
 
-    -- ---- what came
-
-    module _ (node : Node) (there : client_in old.nodes.clients req.client ≡ Some node) (fresh : node.last < req.number) (some : reply ≡ replies.Lost → ⊥) where
-      not_old : nat_le req.number node.last ≡ false
-      not_old = grind (arith, nat_tests)
-
-      asked_one : (n after : Node) → n ≡ node → nodes_there ≡ with_clients (slice_set old.nodes.clients (req.client.0 - 1) after) old.nodes → (b : Bool) → b ≡ false
-          → Asks (if b then Err refusals.Old else Ok (asking n req.number, messages_of (request_of n req.number) request)) (Ok out) n after → LastIs req.client req.number nodes_there.clients
-      asked_one n after is same true not never = absurd never
-      asked_one n after is same false not (made, sends) = λ x found.
-          ap (λ (y : Node). y.last)
-          (node_is (sym (ap (λ (k : Nodes D). client_in k.clients req.client) (sym same) ∙ found) ∙ found_now old.nodes.clients req.client node after there) ∙ made)
-
-      asked_found : (o : Option Node) → o ≡ Some node
-          → MatchOption o ((nodes_there ≡ old.nodes) × (◌≡◌ {A = Result (Vec Message Global) Refusal} (Ok out) (Err refusals.Range))) (λ n. (after : Node) × (nodes_there ≡ with_clients (slice_set old.nodes.clients (req.client.0 - 1) after) old.nodes) × ClientAsks req.number request n (Ok out) after)
-          → LastIs req.client req.number nodes_there.clients
-      asked_found None is at = absurd cc
-      asked_found (Some n) is (after, same, did) = asked_one n after (node_is is) same (nat_le req.number n.last) (ap (λ (k : Node). nat_le req.number k.last) (node_is is) ∙ not_old) did
-
-      reply_found : (found : Option Reply) → reply ≡ unwrap_or found replies.Lost → found ≡ Some reply
-      reply_found None is = absurd (some is)
-      reply_found (Some other) is = ap Some (sym is)
-
-      record HasIt : Type 0 where
-        n : Node
-        found : client_in a.third.nodes.clients req.client ≡ Some n
-        has : n.reply ≡ Some reply
-
-      has_it : (o : Option Node) → client_in a.third.nodes.clients req.client ≡ o → (found : Option Reply) (nodes_then : Nodes D) → found ≡ Some reply
-          → MatchOption o ((nodes_then ≡ a.third.nodes) × (found ≡ None)) (λ n. (after : Node) × (nodes_then ≡ with_clients (slice_set a.third.nodes.clients (req.client.0 - 1) after) a.third.nodes) × ((found ≡ n.reply) × (after ≡ given_up n))) → HasIt
-      has_it None is found nodes_then there_is (same, none) = absurd (never (sym none ∙ there_is))
-        where
-          never : ◌≡◌ {A = Option Reply} None (Some reply) → ⊥
-          never e = cc
-      has_it (Some n) is found nodes_then there_is (after, same, did) = record { n = n; found = is; has = sym did.0 ∙ there_is }
-
-      has_reply : HasReply seen failures req.client (history sent old) request reply (history calm.after a.third)
-      has_reply =
-          let it = has_it (client_in a.third.nodes.clients req.client) refl a.heard.1 a.heard.0 (reply_found a.heard.1 a.heard.3) a.heard.2 in
-          let last = calm.last req.number (subst (λ (n : Nodes D). LastIs req.client req.number n.clients) (sym one.is) (asked_found (client_in old.nodes.clients req.client) there at)) in
-          record {
-            moment = old.moment;
-            req = req;
-            own = refl;
-            node = node;
-            there = there;
-            fresh = fresh;
-            asked = history one.after a.first;
-            happens = asked_happens;
-            asks = within_ask;
-            behind = record { steps = calm.steps; runs = calm.runs; within = calm.within; looking = calm.looking };
-            last = it.n;
-            found = it.found;
-            number = last it.n it.found;
-            has = it.has;
-          }
-
-    -- the client was there, and the number fresh
-    record IsFresh : Type 0 where
-      node : Node
-      there : client_in old.nodes.clients req.client ≡ Some node
-      fresh : node.last < req.number
-
-    fresh_one : (n after : Node) (b : Bool) → nat_le req.number n.last ≡ b → Asks (if b then Err refusals.Old else Ok (asking n req.number, messages_of (request_of n req.number) request)) (Ok out) n after → n.last < req.number
-    fresh_one n after true is never = absurd never
-    fresh_one n after false is made = grind (arith, nat_tests)
-
-    by_node : (o : Option Node) → client_in old.nodes.clients req.client ≡ o
-        → MatchOption o ((nodes_there ≡ old.nodes) × (◌≡◌ {A = Result (Vec Message Global) Refusal} (Ok out) (Err refusals.Range))) (λ n. (after : Node) × (nodes_there ≡ with_clients (slice_set old.nodes.clients (req.client.0 - 1) after) old.nodes) × ClientAsks req.number request n (Ok out) after) → IsFresh
-    by_node None is (same, refused) = absurd (never refused)
-      where
-        never : ◌≡◌ {A = Result (Vec Message Global) Refusal} (Ok out) (Err refusals.Range) → ⊥
-        never e = cc
-    by_node (Some n) is (after, same, did) = record { node = n; there = is; fresh = fresh_one n after (nat_le req.number n.last) refl did }
-
-    is_fresh : IsFresh
-    is_fresh = by_node (client_in old.nodes.clients req.client) refl at
-
-    replied : (reply ≡ replies.Lost → ⊥) → HasReply seen failures req.client (history sent old) request reply (history calm.after a.third)
-    replied some = has_reply is_fresh.node is_fresh.there is_fresh.fresh some
-
-  went_so : (r : Reply) → reply ≡ r → (out : Vec Message Global) (nodes_there : Nodes D) (at : Asks_at (Ok out) nodes_there) (a : IsAsked seen failures req.client out.items (with_nodes nodes_there old) reply new)
-      → Went seen failures req.client (history sent old) request r (history (calm out nodes_there at a).after a.third)
-  went_so (replies.Answer answer) is out nodes_there at a = subst (λ k. HasReply seen failures req.client (history sent old) request k (history (calm out nodes_there at a).after a.third)) is (replied out nodes_there at a (λ lost. never (sym is ∙ lost)))
-    where
-      never : replies.Answer answer ≡ replies.Lost → ⊥
-      never e = cc
-  went_so (replies.Given given) is out nodes_there at a = subst (λ k. HasReply seen failures req.client (history sent old) request k (history (calm out nodes_there at a).after a.third)) is (replied out nodes_there at a (λ lost. never (sym is ∙ lost)))
-    where
-      never : replies.Given given ≡ replies.Lost → ⊥
-      never e = cc
-  went_so (replies.Outcome outcome) is out nodes_there at a = looks_on out nodes_there at a
-  went_so (replies.Refused refusal) is out nodes_there at a = looks_on out nodes_there at a
-  went_so replies.Lost is out nodes_there at a = looks_on out nodes_there at a
-
-  exchanged_ok : (out : Vec Message Global) (nodes_there : Nodes D) → Asks_at (Ok out) nodes_there → IsAsked seen failures req.client out.items (with_nodes nodes_there old) reply new → IsExchanged seen failures req.client old sent request reply new
-  exchanged_ok out nodes_there at a = (let c = calm out nodes_there at a in record {
-    mid = history c.after a.third;
-    went = went_so reply refl out nodes_there at a;
-    after = c.after;
-    taken = takes_it a.third c.after a.heard;
-    covers = covers_then a.third c.after a.heard c.covers;
-    moment = ap (λ (w : Way D). w.moment) a.heard.4 ∙ c.moment ∙ (one out nodes_there at a).moment;
-  })
-
-  -- ---- it isn't taken
-
-  module _ (refusal : Refusal) (nodes_there : Nodes D) (at : Asks_at (Err refusal) nodes_there) (same : new ≡ shortened_by refusal (with_nodes nodes_there old)) where
-    refused_one : OneEvent seen failures (happenings.Ask req request) (Err refusal) nodes_there old new sent
-    refused_one = one_event seen failures (happenings.Ask req request) (nodes.Client req.client) (Err refusal) nodes_there old new sent (refl, (Err refusal, at, refl)) tt covers
-        (alike_to (with_nodes nodes_there old) (shortened_by refusal (with_nodes nodes_there old)) new (shortened_alike refusal (with_nodes nodes_there old)) same)
-
-    refused_so : reply ≡ replies.Refused refusal → IsExchanged seen failures req.client old sent request reply new
-    refused_so is = (let e = refused_one in record {
-      mid = history e.after new;
-      went = subst (λ r. Went seen failures req.client (history sent old) request r (history e.after new)) (sym is)
-          (record { steps = its_step ∷ []; runs = (history e.after new, (e.said, e.happens), refl); within = (within_ask, tt); looking = (looking, tt) });
-      after = e.after;
-      taken = record { steps = []; runs = refl; within = tt; looking = tt };
-      covers = e.covers;
-      moment = e.moment;
+    -- of whatever is replied nothing but look-ups was asked
+    looked : Looks seen failures client old mid
+    looked = (let on = looks_on client w.asked mid w.behind in record {
+      steps = Comes (asks_at w.moment w.req request) ∷ on.steps;
+      runs = (w.asked, (Ok tt, w.happens), on.runs);
+      within = (w.asks, on.within);
+      looking = (subst (λ c. IsLooking c (Comes (asks_at w.moment w.req request))) w.own looking, on.looking);
     })
 
-  by_asked : (asked : Result (Vec Message Global) Refusal) (nodes_there : Nodes D) → Asks_at asked nodes_there → AnswersAsked seen failures req.client asked (with_nodes nodes_there old) reply new → IsExchanged seen failures req.client old sent request reply new
-  by_asked (Ok out) nodes_there at a = exchanged_ok out nodes_there at a
-  by_asked (Err refusal) nodes_there at (is, same) = refused_so refusal nodes_there at same is
+    went_so : (r : Reply) → reply ≡ r → Went seen failures client old request r mid
+    went_so (replies.Answer answer) is = subst (λ k. HasReply seen failures client old request k mid) is (has_reply (λ lost. never (sym is ∙ lost)))
+      where
+        never : replies.Answer answer ≡ replies.Lost → ⊥
+        never e = cc
+    went_so (replies.Given given) is = subst (λ k. HasReply seen failures client old request k mid) is (has_reply (λ lost. never (sym is ∙ lost)))
+      where
+        never : replies.Given given ≡ replies.Lost → ⊥
+        never e = cc
+    went_so (replies.Outcome outcome) is = looked
+    went_so (replies.Refused refusal) is = looked
+    went_so replies.Lost is = looked
 
-pub looks_are_carried : {D : Type 0} (seen : D → List ℕ) (failures : D → ℕ) → LooksAreCarried seen failures
-looks_are_carried seen failures sent old new req request reply covers small may looking c = by_asked seen failures sent old new req request reply covers small may looking c.asked c.nodes c.asks c.answers
+  takes_look : (client : ClientId) (mid new : History D) → RunsTo seen failures unarmed (Takes client ∷ []) mid new → Looks seen failures client mid new
+  takes_look client mid new runs = record { steps = Takes client ∷ []; runs = runs; within = (tt, tt); looking = ((refl, tt), tt) }
+
+  pub looks_are_carried : LooksAreCarried seen failures
+  looks_are_carried sent old new req request reply covers small may looking c = by_went a.went
+    where
+      a : IsAnswered seen failures req.client old sent request reply new
+      a = requests_are_carried seen failures sent old new req request reply covers small may c
+
+      by_went : WasAskedAndTaken seen failures req.client (history sent old) request reply (history a.after new) ⊎ WasRefused seen failures req.client (history sent old) request reply (history a.after new) → IsExchanged seen failures req.client old sent request reply new
+      by_went (inl (mid, w, takes)) = record {
+        mid = mid;
+        went = went_so req.client (history sent old) mid request reply w (looks_too request old.moment w.moment req w.req looking) reply refl;
+        after = a.after;
+        taken = takes_look req.client mid (history a.after new) takes;
+        covers = a.covers;
+        moment = a.moment;
+      }
+      by_went (inr w) = record {
+        mid = history a.after new;
+        went = subst (λ r. Went seen failures req.client (history sent old) request r (history a.after new)) (sym w.is) (record {
+          steps = Comes (asks_at w.moment w.req request) ∷ [];
+          runs = (history a.after new, (Err w.refusal, w.happens), refl);
+          within = (w.asks, tt);
+          looking = (subst (λ k. IsLooking k (Comes (asks_at w.moment w.req request))) w.own (looks_too request old.moment w.moment req w.req looking), tt);
+        });
+        after = a.after;
+        taken = record { steps = []; runs = refl; within = tt; looking = tt };
+        covers = a.covers;
+        moment = a.moment;
+      }

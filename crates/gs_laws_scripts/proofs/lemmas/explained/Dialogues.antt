@@ -30,7 +30,7 @@ use Rattle.gs_shell_calls.specs.declared.answer.Answer.{Answer}
 use Rattle.gs_shell_calls.specs.declared.answer.Answer.TheVariants as answers
 use Rattle.gs_tree.specs.Entry.{Dir, Entry, File}
 use Rattle.gs_tree.specs.Find.{at}
-use Rattle.gs_laws_scripts.specs.explained.Lines.{Adds, Appends, Edits, IsOfStore, IsPutOff, Lands, LandsOr, MayBe, OfFile, OnPath, Writes, done, is_too_long}
+use Rattle.gs_laws_scripts.specs.explained.Lines.{Adds, Appends, Edits, IsOfStore, IsPutOff, Lands, LandsOr, MayBe, OfFile, OnPath, Writes, done, is_too_long, LandsOrPasses}
 use Rattle.gs_laws_scripts.specs.explained.Machine.{Machine, Payment, Text, fits, is_preparing, is_rolling, paid_now, text_at}
 use Rattle.gs_laws_scripts.specs.explained.Machine as machines
 use Rattle.gs_laws_scripts.specs.explained.Told.{AppendsAreExplained, IsLeft, Pays, TellsEdited, TellsStatus, WritesAreExplained}
@@ -115,7 +115,7 @@ module _ (size : ℕ) (places : ℕ → Path × ℕ) where
     OverIs grown answer new = ((answer ≡ Err refusals.TooLong) × (new ≡ grown)) ⊎ IsPutOff (λ made. made ≡ grown) grown answer new
 
     abbrev ShortIs : ℕ → ℕ → Machine → Result Answer Refusal → Machine → Type 0
-    ShortIs more index grown answer new = IsPutOff (MayBe (Edits p index (machines.Append bytes)) grown) grown answer new ⊎ LandsOr size p bytes index (λ next. Lands size p bytes more (index + 1) next answer new) grown answer new
+    ShortIs more index grown answer new = IsPutOff (MayBe (Edits p index (machines.Append bytes)) grown) grown answer new ⊎ LandsOrPasses size p bytes index (λ next. Lands size p bytes more (index + 1) next answer new) grown answer new
 
     -- where the chunk is there
     abbrev LandsAt : ℕ → ℕ → Machine → Result Answer Refusal → Machine → Type 0
@@ -145,19 +145,23 @@ module _ (size : ℕ) (places : ℕ → Path × ℕ) where
     tried_lands : (more index : ℕ) (next : Call ℕ) (grown mid : Machine) (x : Result EditOutcome Refusal) (r : Result ℕ Refusal) (new : Machine) → TellsEdited size grown p index (machines.Append bytes) x mid → Follows size places (onward (landed size index next) x) mid r new
         → ((m : Machine) → Follows size places next m r new → Lands size p bytes more (index + 1) m (told r) new) → LandsAt more index grown (told r) new
     tried_lands more index next grown mid (Err e) r new tells rest goes = left_at more index grown mid new (told r) e (ap told rest.0) rest.1 tells
-    tried_lands more index next grown mid (Ok (outcomes.Appended offset)) r new (free, (short, fit, place), same) rest goes =
+    tried_lands more index next grown mid (Ok (outcomes.Appended offset)) r new (free, inl ((short, fit, place), same)) rest goes =
         let text : List ℕ = (text_at p index grown).bytes in
         let below : nat_lt offset size ≡ true = subst (λ n. nat_lt n size ≡ true) (sym place) (below_size (length text) (length bytes) fit some) in
         let is : r ≡ Ok (index * size + length text) = rest.0 ∙ ap (λ b. if b then Ok (index * size + offset) else Err refusals.Stray) below ∙ ap (λ n. Ok (index * size + n)) place in
-        short_at more index grown (told r) new short (inr (subst
+        short_at more index grown (told r) new short (inr (inl (subst
         (λ b. MatchBool b ((told r ≡ Ok (answers.Number (index * size + length text))) × (new ≡ done size (Edits p index (machines.Append bytes)) grown)) (Lands size p bytes more (index + 1) (done size (Edits p index (machines.Append bytes)) grown) (told r) new))
-        (sym fit) (ap told is, rest.1 ∙ same)))
-    tried_lands more index next grown mid (Ok outcomes.Padded) r new (free, (short, full), same) rest goes =
+        (sym fit) (ap told is, rest.1 ∙ same))))
+    tried_lands more index next grown mid (Ok outcomes.Padded) r new (free, inl ((short, full), same)) rest goes =
         let text : List ℕ = (text_at p index grown).bytes in
-        short_at more index grown (told r) new short (inr (subst
+        short_at more index grown (told r) new short (inr (inl (subst
         (λ b. MatchBool b ((told r ≡ Ok (answers.Number (index * size + length text))) × (new ≡ done size (Edits p index (machines.Append bytes)) grown)) (Lands size p bytes more (index + 1) (done size (Edits p index (machines.Append bytes)) grown) (told r) new))
-        (sym full) (goes (done size (Edits p index (machines.Append bytes)) grown) (subst (λ m. Follows size places next m r new) same rest))))
-    tried_lands more index next grown mid (Ok outcomes.Written) r new (free, wrong, same) rest goes = absurd wrong
+        (sym full) (goes (done size (Edits p index (machines.Append bytes)) grown) (subst (λ m. Follows size places next m r new) same rest)))))
+    tried_lands more index next grown mid (Ok outcomes.Written) r new (free, inl (wrong, same)) rest goes = absurd wrong
+    tried_lands more index next grown mid (Ok outcomes.Written) r new (free, inr (wrong, same)) rest goes = absurd wrong
+    tried_lands more index next grown mid (Ok (outcomes.Appended offset)) r new (free, inr (wrong, same)) rest goes = absurd wrong
+    tried_lands more index next grown mid (Ok outcomes.Padded) r new (free, inr ((short, full), same)) rest goes =
+        short_at more index grown (told r) new short (inr (inr (full, goes grown (subst (λ m. Follows size places next m r new) same rest))))
 
     -- after an addition,
     rests_of : (more index : ℕ) (next : Call ℕ) (old mid : Machine) (x : Result EditOutcome Refusal) (r : Result ℕ Refusal) (new : Machine) → PartIs size places p index (machines.Append bytes) old x mid → Follows size places (onward (landed size index next) x) mid r new

@@ -302,9 +302,12 @@ module _ (size : ℕ) (places : ℕ → Path × ℕ) where
       edit = machines.Write offset bytes
 
       by_result : (x : Result EditOutcome Refusal) (m now : Machine) → TellsEdited size now p index (machines.Write offset bytes) x m → Follows (onward (λ outcome. Say (writing.written outcome)) x) m r mid → StepIs (Edits p index (machines.Write offset bytes)) now r mid
-      by_result (Ok outcomes.Written) m now (free, outcome, same) rest = subst (λ y. StepIs (Edits p index (machines.Write offset bytes)) now y mid) (sym rest.0) (free, rest.1 ∙ same)
-      by_result (Ok (outcomes.Appended at)) m now (free, outcome, same) rest = absurd outcome
-      by_result (Ok outcomes.Padded) m now (free, outcome, same) rest = absurd outcome
+      by_result (Ok outcomes.Written) m now (free, inr (wrong, same)) rest = absurd wrong
+      by_result (Ok outcomes.Written) m now (free, inl (outcome, same)) rest = subst (λ y. StepIs (Edits p index (machines.Write offset bytes)) now y mid) (sym rest.0) (free, rest.1 ∙ same)
+      by_result (Ok (outcomes.Appended at)) m now (free, inl (wrong, same)) rest = absurd wrong
+      by_result (Ok (outcomes.Appended at)) m now (free, inr (wrong, same)) rest = absurd wrong
+      by_result (Ok outcomes.Padded) m now (free, inl (wrong, same)) rest = absurd wrong
+      by_result (Ok outcomes.Padded) m now (free, inr (wrong, same)) rest = absurd wrong
       by_result (Err e) m now left rest = subst (λ y. StepIs (Edits p index (machines.Write offset bytes)) now y mid) (sym rest.0) (subst (λ n. IsLeft (MayBe (Edits p index (machines.Write offset bytes)) now) now e n) (sym rest.1) left)
 
       by_part : (x : Result EditOutcome Refusal) (m : Machine) → PartIs p index (machines.Write offset bytes) old x m → Follows (onward (λ outcome. Say (writing.written outcome)) x) m r mid → Step (Edits p index (machines.Write offset bytes)) old r mid

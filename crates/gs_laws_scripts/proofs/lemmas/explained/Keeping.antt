@@ -28,7 +28,7 @@ use Rattle.gs_laws_scripts.specs.plain.Machines.{asked_in, call_of}
 use Rattle.gs_shell_script.specs.Run.{AnswersIfShort, AnswersLine, Runs, memory_text}
 use Rattle.gs_tree.specs.Entry.{Dir, Entry, File}
 use Rattle.gs_tree.specs.Find.{Rows, at}
-use Rattle.gs_laws_scripts.specs.explained.Lines.{Adds, Appends, Asks, AsksBoth, AsksNow, AsksOne, AsksTree, BeginsAnew, Digests, DoesEach, Edits, Explains, GivesUp, IsPutOff, Lands, LandsOr, Leads, LeadsBy, MayBe, MayBeDone, OfFile, OnPath, Part, Passes, Reads, Stats, Upgrades, Writes, anew, overtaken, done, is_too_long, parts_of, step_of, swept_each}
+use Rattle.gs_laws_scripts.specs.explained.Lines.{Adds, Appends, Asks, AsksBoth, AsksNow, AsksOne, AsksTree, BeginsAnew, Digests, DoesEach, Edits, Explains, GivesUp, IsPutOff, Lands, LandsOr, Leads, LeadsBy, MayBe, MayBeDone, OfFile, OnPath, Part, Passes, Reads, Stats, Upgrades, Writes, anew, overtaken, done, is_too_long, parts_of, step_of, swept_each, LandsOrPasses}
 use Rattle.gs_laws_scripts.specs.explained.Machine.{Comes, Edit, Ends, Machine, Payment, Settles, Sweeps, Text, Waits, at_place, called, comes, ends, fits, is_remembered, is_scan, is_undelivered, may_wait, overtaking, paid, paid_each, paid_now, settles, swept, text_at, waits, with_rows}
 use Rattle.gs_laws_scripts.specs.explained.Machine as machines
 
@@ -232,11 +232,12 @@ module _ (P : Machine → Type 0) (kept : IsKept P) where
   lands_keep size p bytes (suc more) index old new answer h (payments, now, is, inr (free, paying, grown, grows, choice)) =
       let at_grown = subst P (sym grows) (now_keeps size paying (done size (Adds p index) now) (done_keeps size (Adds p index) now (subst P (sym is) (now_keeps size payments old h)))) in
       either_way {A = ((answer ≡ Err refusals.TooLong) × (new ≡ grown)) ⊎ IsPutOff (λ n. n ≡ grown) grown answer new}
-      {B = IsPutOff (MayBe (Edits p index (machines.Append bytes)) grown) grown answer new ⊎ LandsOr size p bytes index (λ n. Lands size p bytes more (index + 1) n answer new) grown answer new} (is_too_long size bytes)
+      {B = IsPutOff (MayBe (Edits p index (machines.Append bytes)) grown) grown answer new ⊎ LandsOrPasses size p bytes index (λ n. Lands size p bytes more (index + 1) n answer new) grown answer new} (is_too_long size bytes)
       (λ long. elim long [ inl refused ↦ subst P (sym refused.1) at_grown | inr off ↦ put_off_keeps (λ n. n ≡ grown) (λ n same. subst P (sym same) at_grown) grown new answer at_grown off ])
       (λ fitting. elim fitting [
         | inl off ↦ put_off_keeps (MayBe (Edits p index (machines.Append bytes)) grown) (λ n may. may_be_keeps (Edits p index (machines.Append bytes)) grown n at_grown may) grown new answer at_grown off
-        | inr lands ↦ lands_or_keeps size p bytes index (λ n. Lands size p bytes more (index + 1) n answer new) grown new answer (λ at_it on. lands_keep size p bytes more (index + 1) (done size (Edits p index (machines.Append bytes)) grown) new answer at_it on) at_grown lands
+        | inr (inr (full, on)) ↦ lands_keep size p bytes more (index + 1) grown new answer at_grown on
+        | inr (inl lands) ↦ lands_or_keeps size p bytes index (λ n. Lands size p bytes more (index + 1) n answer new) grown new answer (λ at_it on. lands_keep size p bytes more (index + 1) (done size (Edits p index (machines.Append bytes)) grown) new answer at_it on) at_grown lands
       ])
       choice
 

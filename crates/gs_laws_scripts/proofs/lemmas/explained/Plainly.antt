@@ -34,13 +34,13 @@ use Rattle.gs_tree.specs.Find.{Rows, at}
 use Rattle.gs_tree.specs.Mapped.{mapped_entry}
 use Rattle.gs_laws_scripts.specs.explained.Following.{AnsweredAlike, AreAlike, IsPlain, PlainAnswersAreAFunction, TextsAreAlike, is_of_nodes}
 use Rattle.gs_laws_scripts.specs.explained.Rows.{a_long_write, a_long_write_answers, a_long_write_is_explained}
-use Rattle.gs_laws_scripts.specs.explained.Lines.{Adds, AreExplained, Appends, Asks, AsksBoth, AsksOne, AsksTree, BeginsAnew, Digests, DoesEach, Edits, Explains, GivesUp, IsPutOff, IsSaid, Lands, LandsOr, Leads, MayBe, OfFile, OnPath, Part, Passes, Reads, Stats, Upgrades, Writes, anew, overtaken, done, is_too_long, parts_of, step_of}
+use Rattle.gs_laws_scripts.specs.explained.Lines.{Adds, AreExplained, Appends, Asks, AsksBoth, AsksOne, AsksTree, BeginsAnew, Digests, DoesEach, Edits, Explains, GivesUp, IsPutOff, IsSaid, Lands, LandsOr, Leads, MayBe, OfFile, OnPath, Part, Passes, Reads, Stats, Upgrades, Writes, anew, overtaken, done, is_too_long, parts_of, step_of, LandsOrPasses, IsSeenFull}
 use Rattle.gs_laws_scripts.specs.explained.Machine.{Edit, Machine, Payment, Text, at_place, begins_prepare, begins_rollback, called, commits_prepare, commits_rollback, finalizes, fits, gives_up, is_copied, is_preparing, is_remembered, is_rolling, new_machine, new_text, overtaking, paid_now, passes, quiet, quiet_under, taken, text_at, tree_after, tree_called, tree_said, with_chunk, with_edit}
 use Rattle.gs_laws_scripts.specs.explained.Machine as machines
 use Rattle.gs_laws_scripts.proofs.lemmas.explained.Alike.{IsSure, accepted_plain, alike_said, alike_to, digests_alike, no_memory, plain_sure, reads_alike, stats_alike, sure_never_off, sure_now, sure_said}
 use Rattle.gs_laws_scripts.proofs.lemmas.explained.Back.{mapped_quiet, quiet_entry}
 use Rattle.gs_laws_scripts.proofs.lemmas.explained.Keeping.{ComesTo, comes_to}
-use Rattle.gs_laws_scripts.proofs.lemmas.explained.Quiet.{AreQuiet, IsQuietEntry, IsQuietFound, IsStill, RowsAreQuiet, nothing_each, nothing_now, nothing_owed, quiet_found}
+use Rattle.gs_laws_scripts.proofs.lemmas.explained.Quiet.{AreQuiet, IsQuietEntry, IsQuietFound, IsStill, RowsAreQuiet, nothing_each, nothing_now, nothing_owed, quiet_found, never_seen_full}
 
 -- ---- edits of trees to which nothing is owed
 
@@ -332,20 +332,24 @@ abbrev LandsSurely : ℕ → Path → List ℕ → ℕ → ℕ → Machine → R
 LandsSurely size p bytes more index grown answer new =
     MatchBool (is_too_long size bytes) ((answer ≡ Err refusals.TooLong) × (new ≡ grown)) (LandsOr size p bytes index (λ n. Lands size p bytes more (index + 1) n answer new) grown answer new)
 
-long_or : (size : ℕ) (p : Path) (bytes : List ℕ) (more index : ℕ) (grown new : Machine) (answer : Result Answer Refusal) (b : Bool) → IsSure answer
+long_or : (size : ℕ) (p : Path) (bytes : List ℕ) (more index : ℕ) (grown new : Machine) (answer : Result Answer Refusal) (b : Bool) → IsSure answer → (IsSeenFull size (text_at p index grown) → ⊥)
     → MatchBool b (((answer ≡ Err refusals.TooLong) × (new ≡ grown)) ⊎ IsPutOff (λ n. n ≡ grown) grown answer new)
-    (IsPutOff (MayBe (Edits p index (machines.Append bytes)) grown) grown answer new ⊎ LandsOr size p bytes index (λ n. Lands size p bytes more (index + 1) n answer new) grown answer new)
+    (IsPutOff (MayBe (Edits p index (machines.Append bytes)) grown) grown answer new ⊎ LandsOrPasses size p bytes index (λ n. Lands size p bytes more (index + 1) n answer new) grown answer new)
     → MatchBool b ((answer ≡ Err refusals.TooLong) × (new ≡ grown)) (LandsOr size p bytes index (λ n. Lands size p bytes more (index + 1) n answer new) grown answer new)
-long_or size p bytes more index grown new answer true sure (inl refused) = refused
-long_or size p bytes more index grown new answer true sure (inr off) = sure_never_off (λ n. n ≡ grown) grown new answer sure off
-long_or size p bytes more index grown new answer false sure (inl off) = sure_never_off (MayBe (Edits p index (machines.Append bytes)) grown) grown new answer sure off
-long_or size p bytes more index grown new answer false sure (inr lands) = lands
+long_or size p bytes more index grown new answer true sure none (inl refused) = refused
+long_or size p bytes more index grown new answer true sure none (inr off) = sure_never_off (λ n. n ≡ grown) grown new answer sure off
+long_or size p bytes more index grown new answer false sure none (inl off) = sure_never_off (MayBe (Edits p index (machines.Append bytes)) grown) grown new answer sure off
+long_or size p bytes more index grown new answer false sure none (inr (inl lands)) = lands
+long_or size p bytes more index grown new answer false sure none (inr (inr (full, on))) = absurd (none full)
 
 landing : (size : ℕ) (p : Path) (bytes : List ℕ) (more index : ℕ) (old new : Machine) (answer : Result Answer Refusal) → IsAsleep old → IsSure answer → Lands size p bytes (suc more) index old answer new → LandsSurely size p bytes more index (done size (Adds p index) old) answer new
 landing size p bytes more index old new answer asleep sure (payments, now, is, inl off) = sure_never_off (MayBe (Adds p index) now) now new answer sure off
 landing size p bytes more index old new answer asleep sure (payments, now, is, inr (free, paying, grown, grows, choice)) =
     let added = done size (Adds p index) old in
-    subst (λ m. LandsSurely size p bytes more index m answer new) (grows ∙ ap (λ m. paid_now size paying (done size (Adds p index) m)) (is ∙ nothing_now size payments old (still old asleep)) ∙ nothing_now size paying added (still added (done_asleep size (Adds p index) old asleep))) (long_or size p bytes more index grown new answer (is_too_long size bytes) sure choice)
+    let added_asleep = done_asleep size (Adds p index) old asleep in
+    let same : grown ≡ added = (grows ∙ ap (λ m. paid_now size paying (done size (Adds p index) m)) (is ∙ nothing_now size payments old (still old asleep)) ∙ nothing_now size paying added (still added (done_asleep size (Adds p index) old asleep))) in
+    let none : IsSeenFull size (text_at p index grown) → ⊥ = subst (λ m. IsSeenFull size (text_at p index m) → ⊥) (sym same) (never_seen_full size (text_at p index added) (nothing_owed p index added added_asleep.tree)) in
+    subst (λ m. LandsSurely size p bytes more index m answer new) same (long_or size p bytes more index grown new answer (is_too_long size bytes) sure none choice)
 
 lands_so : (size : ℕ) (p : Path) (bytes : List ℕ) (more index : ℕ) (old new last : Machine) (one another : Result Answer Refusal) → IsAsleep old → IsSure one → IsSure another → Lands size p bytes more index old one new → Lands size p bytes more index old another last → Agree one another new last
 lands_so size p bytes zero index old new last one another asleep sure surely (e, same) (f, so) = agree_at (Err refusals.Range) one another old new last asleep e f same so

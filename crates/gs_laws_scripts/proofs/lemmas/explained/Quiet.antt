@@ -1,13 +1,13 @@
 -- Where nothing is owed nothing is paid, and a text is seen as it stands.
-use Rattle.std.proofs.Common.{ap, ◌∙◌}
-use Rattle.std.specs.Prelude.{[], ◌∷◌, ◌≡◌, List, None, Option, Some, cond, false, if◌then◌else◌, map, refl, slice_get, suc, true, unwrap_or, zero, ℕ}
+use Rattle.std.proofs.Common.{ap, ◌∙◌, arith}
+use Rattle.std.specs.Prelude.{[], ◌∷◌, ◌≡◌, List, None, Option, Some, cond, false, if◌then◌else◌, map, refl, slice_get, suc, true, unwrap_or, zero, ℕ, length}
 use Rattle.std.specs.List.{AllByRecursion, list_any}
 use Rattle.std.specs.Ordering.{eq_by_cmp}
 use Rattle.gs_path.specs.Path.{Path, path_cmp}
 use Rattle.gs_tree.specs.Edits.{chunks_in}
 use Rattle.gs_tree.specs.Entry.{Dir, Entry, File}
 use Rattle.gs_tree.specs.Find.{Rows, at}
-use Rattle.gs_laws_scripts.specs.explained.Lines.{seen_each}
+use Rattle.gs_laws_scripts.specs.explained.Lines.{seen_each, IsSeenFull}
 use Rattle.gs_laws_scripts.specs.explained.Machine.{Comes, Ends, Machine, Payment, Settles, Sweeps, Text, Waits, at_place, comes, ends, is_scan, new_text, paid, paid_each, paid_now, settled, settled_by, settled_each, settles, swept, text_at, waits, with_rows}
 
 -- ---- texts to which nothing is owed
@@ -113,6 +113,9 @@ settled_is size k text none = ap (λ owed. settled_by size (slice_get owed k) k 
 settled_each_is : (size : ℕ) (pick : List ℕ) (text : Text) → text.owed ≡ [] → settled_each size pick text ≡ text
 settled_each_is size [] text none = refl
 settled_each_is size (k ∷ pick) text none = ap (settled_each size pick) (settled_is size k text none) ∙ settled_each_is size pick text none
+
+pub never_seen_full : (size : ℕ) (text : Text) → text.owed ≡ [] → IsSeenFull size text → ⊥
+never_seen_full size text none (below, pick, full) = (let same : length (settled_each size pick text).bytes ≡ length text.bytes = ap (λ (t : Text). length t.bytes) (settled_each_is size pick text none) in absurd (omega arith))
 
 pub seen_is : (size : ℕ) (picks : List (List ℕ)) (texts : List Text) → AreQuiet texts → seen_each size picks texts ≡ map (λ text. text.bytes) texts
 seen_is size picks [] quiet = refl

@@ -24,10 +24,10 @@ use Rattle.gs_shell_grammar.specs.Grammar as lines
 use Rattle.gs_shell_grammar.specs.declared.command.UpgradeStep.TheVariants as steps
 use Rattle.gs_tree.specs.Entry.{Dir, Entry, File}
 use Rattle.gs_tree.specs.Find.{at}
-use Rattle.gs_laws_scripts.specs.explained.Lines.{Adds, Appends, Asks, AsksNow, DoesEach, Edits, IsPutOff, Lands, LandsOr, Leads, MayBe, OfFile, OnPath, Part, Reads, Stats, Writes, overtaken, done, is_too_long, read_in, seen, told}
-use Rattle.gs_laws_scripts.specs.explained.Machine.{Machine, Payment, Text, called, new_machine, paid, paid_each, paid_now, with_rows}
+use Rattle.gs_laws_scripts.specs.explained.Lines.{Adds, Appends, Asks, AsksNow, DoesEach, Edits, IsPutOff, Lands, LandsOr, Leads, MayBe, OfFile, OnPath, Part, Reads, Stats, Writes, overtaken, done, is_too_long, read_in, seen, told, LandsOrPasses, IsSeenFull}
+use Rattle.gs_laws_scripts.specs.explained.Machine.{Machine, Payment, Text, called, new_machine, paid, paid_each, paid_now, with_rows, text_at}
 use Rattle.gs_laws_scripts.specs.explained.Machine as machines
-use Rattle.gs_laws_scripts.proofs.lemmas.explained.Quiet.{AreQuiet, IsStill, nothing_each, nothing_now, nothing_settles, rows_now, seen_is}
+use Rattle.gs_laws_scripts.proofs.lemmas.explained.Quiet.{AreQuiet, IsStill, nothing_each, nothing_now, nothing_settles, rows_now, seen_is, never_seen_full, nothing_owed}
 
 -- ---- what an accepted line has done, where nothing was owed
 
@@ -103,19 +103,23 @@ abbrev number_in : Result Answer Refusal → ℕ
 number_in (Ok (answers.Number n)) = n
 number_in answer = 0
 
-if_short : (size : ℕ) (p : Path) (bytes : List ℕ) (index : ℕ) (GoesOn : Machine → Type 0) (grown new : Machine) (n : ℕ) → IsPutOff (MayBe (Edits p index (machines.Append bytes)) grown) grown (Ok (answers.Number n)) new ⊎ LandsOr size p bytes index GoesOn grown (Ok (answers.Number n)) new
+if_short : (size : ℕ) (p : Path) (bytes : List ℕ) (index : ℕ) (GoesOn : Machine → Type 0) (grown new : Machine) (n : ℕ) → (IsSeenFull size (text_at p index grown) → ⊥) → IsPutOff (MayBe (Edits p index (machines.Append bytes)) grown) grown (Ok (answers.Number n)) new ⊎ LandsOrPasses size p bytes index GoesOn grown (Ok (answers.Number n)) new
     → LandsOr size p bytes index GoesOn grown (Ok (answers.Number n)) new
-if_short size p bytes index GoesOn grown new n (inl (refusal, e, rest)) = absurd (cc)
-if_short size p bytes index GoesOn grown new n (inr lands) = lands
+if_short size p bytes index GoesOn grown new n none (inl (refusal, e, rest)) = absurd (cc)
+if_short size p bytes index GoesOn grown new n none (inr (inl lands)) = lands
+if_short size p bytes index GoesOn grown new n none (inr (inr (full, on))) = absurd (none full)
 
 lands : (size : ℕ) (p : Path) (bytes : List ℕ) (more index : ℕ) (old new : Machine) (n : ℕ) → IsStill old → IsStill (done size (Adds p index) old) → is_too_long size bytes ≡ false → Lands size p bytes (suc more) index old (Ok (answers.Number n)) new
     → LandsOr size p bytes index (λ next. Lands size p bytes more (index + 1) next (Ok (answers.Number n)) new) (done size (Adds p index) old) (Ok (answers.Number n)) new
 lands size p bytes more index old new n still grown_still short (payments, now, is, inl (refusal, e, rest)) = absurd (cc)
 lands size p bytes more index old new n still grown_still short (payments, now, is, inr (free, behind, grown, grows, choice)) =
-    subst (λ m. LandsOr size p bytes index (λ next. Lands size p bytes more (index + 1) next (Ok (answers.Number n)) new) m (Ok (answers.Number n)) new) (grows ∙ ap (λ m. paid_now size behind (done size (Adds p index) m)) (is ∙ nothing_now size payments old still) ∙ nothing_now size behind (done size (Adds p index) old) grown_still)
-    (if_short size p bytes index (λ next. Lands size p bytes more (index + 1) next (Ok (answers.Number n)) new) grown new n
+    let added = done size (Adds p index) old in
+    let same : grown ≡ added = (grows ∙ ap (λ m. paid_now size behind (done size (Adds p index) m)) (is ∙ nothing_now size payments old still) ∙ nothing_now size behind (done size (Adds p index) old) grown_still) in
+    let none : IsSeenFull size (text_at p index grown) → ⊥ = subst (λ m. IsSeenFull size (text_at p index m) → ⊥) (sym same) (never_seen_full size (text_at p index added) (nothing_owed p index added grown_still.quiet)) in
+    subst (λ m. LandsOr size p bytes index (λ next. Lands size p bytes more (index + 1) next (Ok (answers.Number n)) new) m (Ok (answers.Number n)) new) same
+    (if_short size p bytes index (λ next. Lands size p bytes more (index + 1) next (Ok (answers.Number n)) new) grown new n none
     (subst (λ b. MatchBool b (((Ok (answers.Number n) ≡ Err refusals.TooLong) × (new ≡ grown)) ⊎ IsPutOff (λ made. made ≡ grown) grown (Ok (answers.Number n)) new)
-    (IsPutOff (MayBe (Edits p index (machines.Append bytes)) grown) grown (Ok (answers.Number n)) new ⊎ LandsOr size p bytes index (λ next. Lands size p bytes more (index + 1) next (Ok (answers.Number n)) new) grown (Ok (answers.Number n)) new)) short choice))
+    (IsPutOff (MayBe (Edits p index (machines.Append bytes)) grown) grown (Ok (answers.Number n)) new ⊎ LandsOrPasses size p bytes index (λ next. Lands size p bytes more (index + 1) next (Ok (answers.Number n)) new) grown (Ok (answers.Number n)) new)) short choice))
 
 -- an append that is answered the offset in its chunk
 pub no_append_tells_its_offset_in_a_chunk : (new : Machine) → Leads 16 4 (lines.Append (codes "/f") (codes "b")) full_and_one (Ok (answers.Number 1)) new → ⊥

@@ -1,0 +1,103 @@
+-- Batches and lines, one behind the other.
+use Rattle.std.proofs.Common.{◌≡◌, ◌++◌, ◌∷◌, [], ℕ, List, Bool, true, false, cond, map, refl, sym, ap, subst, ◌∙◌, append_assoc, append-nil}
+use Rattle.std.proofs.lemmas.Grind.{flat_map-append}
+use Rattle.std.specs.List.{AllByRecursion}
+use Rattle.gs_shell_script.specs.Run.{Runs, unlines}
+use Rattle.gs_keep_mark.specs.Marks.{Entry, Totals, behind, mark_of, marked, noted, text_of, totals_behind, with_batch}
+use Rattle.gs_keep.specs.Lines.{Turn, entries, joined, lines_asked, texts_of}
+use Rattle.gs_keep.specs.Running.{AnswersAll, LoggedAs}
+use Rattle.gs_keep.specs.Replaying.{RunsAgain}
+
+pub all_join : {X : Type 0} (P : X → Type 0) (xs ys : List X) → AllByRecursion P xs → AllByRecursion P ys → AllByRecursion P (xs ++ ys)
+all_join P [] ys one two = two
+all_join P (x ∷ xs) ys one two = (one.0, all_join P xs ys one.1 two)
+
+-- ---- batches
+
+pub joined_join : (a b : List (List Entry)) → joined (a ++ b) ≡ joined a ++ joined b
+joined_join [] b = refl
+joined_join (x ∷ a) b = ap (λ (l : List Entry). x ++ l) (joined_join a b) ∙ sym (append_assoc x (joined a) (joined b))
+
+pub totals_join : (t : Totals) (a b : List (List Entry)) → totals_behind t (a ++ b) ≡ totals_behind (totals_behind t a) b
+totals_join t [] b = refl
+totals_join t (x ∷ a) b = totals_join (behind t x) a b
+
+pub marked_join : (t : Totals) (a b : List (List Entry)) → marked t (a ++ b) ≡ marked t a ++ marked (totals_behind t a) b
+marked_join t [] b = refl
+marked_join t (x ∷ a) b =
+    let m = mark_of (with_batch t x) in
+    let one = marked (behind t x) a in
+    let two = marked (totals_behind (behind t x) a) b in
+    ap (λ (l : List ℕ). text_of x ++ (m ++ l)) (marked_join (behind t x) a b)
+    ∙ ap (λ (l : List ℕ). text_of x ++ l) (sym (append_assoc m one two)) ∙ sym (append_assoc (text_of x) (m ++ one) two)
+
+pub text_join : (a b : List Entry) → text_of (a ++ b) ≡ text_of a ++ text_of b
+text_join a b = flat_map-append (λ (e : Entry). e.line) a b
+
+pub with_join : (t : Totals) (a b : List Entry) → with_batch t (a ++ b) ≡ with_batch (with_batch t a) b
+with_join t [] b = refl
+with_join t (e ∷ a) b = with_join (noted t e) a b
+
+-- what a log comes to is what it was, and the batches with their marks
+pub text_with : (t : Totals) (batch : List Entry) → (with_batch t batch).text ≡ t.text ++ text_of batch
+text_with t [] = sym (append-nil t.text)
+text_with t (e ∷ batch) = text_with (noted t e) batch ∙ append_assoc t.text e.line (text_of batch)
+
+pub text_behind : (t : Totals) (batches : List (List Entry)) → (totals_behind t batches).text ≡ t.text ++ marked t batches
+text_behind t [] = sym (append-nil t.text)
+text_behind t (x ∷ more) =
+    let m = mark_of (with_batch t x) in
+    let back = marked (behind t x) more in
+    text_behind (behind t x) more ∙ ap (λ (l : List ℕ). (l ++ m) ++ back) (text_with t x)
+    ∙ append_assoc (t.text ++ text_of x) m back ∙ append_assoc t.text (text_of x) (m ++ back)
+
+-- ---- lines that are run
+
+pub lines_join : (a b : List Turn) → lines_asked (a ++ b) ≡ lines_asked a ++ lines_asked b
+lines_join [] b = refl
+lines_join (t ∷ a) b = ap (λ (l : List (List ℕ)). t.line ∷ l) (lines_join a b)
+
+pub texts_join : (a b : List Turn) → texts_of (a ++ b) ≡ texts_of a ++ texts_of b
+texts_join [] b = refl
+texts_join (t ∷ a) b = ap (λ (l : List (List ℕ)). t.text ∷ l) (texts_join a b)
+
+pub unlines_join : (a b : List Turn) → unlines (texts_of (a ++ b)) ≡ unlines (texts_of a) ++ unlines (texts_of b)
+unlines_join a b = ap unlines (texts_join a b) ∙ flat_map-append (λ (t : List ℕ). t ++ 10 ∷ []) (texts_of a) (texts_of b)
+
+pub entries_join : (a b : List Turn) → entries (a ++ b) ≡ entries a ++ entries b
+entries_join [] b = refl
+entries_join (t ∷ a) b = at t.logged (entries_join a b)
+  where
+    at : (k : Bool) → entries (a ++ b) ≡ entries a ++ entries b
+        → cond k (record { line = t.line; answer = t.text } ∷ entries (a ++ b)) (entries (a ++ b)) ≡ cond k (record { line = t.line; answer = t.text } ∷ entries a) (entries a) ++ entries b
+    at true h = ap (λ (l : List Entry). record { line = t.line; answer = t.text } ∷ l) h
+    at false h = h
+
+module _ {S : Type 0} (A : S → List ℕ → List ℕ → S → Type 0) (is_kept : List ℕ → Bool) where
+  pub answers_join : (old mid new : S) (a b : List Turn) → AnswersAll A is_kept old a mid → AnswersAll A is_kept mid b new → AnswersAll A is_kept old (a ++ b) new
+  answers_join old mid new [] b same all = subst (λ (s : S). AnswersAll A is_kept s b new) same all
+  answers_join old mid new (t ∷ a) b (next, first, rest) all = (next, first, answers_join next mid new a b rest all)
+
+  pub again_join : (old mid new : S) (a b : List Entry) → RunsAgain A is_kept old a mid → RunsAgain A is_kept mid b new → RunsAgain A is_kept old (a ++ b) new
+  again_join old mid new [] b same all = subst (λ (s : S). RunsAgain A is_kept s b new) same all
+  again_join old mid new (e ∷ a) b (next, logged, first, rest) all = (next, logged, first, again_join next mid new a b rest all)
+
+  -- what is logged leads to where the lines led
+  pub answers_again : (old new : S) (turns : List Turn) → AnswersAll A is_kept old turns new → RunsAgain A is_kept old (entries turns) new
+  answers_again old new [] same = same
+  answers_again old new (t ∷ turns) (mid, one, rest) = at t.logged one.logged (answers_again mid new turns rest)
+    where
+      at : (k : Bool) → LoggedAs A is_kept k old t mid → RunsAgain A is_kept mid (entries turns) new
+          → RunsAgain A is_kept old (cond k (record { line = t.line; answer = t.text } ∷ entries turns) (entries turns)) new
+      at true logged back = (mid, logged, one.answers, back)
+      at false logged back = subst (λ (s : S). RunsAgain A is_kept s (entries turns) new) logged.0 back
+
+  -- lines that are run again, and then lines that are answered, are answered one behind the other
+  pub again_then : (old mid new : S) (a : List Entry) (b : List Turn) → RunsAgain A is_kept old a mid → AnswersAll A is_kept mid b new
+      → Runs A old (map (λ (e : Entry). e.line) a ++ lines_asked b) (map (λ (e : Entry). e.answer) a ++ texts_of b) new
+  again_then old mid new (e ∷ a) b (next, logged, first, rest) all = (next, first, again_then next mid new a b rest all)
+  again_then old mid new [] b same all = subst (λ (s : S). Runs A s (lines_asked b) (texts_of b) new) same (lines_run mid new b all)
+    where
+      lines_run : (old new : S) (turns : List Turn) → AnswersAll A is_kept old turns new → Runs A old (lines_asked turns) (texts_of turns) new
+      lines_run old new [] same = same
+      lines_run old new (t ∷ turns) (mid, one, rest) = (mid, one.answers, lines_run mid new turns rest)

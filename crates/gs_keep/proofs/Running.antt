@@ -1,0 +1,215 @@
+-- Lines are run, one after another.
+use Rattle.std.proofs.Common.{◌≡◌, ◌≢◌, ◌<◌, ◌≤◌, ◌+◌, ◌++◌, ◌∷◌, [], ℕ, List, Bool, true, false, true≢false, cond, length, Option, Some, None, IfSome, Result, Ok, Err, IfOk, OnErr, refl, sym, ap, subst, ◌∙◌, arith, append_assoc, append-nil, length-append, inl, inr, codes}
+use Rattle.std.specs.Io.BufRead.{ends_with_byte, take_through, drop_through}
+use Rattle.std.proofs.BufReadLemmas.{take_through-nil, take_through_nonempty}
+use Rattle.gs_shell_line.specs.Line.{StaysInLine, content, longest_line}
+use Rattle.gs_shell_script.specs.Run.{AnswersIfShort, AnswersLine, bad_line_text, lines_of, memory_text, unlines}
+use Rattle.gs_shell_script.proofs.Lines.{lines_of-step}
+use Rattle.gs_shell_line.specs.Ended.{IsEndedLine}
+use Rattle.gs_shell_line.specs.declared.ended.EndedLine.{EndedLine}
+use Rattle.gs_shell_line.specs.declared.ended.EndedLine.TheVariants.{End, Text, Unended, TooLong, NoMemory}
+use Rattle.gs_keep_mark.specs.Ledgers.{IsLedger, is_full}
+use Rattle.gs_keep_mark.specs.Marks.{Totals, noted, starts_mark, text_of, with_batch}
+use Rattle.gs_keep_mark.specs.Started.{IsBatch, IsPlain}
+use Rattle.gs_keep_mark.specs.declared.Ledger.{Ledger}
+use Rattle.gs_keep.specs.Lines.{Turn, entries, lines_asked, texts_of}
+use Rattle.gs_keep.specs.Running.{Gathers, LoggedAs, RunsOne, RunsSome}
+use Rattle.gs_keep.specs.declared.batch.Gathered.TheVariants as gathered
+use Rattle.gs_keep.proofs.Batches.{all_join, answers_join, entries_join, lines_join, text_join, unlines_join, with_join}
+use Rattle.gs_keep.proofs.Lines.{bad_line_is, logged_unmarked, long_test, long_unlogged, memory_is, next_plain, other_unlogged, short_logged, short_test}
+
+module _ {S : Type 0} (A : S → List ℕ → List ℕ → S → Type 0) (is_kept : List ℕ → Bool) where
+  -- ---- one line
+
+  -- the text that is shown of an answer
+  pub told : {X E : Type 0} (bytes : X → List ℕ) (answer : Result X E) (shown line : List ℕ) (old new : S) → IfOk answer (λ text. A old line (bytes text) new) → OnErr answer (A old line memory_text new)
+      → IfOk answer (λ text. shown ≡ bytes text) → OnErr answer (shown ≡ memory_text) → A old line shown new
+  told bytes (Ok text) shown line old new ok err same none = subst (λ (l : List ℕ). A old line l new) (sym same) ok
+  told bytes (Err e) shown line old new ok err same none = subst (λ (l : List ℕ). A old line l new) (sym none) err
+
+  -- the text of an answer that isn't one for want of memory
+  pub not_lacking : {X E : Type 0} (bytes : X → List ℕ) (answer : Result X E) (shown : List ℕ) (lacks : Bool) → lacks ≡ false → IfOk answer (λ text. lacks ≡ false → bytes text ≢ memory_text)
+      → OnErr answer (lacks ≡ true) → IfOk answer (λ text. shown ≡ bytes text) → shown ≢ memory_text
+  not_lacking bytes (Ok text) shown lacks enough other lacking same is = other enough (sym same ∙ is)
+  not_lacking bytes (Err e) shown lacks enough other lacking same is = absurd (true≢false (sym lacking ∙ enough))
+
+  answers_short : (line text : List ℕ) (old new : S) → length (content line) ≤ longest_line → A old (content line) text new → AnswersLine A old line text new
+  answers_short line text old new short answers =
+      inr (subst (λ b. AnswersIfShort A b old (content line) text new) (sym (short_test (length (content line)) longest_line short)) answers)
+
+  pub ran : (line text : List ℕ) (old new : S) (bytes bytes' answers answers' : List ℕ) (ledger ledger' : Ledger) → length (content line) ≤ longest_line → ends_with_byte 10 line ≡ true
+      → is_kept (content line) ≡ true → text ≢ memory_text → A old (content line) text new → bytes' ≡ bytes ++ line → answers' ≡ answers ++ (text ++ 10 ∷ [])
+      → ((t : Totals) → IsLedger ledger t → IsLedger ledger' (noted t (record { line = line; answer = text })))
+      → RunsOne A is_kept line old new bytes bytes' answers answers' ledger ledger'
+  ran line text old new bytes bytes' answers answers' ledger ledger' short ends kept enough answered put told noted = record {
+    turn = record { line = line; text = text; logged = true };
+    line_is = refl;
+    ended = λ logged. ends;
+    runs = record { answers = answers_short line text old new short answered; logged = (short_logged is_kept line short kept, enough) };
+    logged = put ∙ ap (λ (l : List ℕ). bytes ++ l) (sym (append-nil line));
+    answered = told;
+    noted = noted;
+  }
+
+  pub ran_other : (line text : List ℕ) (old new : S) (bytes answers answers' : List ℕ) (ledger : Ledger) → length (content line) ≤ longest_line
+      → is_kept (content line) ≡ false → new ≡ old → A old (content line) text new → answers' ≡ answers ++ (text ++ 10 ∷ [])
+      → RunsOne A is_kept line old new bytes bytes answers answers' ledger ledger
+  ran_other line text old new bytes answers answers' ledger short other same answered told = record {
+    turn = record { line = line; text = text; logged = false };
+    line_is = refl;
+    ended = λ logged. absurd (true≢false (sym logged));
+    runs = record { answers = answers_short line text old new short answered; logged = (same, inl (other_unlogged is_kept line other)) };
+    logged = sym (append-nil bytes);
+    answered = told;
+    noted = λ t is. is;
+  }
+
+  -- memory is lacking to hold a line or to log it
+  pub unheld : (line : List ℕ) (s : S) (bytes bytes' answers answers' : List ℕ) (ledger : Ledger) → bytes' ≡ bytes → answers' ≡ answers ++ (codes "refused 33 Memory" ++ 10 ∷ [])
+      → RunsOne A is_kept line s s bytes bytes' answers answers' ledger ledger
+  unheld line s bytes bytes' answers answers' ledger kept told = record {
+    turn = record { line = line; text = memory_text; logged = false };
+    line_is = refl;
+    ended = λ logged. absurd (true≢false (sym logged));
+    runs = record { answers = inl (refl, refl); logged = (refl, inr refl) };
+    logged = kept ∙ sym (append-nil bytes);
+    answered = told ∙ ap (λ (l : List ℕ). answers ++ (l ++ 10 ∷ [])) memory_is;
+    noted = λ t is. is;
+  }
+
+  pub too_long : (line : List ℕ) (s : S) (bytes answers answers' : List ℕ) (ledger : Ledger) → longest_line < length (content line) → answers' ≡ answers ++ (codes "refused 34 BadLine" ++ 10 ∷ [])
+      → RunsOne A is_kept line s s bytes bytes answers answers' ledger ledger
+  too_long line s bytes answers answers' ledger long told = record {
+    turn = record { line = line; text = bad_line_text; logged = false };
+    line_is = refl;
+    ended = λ logged. absurd (true≢false (sym logged));
+    runs = record {
+      answers = inr (subst (λ b. AnswersIfShort A b s (content line) bad_line_text s) (sym (long_test (length (content line)) longest_line long)) (refl, refl));
+      logged = (refl, inl (long_unlogged is_kept line long));
+    };
+    logged = sym (append-nil bytes);
+    answered = told ∙ ap (λ (l : List ℕ). answers ++ (l ++ 10 ∷ [])) bad_line_is;
+    noted = λ t is. is;
+  }
+
+  -- ---- many lines
+
+  -- so far
+  abbrev pub RunsSoFar : ℕ → List ℕ → Option (List ℕ) → S → S → List ℕ → List ℕ → Ledger → Ledger → Type 0
+  RunsSoFar count xs left old new bytes answers ledger ledger' = (rest : List ℕ) × (left ≡ Some rest) × RunsSome A is_kept count xs rest old new bytes answers ledger ledger'
+
+  pub runs_none : (o : Option (List ℕ)) (s : S) (bytes answers : List ℕ) (ledger : Ledger) → bytes ≡ [] → answers ≡ [] → IfSome o (λ xs. RunsSoFar 0 xs o s s bytes answers ledger ledger)
+  runs_none None s bytes answers ledger no_bytes no_answers = tt
+  runs_none (Some xs) s bytes answers ledger no_bytes no_answers = (
+    xs,
+    refl,
+    record { turns = []; many = omega arith; parts = refl; runs = refl; plain = tt; logged = no_bytes; answered = no_answers; noted = λ t is. is },
+  )
+
+  some_content : (whole : List ℕ) → longest_line < length (content whole) → 0 < length whole
+  some_content [] h = absurd (omega (arith, h))
+  some_content (x ∷ xs) h = omega arith
+
+  ended_some : (xs : List ℕ) → ends_with_byte 10 xs ≡ true → 0 < length xs
+  ended_some [] e = absurd (true≢false (sym e))
+  ended_some (x ∷ xs) e = omega arith
+
+  -- a line that is not the end has a byte
+  nonempty : (whole : List ℕ) (line : EndedLine) → line ≢ End → IsEndedLine whole line → 0 < length whole
+  nonempty whole End more is = absurd (more refl)
+  nonempty whole (Text v) more is = ended_some whole is.1
+  nonempty whole Unended more is = is.0
+  nonempty whole TooLong more is = some_content whole is
+  nonempty whole NoMemory more is = is
+
+  pub runs_more : ((line : List ℕ) → is_kept (35 ∷ line) ≡ false) → (count : ℕ) (line : EndedLine) (xs : List ℕ) (left left' : Option (List ℕ)) (old now new : S) (bytes bytes' answers answers' : List ℕ) (start ledger ledger' : Ledger)
+      → RunsSoFar count xs left old now bytes answers start ledger → line ≢ End → IfSome left (λ ys. IsEndedLine (take_through 10 ys) line) → IfSome left (λ ys. left' ≡ Some (drop_through 10 ys))
+      → ((whole : List ℕ) → IsEndedLine whole line → RunsOne A is_kept whole now new bytes bytes' answers answers' ledger ledger')
+      → RunsSoFar (count + 1) xs left' old new bytes' answers' start ledger'
+  runs_more none count line xs left left' old now new bytes bytes' answers answers' start ledger ledger' (rest, is, r) more next behind one =
+      let next' = subst (λ (o : Option (List ℕ)). IfSome o (λ ys. IsEndedLine (take_through 10 ys) line)) is next in
+      let behind' = subst (λ (o : Option (List ℕ)). IfSome o (λ ys. left' ≡ Some (drop_through 10 ys))) is behind in
+      let o = one (take_through 10 rest) next' in
+      let some = take_through_nonempty 10 rest (nonempty (take_through 10 rest) line more next') in
+      let turns = r.turns in
+      let last : List Turn = o.turn ∷ [] in
+      let back = lines_of (drop_through 10 rest) in (
+        drop_through 10 rest,
+        behind',
+        record {
+          turns = turns ++ last;
+          many = omega (arith, r.many, length-append turns last);
+          parts = r.parts ∙ ap (λ (l : List (List ℕ)). lines_asked turns ++ l) (lines_of-step rest some ∙ ap (λ (l : List ℕ). l ∷ back) (sym o.line_is))
+              ∙ sym (append_assoc (lines_asked turns) (o.turn.line ∷ []) back) ∙ ap (λ (l : List (List ℕ)). l ++ back) (sym (lines_join turns last));
+          runs = answers_join A is_kept old now new turns last r.runs (new, o.runs, refl);
+          plain = subst IsBatch (sym (entries_join turns last)) (all_join _ (entries turns) (entries last) r.plain (plain_last o some));
+          logged = o.logged ∙ ap (λ (l : List ℕ). l ++ text_of (entries last)) r.logged ∙ sym (text_join (entries turns) (entries last)) ∙ ap text_of (sym (entries_join turns last));
+          answered = o.answered ∙ ap (λ (l : List ℕ). l ++ (o.turn.text ++ 10 ∷ [])) r.answered
+              ∙ ap (λ (l : List ℕ). unlines (texts_of turns) ++ l) (sym (append-nil (o.turn.text ++ 10 ∷ []))) ∙ sym (unlines_join turns last);
+          noted = λ t told. subst (IsLedger ledger') (sym (with_join t (entries turns) (entries last)) ∙ ap (with_batch t) (sym (entries_join turns last)))
+              (o.noted (with_batch t (entries turns)) (r.noted t told));
+        },
+      )
+    where
+      plain_last : (o : RunsOne A is_kept (take_through 10 rest) now new bytes bytes' answers answers' ledger ledger') → 0 < length rest → IsBatch (entries (o.turn ∷ []))
+      plain_last o some = at o.turn.logged refl
+        where
+          at : (k : Bool) → o.turn.logged ≡ k → IsBatch (cond k (record { line = o.turn.line; answer = o.turn.text } ∷ []) [])
+          at false e = tt
+          at true e =
+              let (logged, enough) = subst (λ k. LoggedAs A is_kept k now o.turn new) e o.runs.logged in
+              let ends = subst (λ (l : List ℕ). ends_with_byte 10 l ≡ true) o.line_is (o.ended e) in
+              (subst IsPlain (sym o.line_is) (next_plain rest some ends (subst (λ (l : List ℕ). starts_mark l ≡ false) o.line_is (logged_unmarked is_kept none o.turn.line logged))), tt)
+
+  -- ---- how it ends
+
+  fewer : (count : ℕ) (xs rest : List ℕ) (old new : S) (bytes answers : List ℕ) (ledger ledger' : Ledger) → RunsSome A is_kept count xs rest old new bytes answers ledger ledger'
+      → (most : ℕ) → most ≤ count → RunsSome A is_kept most xs rest old new bytes answers ledger ledger'
+  fewer count xs rest old new bytes answers ledger ledger' r most less = record {
+    turns = r.turns;
+    many = omega (arith, less, r.many);
+    parts = r.parts;
+    runs = r.runs;
+    plain = r.plain;
+    logged = r.logged;
+    answered = r.answered;
+    noted = r.noted;
+  }
+
+  pub gathered_some : (count : ℕ) (xs : List ℕ) (left : Option (List ℕ)) (old new : S) (bytes answers : List ℕ) (ledger ledger' : Ledger) → RunsSoFar count xs left old new bytes answers ledger ledger'
+      → 1 ≤ count → Gathers A is_kept gathered.Some xs left old new bytes answers ledger ledger'
+  gathered_some count xs left old new bytes answers ledger ledger' (rest, is, r) some =
+      record { rest = rest; left_by = is; full = tt; runs = fewer count xs rest old new bytes answers ledger ledger' r 1 some }
+
+  pub gathered_full : (count : ℕ) (xs : List ℕ) (left : Option (List ℕ)) (old new : S) (bytes answers : List ℕ) (ledger ledger' : Ledger) → RunsSoFar count xs left old new bytes answers ledger ledger'
+      → is_full ledger' ≡ true → Gathers A is_kept gathered.Full xs left old new bytes answers ledger ledger'
+  gathered_full count xs left old new bytes answers ledger ledger' (rest, is, r) full =
+      record { rest = rest; left_by = is; full = full; runs = fewer count xs rest old new bytes answers ledger ledger' r 0 (omega arith) }
+
+  pub gathered_failed : (count : ℕ) (xs : List ℕ) (left left' : Option (List ℕ)) (old new : S) (bytes answers : List ℕ) (ledger ledger' : Ledger) → RunsSoFar count xs left old new bytes answers ledger ledger'
+      → StaysInLine left left' → Gathers A is_kept gathered.Failed xs left' old new bytes answers ledger ledger'
+  gathered_failed count xs left left' old new bytes answers ledger ledger' (rest, is, r) stays =
+      record { rest = rest; left_by = subst (λ (o : Option (List ℕ)). StaysInLine o left') is stays; full = tt; runs = fewer count xs rest old new bytes answers ledger ledger' r 0 (omega arith) }
+
+  pub gathered_unended : (count : ℕ) (xs : List ℕ) (left left' : Option (List ℕ)) (old new : S) (bytes answers : List ℕ) (ledger ledger' : Ledger) → RunsSoFar count xs left old new bytes answers ledger ledger'
+      → IfSome left (λ ys. IsEndedLine (take_through 10 ys) Unended) → IfSome left (λ ys. left' ≡ Some (drop_through 10 ys)) → Gathers A is_kept gathered.Unended xs left' old new bytes answers ledger ledger'
+  gathered_unended count xs left left' old new bytes answers ledger ledger' (rest, is, r) next behind =
+      let (some, ends) = subst (λ (o : Option (List ℕ)). IfSome o (λ ys. IsEndedLine (take_through 10 ys) Unended)) is next in
+      record {
+        rest = rest;
+        left_by = ((take_through_nonempty 10 rest some, ends), subst (λ (o : Option (List ℕ)). IfSome o (λ ys. left' ≡ Some (drop_through 10 ys))) is behind);
+        full = tt;
+        runs = fewer count xs rest old new bytes answers ledger ledger' r 0 (omega arith);
+      }
+
+  pub gathered_all : (count : ℕ) (xs : List ℕ) (left left' : Option (List ℕ)) (old new : S) (bytes answers : List ℕ) (ledger ledger' : Ledger) → RunsSoFar count xs left old new bytes answers ledger ledger'
+      → IfSome left (λ ys. IsEndedLine (take_through 10 ys) End) → IfSome left (λ ys. left' ≡ Some (drop_through 10 ys)) → Gathers A is_kept gathered.All xs left' old new bytes answers ledger ledger'
+  gathered_all count xs left left' old new bytes answers ledger ledger' (rest, is, r) next behind =
+      let none = take_through-nil 10 rest (ap length (subst (λ (o : Option (List ℕ)). IfSome o (λ ys. IsEndedLine (take_through 10 ys) End)) is next)) in
+      let left_is = subst (λ (o : Option (List ℕ)). IfSome o (λ ys. left' ≡ Some (drop_through 10 ys))) is behind in
+      record {
+        rest = rest;
+        left_by = (none, left_is ∙ ap (λ (l : List ℕ). Some (drop_through 10 l)) none ∙ ap (λ (l : List ℕ). Some l) (sym none));
+        full = tt;
+        runs = fewer count xs rest old new bytes answers ledger ledger' r 0 (omega arith);
+      }

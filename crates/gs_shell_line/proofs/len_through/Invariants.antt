@@ -1,9 +1,0 @@
--- `len_through` stays within the bytes, and has not met `byte`.
-use Rattle.std.proofs.Common.{◌≢◌, ◌-◌, ◌≤◌, All, length, take}
-use Rattle.gs_shell_line.proofs.len_through.Given as goal
-
-abbrev pub invariant-loop-i : goal.invariant-loop-i
-invariant-loop-i l = (l.i ≤ length l.bytes) × All (λ x. x ≢ l.byte) (take l.i l.bytes)
-
-abbrev pub decreases-loop-i : goal.decreases-loop-i
-decreases-loop-i l = length l.bytes - l.i
