@@ -2,31 +2,30 @@
 
 import glob
 from argparse import Namespace
-from collections import defaultdict
-from collections.abc import Iterator
-from dataclasses import dataclass, field
+from collections.abc import Iterable, Iterator
 from datetime import datetime
-from pathlib import Path
+from typing import NamedTuple
 
 from client.listing import chunk_sizes
-from client.names import line_path, shown
-from client.output import WELL, WRONG, say, warn
+from client.names import line_path, old_path, shown
 from client.progress import human
-from client.session import Answer, Session
-from client.store import Chunk, Entry, heal, phase, report_all, told_below
+from client.session import Session, Sizes
+from client.store import Chunk, Entry, heal, paths_of, phase, report_all, told_below
+from client.telling import WELL, WRONG, Refused, say, warn
+from client.trash import removed
 
 # So often all is healed and looked at anew, since a look finds damage that a copy has to follow.
 MOST_ROUNDS = 8
 
 
-@dataclass
-class Found:
+class Found(NamedTuple):
     """What a look at files has found."""
 
-    entries: list[Entry] = field(default_factory=list)
+    entries: list[Entry]
     # Paths, and what is wrong there.
-    wrong: list[tuple[str, str]] = field(default_factory=list)
-    blocks: int = 0
+    wrong: list[tuple[str, str]]
+    # How many blocks were asked for.
+    blocks: int
 
     @property
     def chunks(self) -> dict[int, Chunk]:
@@ -35,30 +34,22 @@ class Found:
     def short(self, wanted: int) -> list[Chunk]:
         return [chunk for chunk in self.chunks.values() if len(chunk.servers) < wanted]
 
-    def paths(self) -> dict[int, list[str]]:
-        """Of each chunk the paths of its files."""
-        told: dict[int, list[str]] = defaultdict(list)
-        for entry in self.entries:
-            for chunk in entry.chunks:
-                told[chunk.handle].append(entry.path)
-        return told
+
+def place(path: str) -> str:
+    """A path as people see it. What is in the trash stands where it comes back to."""
+    return shown(path) if path == old_path(path) else f"{shown(old_path(path))} (in the trash)"
 
 
-def looked_at(session: Session, tops: list[str]) -> Found:
-    """What stands at each file below some paths, as the master knows it."""
-    found = Found()
-    for top in tops:
-        for path, told in told_below(session, top):
-            if isinstance(told, Answer):
-                found.wrong.append((path, f"its size can't be told: {told.text}"))
-            elif not told.is_directory:
-                found.entries.append(told)
-    return found
+def looked_at(session: Session, tops: list[str], wrong: Iterable[tuple[str, str]] = (), blocks: int = 0) -> Found:
+    """What stands at each file below some paths, as the master knows it, with what is wrong besides."""
+    told = [one for top in tops for one in told_below(session, top)]
+    entries = [entry for _, entry in told if isinstance(entry, Entry) and not entry.is_directory]
+    untold = [(path, f"its size can't be told: {refused.says}") for path, refused in told if isinstance(refused, Refused)]
+    return Found(entries, [*untold, *wrong], blocks)
 
 
-def digest_lines(entries: list[Entry], session: Session) -> Iterator[str]:
+def digest_lines(entries: list[Entry], sizes: Sizes) -> Iterator[str]:
     """A line for each block of each file."""
-    sizes = session.sizes
     for entry in entries:
         for index, size in enumerate(chunk_sizes(entry, sizes.chunk)):
             yield from (f"digest {entry.path} {index} {block}" for block in range(-(-size // sizes.block)))
@@ -67,17 +58,13 @@ def digest_lines(entries: list[Entry], session: Session) -> Iterator[str]:
 def checked(session: Session, tops: list[str]) -> Found:
     """Has each server report, asks for the digest of each block, and looks at what is known then."""
     report_all(session)
-    lines = digest_lines(looked_at(session, tops).entries, session)
     wrong, blocks = [], 0
-    for answer in session.ask_all(lines):
+    for answer in session.ask_all(digest_lines(looked_at(session, tops).entries, session.sizes)):
         blocks += 1
         if not answer.is_ok:
             _, path, chunk, block = answer.line.split(" ")
-            wrong.append((path, f"block {block} of its chunk at {chunk} isn't there: {answer.text}"))
-    found = looked_at(session, tops)
-    found.wrong += wrong
-    found.blocks = blocks
-    return found
+            wrong.append((path, f"block {block} of its chunk at {chunk} isn't there: {answer.refusal.says}"))
+    return looked_at(session, tops, wrong, blocks)
 
 
 def repaired(session: Session, tops: list[str]) -> tuple[Found, int, str | None]:
@@ -95,19 +82,25 @@ def repaired(session: Session, tops: list[str]) -> tuple[Found, int, str | None]
 
 def fsck(session: Session, asked: Namespace) -> int:
     tops = [line_path(path, asked.folder) for path in asked.paths or ["/"]]
+    # What was deleted below may come back, so it has to be as sound as what stands.
+    tops += [path for path in removed(session) if path.startswith(tuple(f"{top.rstrip('/')}/" for top in tops))]
     if asked.handle is not None:
-        return paths_of_chunk(session, tops, asked.handle)
+        paths = paths_of(looked_at(session, tops).entries)[asked.handle]
+        for path in paths:
+            say(place(path))
+        return WELL if paths else WRONG
     found, made, refused = repaired(session, tops) if asked.repair else (checked(session, tops), 0, None)
-    paths, wanted = found.paths(), session.sizes.replicas
-    if asked.verbose:
-        for entry in found.entries:
-            say(f"{shown(entry.path)} {entry.size} bytes: {', '.join(map(chunk_text, entry.chunks)) or 'no chunk'}")
+    wanted, paths = session.sizes.replicas, paths_of(found.entries)
     short = found.short(wanted)
+    for entry in found.entries if asked.verbose else ():
+        say(f"{place(entry.path)} {entry.size} bytes: {', '.join(map(chunk_text, entry.chunks)) or 'no chunk'}")
     for chunk in short:
-        say(f"{chunk_text(chunk)}, where {wanted} are wanted: {', '.join(map(shown, paths[chunk.handle]))}")
+        say(f"{chunk_text(chunk)}, where {wanted} are wanted: {', '.join(map(place, paths[chunk.handle]))}")
     for path, what in found.wrong:
-        say(f"{shown(path)}: {what}")
-    say(f"{len(found.entries)} files, {len(found.chunks)} chunks, {found.blocks} blocks asked, {len(short)} chunks short, {made} copies made")
+        say(f"{place(path)}: {what}")
+    trash = sum(old_path(entry.path) != entry.path for entry in found.entries)
+    counts = f"{len(found.chunks)} chunks, {found.blocks} blocks asked, {len(short)} chunks short, {made} copies made"
+    say(f"{len(found.entries)} files, {trash} of them in the trash, {counts}")
     if refused:
         # The store takes the chunk first that lacks the most, also where nothing can be copied of it.
         blocked = "\nWhat can't be read keeps other chunks from being copied, until its files are deleted and no longer in the trash."
@@ -124,14 +117,7 @@ def chunk_text(chunk: Chunk) -> str:
     return f"chunk {chunk.handle} {servers}"
 
 
-def paths_of_chunk(session: Session, tops: list[str], handle: int) -> int:
-    paths = looked_at(session, tops).paths()[handle]
-    for path in paths:
-        say(shown(path))
-    return WELL if paths else WRONG
-
-
-def report(session: Session, asked: Namespace) -> int:
+def report(session: Session, asked: Namespace) -> None:
     """Servers with what is on each, what is short, the upgrade's phase, and the files in which the store is kept."""
     found, sizes = looked_at(session, ["/"]), session.sizes
     chunk_bytes = {chunk.handle: size for entry in found.entries for chunk, size in zip(entry.chunks, chunk_sizes(entry, sizes.chunk))}
@@ -143,16 +129,10 @@ def report(session: Session, asked: Namespace) -> int:
         say(f"server {server}, rack {server % sizes.racks}: {len(handles)} chunks, {human(sum(chunk_bytes[handle] for handle in handles))}")
     for path, what in found.wrong:
         say(f"{shown(path)}: {what}")
-    if session.place.file is not None:
-        report_files(session.place.file)
-    return WELL
-
-
-def report_files(log: Path) -> None:
-    say(f"log {log}: {human(log.stat().st_size)}")
-    images = sorted(log.parent.glob(f"{glob.escape(log.name)}.image.*"))
-    for image in images:
-        made = datetime.fromtimestamp(image.stat().st_mtime).strftime("%Y-%m-%d %H:%M:%S")
-        say(f"image {image}: {human(image.stat().st_size)}, made {made}")
-    if not images:
-        say("no image")
+    if log := session.file:
+        say(f"log {log}: {human(log.stat().st_size)}")
+        images = sorted(log.parent.glob(f"{glob.escape(log.name)}.image.*"))
+        for image in images:
+            say(f"image {image}: {human(image.stat().st_size)}, made {datetime.fromtimestamp(image.stat().st_mtime):%Y-%m-%d %H:%M:%S}")
+        if not images:
+            say("no image")

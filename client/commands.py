@@ -1,12 +1,20 @@
 """The commands, with their words, and what runs each."""
 
-from argparse import ArgumentParser, Namespace, RawDescriptionHelpFormatter
-from collections.abc import Callable
-from dataclasses import dataclass
+from argparse import Action, ArgumentParser, RawDescriptionHelpFormatter
+from collections.abc import Iterable
 from pathlib import Path
+from typing import NamedTuple
 
 from client import check, listing, script, transfer, trash, upgrade
-from client.session import Session
+from client.attempts import Run
+from client.telling import MISUSED, like, local
+
+
+def there(name: str) -> Path:
+    """What stands on this machine under a name that is given. It has to be there before a store is made for it."""
+    with local(name):
+        Path(name).stat()
+    return Path(name)
 
 
 def word(*names: str, **how: object) -> tuple[tuple[str, ...], dict[str, object]]:
@@ -24,48 +32,45 @@ TARGET = word("target", metavar="TARGET", help="a directory that is there, or th
 ONE = word("path", metavar="PATH")
 HUMAN = flag("-h", "--human", "sizes with units")
 FORCE = flag("-f", "--force", "puts files in the place of others")
-ANYWAY = word("--anyway", action="store_true", help="begins it also where it can't be done, which closes the store for good")
 
 
-@dataclass(frozen=True)
-class Command:
+class Command(NamedTuple):
     name: str
-    run: Callable[[Session, Namespace], int]
+    run: Run | None
     what: str
     example: str
     words: tuple = ()
     # Whether it makes a store where none is.
     makes: bool = False
+    steps: "tuple[Command, ...]" = ()
 
 
-UPGRADES = (
+STEPS = (
     Command("prepare", upgrade.prepare, "begins an upgrade", "upgrade prepare"),
     Command("status", upgrade.status, "how it stands, and what a rollback would find", "upgrade status"),
-    Command("rollback", upgrade.rollback, "takes back all that changed since the prepare", "upgrade rollback", (ANYWAY,)),
+    Command("rollback", upgrade.rollback, "takes back all that changed since the prepare", "upgrade rollback", (
+        word("--anyway", action="store_true", help="begins it also where it can't be done, which closes the store for good"),)),
     Command("finalize", upgrade.finalize, "keeps all that changed", "upgrade finalize"),
 )
 COMMANDS = (
     Command("put", transfer.put, "brings files and directories into the store", "put notes.txt photos /", (
-        word("sources", nargs="+", metavar="LOCAL", help="what is brought in"),
+        word("sources", nargs="+", type=there, metavar="LOCAL", help="what is brought in"),
         word("target", metavar="PATH", help="a directory of the store, or the new path itself"), FORCE,
-        word("--verify", action="store_true", help="reads back what came in and compares its SHA-256"),
-    ), True),
+        word("--verify", action="store_true", help="reads back what came in and compares its SHA-256")), True),
     Command("get", transfer.get, "brings files and directories out of the store", "get /photos .", (
         word("sources", nargs="+", metavar="PATH", help="what is brought out"),
         word("target", metavar="LOCAL", help="a directory of this machine, or the new place itself"), FORCE)),
     Command("cat", transfer.cat, "writes files to standard output", "cat /notes.txt", (SOME,)),
-    Command("tail", transfer.tail, "writes the end of a file to standard output", "tail -c 100 /notes.txt", (
-        ONE, word("-c", dest="bytes", type=int, default=transfer.TAIL_BYTES, help="how many bytes"))),
+    Command("tail", transfer.cat, "writes the ends of files to standard output", "tail -c 100 /notes.txt", (
+        SOME, word("-c", dest="bytes", type=int, default=transfer.TAIL_BYTES, help="how many bytes"))),
     Command("append", transfer.append, "puts files, or standard input, at the end of a file", "append /notes.txt more.txt", (
-        ONE, word("files", nargs="*", type=Path, metavar="LOCAL")), True),
+        ONE, word("files", nargs="*", type=there, metavar="LOCAL")), True),
     Command("ls", listing.ls, "what stands in a directory", "ls -l -h /photos", (
         ANY, flag("-l", "--long", "with the least replicas of a chunk, and the size"), flag("-R", "--recursive", "all below too"), HUMAN)),
-    Command("du", listing.du, "bytes, and the bytes of all replicas", "du -h /photos", (
-        ANY, flag("-s", "--summary", "one line for each path"), HUMAN)),
+    Command("du", listing.du, "bytes, and the bytes of all replicas", "du -h /photos", (ANY, flag("-s", "--summary", "a line for each path"), HUMAN)),
     Command("count", listing.count, "directories, files and bytes", "count /photos", (ANY, HUMAN)),
     Command("tree", listing.tree, "a picture of what stands below", "tree /photos", (word("path", nargs="?", metavar="PATH"),)),
-    Command("find", listing.find, "paths by their names", "find / -name '*.txt'", (
-        ONE, word("-name", metavar="PATTERN", help="as a shell's"))),
+    Command("find", listing.find, "paths by their names", "find / -name '*.txt'", (ONE, word("-name", metavar="PATTERN", help="as a shell's"))),
     Command("mkdir", listing.mkdir, "makes directories, with those above them", "mkdir /photos/2024", (SOME,), True),
     Command("mv", listing.mv, "moves", "mv /notes.txt /photos", (SOURCES, TARGET)),
     Command("cp", listing.cp, "copies, which copies no byte until one side is written to", "cp /photos /photos.old", (SOURCES, TARGET)),
@@ -81,29 +86,31 @@ COMMANDS = (
         word("--chunk", dest="handle", type=int, metavar="NUMBER", help="the paths of a chunk"))),
     Command("report", check.report, "servers, chunks, the upgrade's phase and the files of the store", "report"),
     Command("export", script.export, "a script that makes what stands now in a new store", "export --to backup.txt", (
-        word("--to", type=Path, metavar="FILE", help="where it goes, in place of standard output"),)),
+        word("--to", type=Path, metavar="FILE", help="where it goes, in place of standard output"), FORCE)),
     Command("import", script.import_script, "makes what such a script says in a new store", "import backup.txt", (
-        word("file", type=Path, metavar="FILE"),), True),
+        word("file", type=there, metavar="FILE"),), True),
+    Command("upgrade", None, "prepare, status, rollback, finalize: changes that can be taken back", "upgrade status", steps=STEPS),
 )  # fmt: skip
 
 
-def add(commands: object, command: Command) -> None:
-    """A parser of its own for each, in which -h stands for sizes where a command has them."""
-    how = {"help": command.what, "description": command.what, "epilog": f"example:\n  ./chunkfs STORE {command.example}"}
-    parser = commands.add_parser(command.name, formatter_class=RawDescriptionHelpFormatter, add_help=False, **how)
-    parser.add_argument("--help", action="help", help="says this")
-    for names, how in command.words:
-        parser.add_argument(*names, **how)
-    parser.set_defaults(run=command.run, makes=command.makes)
+class Words(ArgumentParser):
+    """The words of a command line. One that is no command is told with the one that is like it."""
+
+    def _check_value(self, action: Action, value: str) -> None:
+        if action.choices is not None and value not in action.choices:
+            self.exit(MISUSED, f"chunkfs: no command '{value}'{like(value, action.choices)}\n")
 
 
-def add_commands(parser: ArgumentParser, *others: Command) -> None:
-    """All commands, and others that stand with them."""
-    commands = parser.add_subparsers(metavar="COMMAND", required=True)
-    for command in (*COMMANDS, *others):
-        add(commands, command)
-    what = "prepare, status, rollback, finalize: changes that can be taken back"
-    upgrades = commands.add_parser("upgrade", help=what, description=what, epilog="example: ./chunkfs STORE upgrade status")
-    inner = upgrades.add_subparsers(metavar="STEP", required=True)
-    for command in UPGRADES:
-        add(inner, command)
+def add_commands(parser: ArgumentParser, commands: Iterable[Command], before: str, metavar: str = "COMMAND") -> dict[str, ArgumentParser]:
+    """A parser of its own for each command, by its name, with what stands before it in its example. In it -h stands for sizes where it has them."""
+    added = parser.add_subparsers(metavar=metavar, required=True)
+    for command in commands:
+        how = {"description": command.what, "epilog": f"example:\n  {before}{command.example}", "formatter_class": RawDescriptionHelpFormatter}
+        one = added.add_parser(command.name, help=command.what, add_help=False, **how)
+        one.add_argument("--help", action="help", help="says this")
+        for names, how in command.words:
+            one.add_argument(*names, **how)
+        one.set_defaults(run=command.run, makes=command.makes)
+        if command.steps:
+            add_commands(one, command.steps, before, "STEP")
+    return added.choices

@@ -2,6 +2,7 @@
 
 import sys
 import time
+from collections.abc import Iterable, Iterator
 
 UNITS = ("B", "K", "M", "G", "T")
 WIDTH = 30
@@ -10,10 +11,8 @@ SECONDS_BETWEEN = 0.2
 
 def human(size: float) -> str:
     """A count of bytes as people read it."""
-    unit = 0
-    while size >= 1_024 and unit < len(UNITS) - 1:
-        size, unit = size / 1_024, unit + 1
-    return f"{size:.0f} {UNITS[unit]}" if unit == 0 else f"{size:.1f} {UNITS[unit]}"
+    unit = min(max(int(size).bit_length() - 1, 0) // 10, len(UNITS) - 1)
+    return f"{size / 1_024**unit:.{min(unit, 1)}f} {UNITS[unit]}"
 
 
 class Progress:
@@ -30,10 +29,13 @@ class Progress:
         if self.is_shown:
             self.show("\n")
 
-    def add(self, count: int) -> None:
-        self.done += count
-        if self.is_shown and time.monotonic() - self.shown >= SECONDS_BETWEEN:
-            self.show("")
+    def counted(self, parts: Iterable[bytes]) -> Iterator[bytes]:
+        """The same parts, each of which is counted once it is taken."""
+        for part in parts:
+            yield part
+            self.done += len(part)
+            if self.is_shown and time.monotonic() - self.shown >= SECONDS_BETWEEN:
+                self.show("")
 
     def show(self, end: str) -> None:
         self.shown = time.monotonic()

@@ -1,6 +1,6 @@
 """A store that runs, and is asked lines."""
 
-import fcntl
+import contextlib
 import os
 import re
 import select
@@ -11,30 +11,31 @@ import tempfile
 import time
 from collections import deque
 from collections.abc import Iterable, Iterator
-from dataclasses import dataclass, field
+from dataclasses import dataclass
 from pathlib import Path
+from typing import NamedTuple
 
 import launch
 
-from client.names import shown
-from client.output import warn
-from client.refusals import Failed, Refused
+from client.names import bytes_of, parent, shown
+from client.telling import Refused, local, warn
 
-F_SETPIPE_SZ = 1031
 # What comes together is put into the log by one write and synced once, up to so much.
 PIPE_BYTES = 1_048_576
 # So much is sent before its answers are waited for.
 AHEAD_BYTES = 4 * PIPE_BYTES
 AHEAD_LINES = 4_096
-SIZE = re.compile(r"--(\w+) (\d+)")
+SAID_BYTES = 2_000
+SIZE = re.compile(r"--(servers|racks|replicas|chunk|block) (\d+)")
+# How the commands of this client call what lines ask for.
+CALLED = {"rollingUpgrade": "upgrade", "rollback-commit": "upgrade rollback", "replicate": "fsck --repair", "scan": "expunge"}
 
 
 class Ended(Exception):
     """The store's program has ended where an answer was meant."""
 
 
-@dataclass(frozen=True)
-class Answer:
+class Answer(NamedTuple):
     line: str
     text: str
 
@@ -47,9 +48,15 @@ class Answer:
         """What an accepted line gives. A refused one raises."""
         if self.is_ok:
             return self.text[3:]
+        raise self.refusal
+
+    @property
+    def refusal(self) -> Refused:
+        """Why the line is refused, told of its paths, or of what it asks for where it has none. A target may be new, but not what it stands in."""
         words = self.line.split(" ")
-        about = next((word for word in words[1:] if word.startswith("/")), " ".join(words[:2]))
-        raise Refused(self.text, shown(about))
+        paths = [word for word in words[1:] if word.startswith("/")]
+        about = " to ".join(map(shown, paths)) or " ".join(CALLED.get(word, word) for word in words[:2])
+        return Refused(self.text, about, *paths[:1], *map(parent, paths[1:]))
 
 
 @dataclass(frozen=True)
@@ -62,35 +69,13 @@ class Sizes:
     chunk: int = 67_108_864
     block: int = 65_536
 
-    def words(self) -> list[str]:
-        return [word for name, size in vars(self).items() for word in (f"--{name}", str(size))]
 
-
-@dataclass(frozen=True)
-class Place:
-    """Where a store stands: in a file, or in memory alone; and the sizes that were given for a new one."""
-
-    file: Path | None
-    given: dict[str, int] = field(default_factory=dict)
-    # Whether the lines of a store without a file are kept, so that they can be run again.
-    is_recorded: bool = True
-
-    def sizes(self) -> Sizes:
-        """Those of the file's first line, or those of a new store."""
-        if self.file is None or not self.file.exists():
-            return Sizes(**self.given)
-        with open(self.file, errors="replace") as log:
-            found = {name: int(size) for name, size in SIZE.findall(log.readline(1_000))}
-        return Sizes(**{name: found[name] for name in vars(Sizes()) if name in found})
-
-    def opened(self, may_make: bool) -> "Session":
-        """Starts the store. One that isn't there is made only where that is meant."""
-        given = [word for name, size in self.given.items() for word in (f"--{name}", str(size))]
-        if self.file is None:
-            return Session("chunkstore", given, self.sizes(), self)
-        if not may_make and not self.file.exists():
-            raise Failed(f"{self.file}: no store stands there; put, mkdir, import and shell make one")
-        return Session("chunkkeep", [str(self.file), *given], self.sizes(), self)
+def sizes_of(file: Path | None, given: dict[str, int]) -> Sizes:
+    """Those of the first line of a store's file, or those of a new store."""
+    if file is None or not file.exists():
+        return Sizes(**given)
+    with local(file), open(file, errors="replace") as log:
+        return Sizes(**{name: int(size) for name, size in SIZE.findall(log.readline(1_000))})
 
 
 def next_piece(unsent: bytes) -> bytes:
@@ -100,23 +85,20 @@ def next_piece(unsent: bytes) -> bytes:
     return bytes(unsent[: end or unsent.find(b"\n") + 1])
 
 
-def ignore_interrupts() -> None:
-    """What is typed at a terminal is for the client, which ends the program itself."""
-    signal.signal(signal.SIGINT, signal.SIG_IGN)
-
-
 class Session:
     """A program that is asked lines, many of them before their answers come, so that its log is synced seldom."""
 
-    def __init__(self, name: str, words: list[str], sizes: Sizes, place: Place):
-        self.sizes, self.place = sizes, place
+    def __init__(self, file: Path | None, given: dict[str, int], is_recorded: bool = True):
+        """Starts the program that keeps a store in a file, or the one that needs none, with the sizes that are given for a new one."""
+        self.file, self.sizes = file, sizes_of(file, given)
         # The lines of a store that has no file, by which it can be run again.
-        self.recorded: list[str] = []
+        self.recorded: deque[str] = deque(maxlen=None if is_recorded and not file else 0)
         self.said = tempfile.TemporaryFile()
-        how = {"stdin": subprocess.PIPE, "stdout": subprocess.PIPE, "stderr": self.said, "bufsize": 0, "preexec_fn": ignore_interrupts}
-        self.program = subprocess.Popen([launch.program_of(name).path, *words], **how)
-        for pipe in (self.program.stdin, self.program.stdout):
-            fcntl.fcntl(pipe, F_SETPIPE_SZ, PIPE_BYTES)
+        words = [launch.program_of("chunkkeep").path, file] if file else [launch.program_of("chunkstore").path]
+        words += [str(word) for name, size in given.items() for word in (f"--{name}", size)]
+        how = {"stdin": subprocess.PIPE, "stdout": subprocess.PIPE, "stderr": self.said, "bufsize": 0, "pipesize": PIPE_BYTES}
+        # What is typed at a terminal is for the client, which ends the program itself.
+        self.program = subprocess.Popen(words, preexec_fn=lambda: signal.signal(signal.SIGINT, signal.SIG_IGN), **how)
         os.set_blocking(self.program.stdin.fileno(), False)
         self.unsent, self.unread, self.is_heard = bytearray(), bytearray(), False
         # Answers that have come and weren't given yet.
@@ -138,8 +120,14 @@ class Session:
 
     def ask(self, *words: object) -> str:
         """What one line gives."""
-        (answer,) = self.ask_all([" ".join(map(str, words))])
-        return answer.value
+        return self.told(" ".join(map(str, words))).value
+
+    def told(self, line: str, *may_be: int) -> Answer:
+        """The answer to one line, which may be refused: with any number, or with these alone."""
+        (answer,) = self.ask_all([line])
+        if not answer.is_ok and may_be and answer.refusal.number not in may_be:
+            raise answer.refusal
+        return answer
 
     def try_all(self, lines: Iterable[str]) -> list[str]:
         """What lines give, each of which has to be accepted."""
@@ -158,7 +146,8 @@ class Session:
             self.heard.clear()
             raise
         finally:
-            deque(self.exchange(iter(()), asked), maxlen=0)
+            if not self.program.stdin.closed:
+                deque(self.exchange(iter(()), asked), maxlen=0)
 
     def exchange(self, lines: Iterator[str], asked: deque[str]) -> Iterator[Answer]:
         is_more = True
@@ -168,9 +157,8 @@ class Session:
                 is_more = line is not None
                 if is_more:
                     asked.append(line)
-                    self.unsent += f"{line}\n".encode()
-                    if self.place.file is None and self.place.is_recorded:
-                        self.recorded.append(line)
+                    self.unsent += bytes_of(f"{line}\n")
+                    self.recorded.append(line)
             if asked and not self.heard:
                 self.heard.extend(self.turn())
             # One answer at a time is taken, so that none is lost where somebody leaves off.
@@ -182,59 +170,49 @@ class Session:
         wanted = [self.program.stdin] if self.unsent else []
         readable, writable, _ = select.select([self.program.stdout], wanted, [], 1)
         if writable:
-            self.send(next_piece(self.unsent))
+            # There may be room for a part of it alone. Where the program has ended, its answers end too.
+            with contextlib.suppress(BlockingIOError, BrokenPipeError):
+                del self.unsent[: os.write(self.program.stdin.fileno(), next_piece(self.unsent))]
         if not self.is_heard and sys.stderr.isatty():
             # How far a start is that takes long.
-            print(f"\r{'' if readable else self.last_said()}\x1b[K\r", end="", file=sys.stderr, flush=True)
+            print(f"\r{'' if readable else self.last_said()[-1]}\x1b[K\r", end="", file=sys.stderr, flush=True)
         if not readable:
             return []
         part = os.read(self.program.stdout.fileno(), PIPE_BYTES)
         if not part:
             raise self.ended()
-        if not self.is_heard:
-            self.tell_start()
+        # What a start has cut off its log is told.
+        for line in self.last_said() if not self.is_heard else ():
+            if line.endswith(" cut off"):
+                warn(line)
         self.is_heard = True
         self.unread += part
         whole, end, rest = self.unread.rpartition(b"\n")
         self.unread = rest if end else self.unread
         return whole.decode().split("\n") if end else []
 
-    def send(self, piece: bytes) -> None:
-        """Sends as much of a piece as there is room for."""
-        try:
-            del self.unsent[: os.write(self.program.stdin.fileno(), piece)]
-        except BlockingIOError:
-            return
-        except BrokenPipeError:
-            raise self.ended() from None
-
-    def tell_start(self) -> None:
-        """Says what a start has cut off its log."""
-        for line in os.pread(self.said.fileno(), 2_000, 0).decode(errors="replace").splitlines():
-            if line.endswith(" cut off"):
-                warn(line)
-
-    def last_said(self) -> str:
+    def last_said(self) -> list[str]:
+        """The last lines that the program has said on standard error."""
         size = os.fstat(self.said.fileno()).st_size
-        return os.pread(self.said.fileno(), 2_000, max(0, size - 2_000)).decode(errors="replace").strip().split("\n")[-1]
+        return os.pread(self.said.fileno(), SAID_BYTES, max(0, size - SAID_BYTES)).decode(errors="replace").strip().split("\n")
 
     def ended(self) -> Ended:
         status = self.program.wait()
-        return Ended(f"the store's program has ended, with status {status}: {self.last_said() or 'it said nothing'}")
+        return Ended(f"the store's program has ended, with status {status}: {self.last_said()[-1] or 'it said nothing'}")
 
     def history(self) -> Iterator[str]:
         """All lines that the store was ever asked."""
-        if self.place.file is None:
+        if self.file is None:
             yield from list(self.recorded)
             return
-        with open(self.place.file, newline="\n", encoding="utf-8") as log:
+        with open(self.file, newline="\n", encoding="utf-8", errors="surrogateescape") as log:
             next(log)
             # A line that begins with # is a mark.
             yield from (line.removesuffix("\n") for line in log if not line.startswith("#"))
 
     def again(self) -> "Session":
         """A store without a file, that is asked nothing yet, for the lines of this one to be run again."""
-        return Session("chunkstore", self.sizes.words(), self.sizes, Place(None, is_recorded=False))
+        return Session(None, vars(self.sizes), is_recorded=False)
 
     def set_moment(self) -> None:
         """From now on the store's moment is that of the clock."""

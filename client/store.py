@@ -2,40 +2,34 @@
 
 import hashlib
 import itertools
+from collections import defaultdict
 from collections.abc import Iterable, Iterator
-from dataclasses import dataclass
+from typing import NamedTuple
 
 from client.names import child, shown
-from client.refusals import Failed, Refused
-from client.session import Answer, Session
+from client.session import Session
+from client.telling import NOT_FOUND, Failed, Refused
 
-# A server gives so many bytes of a file in one answer.
-READ_BYTES = 524_288
+# The bytes of a line that writes or reads: whole blocks of the greatest size, which fit into a line as hexadecimal digits.
+LINE_BYTES = 7 * 65_536
 # So many answers of that size are waited for where somebody leaves off.
 READS_AHEAD = 16
-NOT_FOUND = 3
+NO_REPLICA = 28
 
 
-@dataclass(frozen=True)
-class Chunk:
+class Chunk(NamedTuple):
     handle: int
     references: int
     servers: tuple[int, ...]
 
 
-@dataclass(frozen=True)
-class Entry:
+class Entry(NamedTuple):
     """A directory, or a file with its size and chunks, by its path in lines."""
 
     path: str
     is_directory: bool
     size: int = 0
     chunks: tuple[Chunk, ...] = ()
-
-    @property
-    def replicas(self) -> int | None:
-        """How many replicas each of its chunks has at least, if it has any."""
-        return min((len(chunk.servers) for chunk in self.chunks), default=None)
 
 
 def read_chunk(text: str) -> Chunk:
@@ -45,10 +39,8 @@ def read_chunk(text: str) -> Chunk:
 
 def read_entry(path: str, told: str) -> Entry:
     """What `stat` tells of a path."""
-    words = told.split(" ")
-    if words[0] == "dir":
-        return Entry(path, True)
-    return Entry(path, False, int(words[1]), tuple(map(read_chunk, words[2:])))
+    kind, *words = told.split(" ")
+    return Entry(path, True) if kind == "dir" else Entry(path, False, int(words[0]), tuple(map(read_chunk, words[1:])))
 
 
 def stat(session: Session, path: str) -> Entry:
@@ -57,48 +49,46 @@ def stat(session: Session, path: str) -> Entry:
 
 def found(session: Session, path: str) -> Entry | None:
     """What stands at a path, if anything does."""
-    try:
-        return stat(session, path)
-    except Refused as refused:
-        if refused.number != NOT_FOUND:
-            raise
-        return None
+    answer = session.told(f"stat {path}", NOT_FOUND)
+    return read_entry(path, answer.value) if answer.is_ok else None
 
 
-def stats(session: Session, paths: Iterable[str]) -> Iterator[Entry | Answer]:
-    """What stands at paths, in their order, or the answer where a path is refused."""
+def stats(session: Session, paths: Iterable[str]) -> Iterator[Entry | Refused]:
+    """What stands at paths, in their order, or what refuses to tell it."""
     paths = list(paths)
     for path, answer in zip(paths, session.ask_all(f"stat {path}" for path in paths)):
-        yield read_entry(path, answer.value) if answer.is_ok else answer
+        yield read_entry(path, answer.value) if answer.is_ok else answer.refusal
 
 
-def names_in(told: str) -> list[str]:
-    """The names of an answer to `ls`. A directory's ends with a slash."""
-    return told.split(" ") if told else []
+def need(told: Entry | Refused) -> Entry:
+    if isinstance(told, Refused):
+        raise told
+    return told
+
+
+def read_names(told: str) -> dict[str, bool]:
+    """The names of an answer to `ls`, and whether each is a directory: such a one ends with a slash."""
+    return {name.rstrip("/"): name.endswith("/") for name in told.split(" ") if name}
 
 
 def children(session: Session, folder: str) -> dict[str, bool]:
     """The names in a directory, and whether each is a directory."""
-    return {name.rstrip("/"): name.endswith("/") for name in names_in(session.ask("ls", folder))}
+    return read_names(session.ask("ls", folder))
 
 
 def walk_names(session: Session, top: str) -> Iterator[tuple[str, bool]]:
-    """The path of what stands at a path and of all below it, a level at a time, and whether it is a directory."""
-    is_directory = session.ask("stat", top) == "dir"
-    yield top, is_directory
-    level = [top] if is_directory else []
+    """The path of what stands at a path and of all below it, a level at a time, and whether it is a directory. A file may be one of which no
+    more can be told."""
+    level = {top: session.told(f"stat {top}", NO_REPLICA).text == "ok dir"}
     while level:
-        below = []
-        for folder, told in zip(level, session.try_all(f"ls {folder}" for folder in level)):
-            for name in names_in(told):
-                path = child(folder, name.rstrip("/"))
-                yield path, name.endswith("/")
-                below += [path] if name.endswith("/") else []
-        level = below
+        yield from level.items()
+        folders = [path for path, is_folder in level.items() if is_folder]
+        below = zip(folders, session.try_all(f"ls {folder}" for folder in folders))
+        level = {child(folder, name): is_folder for folder, told in below for name, is_folder in read_names(told).items()}
 
 
-def told_below(session: Session, top: str) -> Iterator[tuple[str, Entry | Answer]]:
-    """The paths of what stands at a path and of all below it, directories first, with what stands there, or the answer where that is refused."""
+def told_below(session: Session, top: str) -> Iterator[tuple[str, Entry | Refused]]:
+    """The paths of what stands at a path and of all below it, directories first, with what stands there, or what refuses to tell it."""
     paths = list(walk_names(session, top))
     yield from ((path, Entry(path, True)) for path, is_folder in paths if is_folder)
     files = [path for path, is_folder in paths if not is_folder]
@@ -107,8 +97,16 @@ def told_below(session: Session, top: str) -> Iterator[tuple[str, Entry | Answer
 
 def walk(session: Session, top: str) -> Iterator[Entry]:
     """What stands at a path and all below it. Where it can't be told of a file, that is refused."""
-    for path, told in told_below(session, top):
-        yield told if isinstance(told, Entry) else read_entry(path, told.value)
+    return (need(told) for _, told in told_below(session, top))
+
+
+def paths_of(entries: Iterable[Entry]) -> dict[int, list[str]]:
+    """Of each chunk the paths of the files that have it."""
+    paths: dict[int, list[str]] = defaultdict(list)
+    for entry in entries:
+        for chunk in entry.chunks:
+            paths[chunk.handle].append(entry.path)
+    return paths
 
 
 def is_directory(session: Session, path: str) -> bool:
@@ -116,14 +114,9 @@ def is_directory(session: Session, path: str) -> bool:
     return entry is not None and entry.is_directory
 
 
-def need_directory(session: Session, path: str) -> None:
-    if not is_directory(session, path):
-        raise Failed(f"{shown(path)}: a directory is needed there")
-
-
 def read_bytes(session: Session, path: str, start: int, size: int) -> Iterator[bytes]:
     """The bytes of a file from a place on, up to its size, all of which have to come."""
-    lines = (f"read {path} {at} {min(READ_BYTES, size - at)}" for at in range(start, size, READ_BYTES))
+    lines = (f"read {path} {at} {min(LINE_BYTES, size - at)}" for at in range(start, size, LINE_BYTES))
     while some := list(itertools.islice(lines, READS_AHEAD)):
         for answer in session.ask_all(some):
             part = bytes.fromhex(answer.value)
@@ -158,11 +151,9 @@ def report_all(session: Session) -> None:
 def heal(session: Session) -> tuple[int, str | None]:
     """Copies chunks until none lacks a replica, and tells how many copies came, and what refused the last one, if anything did."""
     report_all(session)
-    made = 0
-    while True:
-        try:
-            if session.ask("replicate") == "none":
-                return made, None
-        except Refused as refused:
-            return made, str(refused)
-        made += 1
+    for made in itertools.count():
+        answer = session.told("replicate")
+        if not answer.is_ok:
+            return made, str(answer.refusal)
+        if answer.value == "none":
+            return made, None

@@ -4,37 +4,16 @@ No line lists hidden names. So the lines of the store are run again in a store w
 deleted, and the store itself is asked which of them stand."""
 
 from argparse import Namespace
-from dataclasses import dataclass
 from datetime import datetime
 
-from client.names import child, hidden_parts, last, line_path, old_path, parent, shown
-from client.output import WELL, for_each, say
-from client.refusals import Failed
+from client.attempts import each_path
+from client.names import child, hidden_parts, last, old_path, parent, shown
 from client.session import Session
-from client.store import NOT_FOUND, Entry, report_all, stats
+from client.store import Entry, report_all, stats
+from client.telling import NOT_FOUND, Failed, Refused, like, say
 
 # What was deleted longer ago than this is removed for good by a scan.
 KEPT_SECONDS = 259_200
-
-
-@dataclass(frozen=True)
-class Removed:
-    """Something in the trash, by its hidden path."""
-
-    entry: Entry
-    moment: int
-    number: int
-    # Whether it is known how long it is: not, where nobody has a chunk of it any more.
-    is_told: bool = True
-
-    @property
-    def comes_back_to(self) -> str:
-        return old_path(self.entry.path)
-
-    @property
-    def is_within_other(self) -> bool:
-        """Whether what it stood in was deleted too, and has to come back first."""
-        return any(hidden_parts(element) for element in parent(self.entry.path).split("/"))
 
 
 def moves_of(line: str, told: str) -> list[tuple[str, str]]:
@@ -55,56 +34,45 @@ def hidden_paths(session: Session) -> list[str]:
             for before, behind in moves_of(answer.line, answer.text[3:]) if answer.is_ok else ():
                 places |= {behind + place.removeprefix(before) for place in places if place.startswith(f"{before}/")}
                 places |= {behind} if hidden_parts(behind) else set()
-    return sorted(places)
+    return sorted(places, key=lambda path: hidden_parts(path)[1])
 
 
-def removed(session: Session) -> list[Removed]:
-    """What stands in the trash, in the order in which it was deleted."""
-    found, paths = [], hidden_paths(session)
-    for path, told in zip(paths, stats(session, paths)):
-        if isinstance(told, Entry):
-            found.append(Removed(told, *hidden_parts(path)[:2]))
-        elif not told.text.startswith(f"refused {NOT_FOUND} "):
-            found.append(Removed(Entry(path, False), *hidden_parts(path)[:2], is_told=False))
-    return sorted(found, key=lambda one: one.number)
+def removed(session: Session) -> dict[str, Entry | Refused]:
+    """What stands in the trash, by its hidden paths, in the order in which it was deleted, or what refuses to tell it."""
+    paths = hidden_paths(session)
+    found = zip(paths, stats(session, paths))
+    return {path: told for path, told in found if isinstance(told, Entry) or told.number != NOT_FOUND}
 
 
-def when(moment: int) -> str:
-    return datetime.fromtimestamp(moment).strftime("%Y-%m-%d %H:%M:%S")
-
-
-def trash(session: Session, asked: Namespace) -> int:
+def trash(session: Session, asked: Namespace) -> None:
     """When it was deleted, where it stood, and its hidden name."""
-    for one in removed(session):
-        size = "dir" if one.entry.is_directory else str(one.entry.size) if one.is_told else "?"
-        say(f"{when(one.moment)} {size:>12} {shown(one.comes_back_to)} {shown(one.entry.path)}")
-    return WELL
+    for path, told in removed(session).items():
+        size = "?" if isinstance(told, Refused) else "dir" if told.is_directory else told.size
+        moment = datetime.fromtimestamp(hidden_parts(path)[0])
+        say(f"{moment:%Y-%m-%d %H:%M:%S} {size:>12} {shown(old_path(path))} {shown(path)}")
 
 
-def undelete(session: Session, asked: Namespace) -> int:
-    """Brings back what was deleted last of that name."""
-
-    def bring_back(path: str) -> None:
-        hidden = line_path(path, asked.folder)
-        if not hidden_parts(hidden):
-            fitting = [one.entry.path for one in removed(session) if one.comes_back_to == hidden and not one.is_within_other]
-            if not fitting:
-                raise Failed(f"{path}: nothing of that name is in the trash; `trash` lists what is")
-            hidden = fitting[-1]
-        say(f"{shown(session.ask('undelete', hidden))} is back")
-
-    return for_each(asked.paths, bring_back)
+@each_path
+def undelete(session: Session, asked: Namespace, path: str) -> None:
+    """Brings back what was deleted last of that name, or what stands at a hidden path."""
+    if not hidden_parts(path):
+        # What it stood in may have been deleted too, and has to come back first.
+        fitting = {old_path(hidden): hidden for hidden in removed(session) if parent(hidden) == old_path(parent(hidden))}
+        if path not in fitting:
+            near = like(shown(path), map(shown, fitting)) or "; `trash` lists what is"
+            raise Failed(f"{shown(path)}: nothing of that name is in the trash{near}")
+        path = fitting[path]
+    say(f"{shown(session.ask('undelete', path))} is back")
 
 
-def expunge(session: Session, asked: Namespace) -> int:
+def expunge(session: Session, asked: Namespace) -> None:
     """Removes for good what was deleted three days ago, or all that was, and has the servers drop what no file has any more."""
     try:
         if asked.all:
-            newest = max((one.moment for one in removed(session)), default=0)
+            newest = max((hidden_parts(path)[0] for path in removed(session)), default=0)
             session.ask("at", newest + KEPT_SECONDS + 1)
         entries, chunks = session.ask("scan").split(" ")
     finally:
         session.set_moment()
     report_all(session)
     say(f"removed for good: {entries} of the trash, and {chunks} chunks")
-    return WELL

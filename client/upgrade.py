@@ -1,31 +1,21 @@
 """An upgrade: its beginning, how it stands, and its end."""
 
 from argparse import Namespace
-from collections import Counter, defaultdict
+from collections import Counter
 from collections.abc import Iterable
-from dataclasses import dataclass
 
 from client.names import shown
-from client.output import WELL, WRONG, say, warn
-from client.refusals import Failed, Refused
 from client.session import AHEAD_LINES, Session
-from client.store import heal, phase, report_all, walk
+from client.store import heal, paths_of, phase, report_all, walk
+from client.telling import WELL, WRONG, Failed, say
 
 NOT_QUIET, UNRESTORED = 15, 16
 PREPARES = ("rollingUpgrade prepare", "prepare-commit")
-
-
-@dataclass(frozen=True)
-class Restorable:
-    """A chunk of the prepare, the paths that it had then, and how many servers have it as it was."""
-
-    handle: int
-    paths: list[str]
-    servers: int
+ROLLBACKS = ("rollingUpgrade rollback", "rollback-commit")
 
 
 def runs_to_prepare(again: Session, lines: Iterable[str], epoch: int) -> None:
-    """Runs lines in a store without a file up to the prepare that began an epoch. No line behind it is sent."""
+    """Runs lines in a store without a file up to the prepare that began an epoch. No line after it is sent."""
     waiting = []
     for line in lines:
         waiting.append(line)
@@ -37,22 +27,13 @@ def runs_to_prepare(again: Session, lines: Iterable[str], epoch: int) -> None:
     raise Failed(f"the lines of the store have no prepare of epoch {epoch}")
 
 
-def prepared_chunks(session: Session, epoch: int) -> dict[int, list[str]]:
-    """The chunks that files had at the prepare of an epoch, with their paths of then."""
-    told: dict[int, list[str]] = defaultdict(list)
-    with session.again() as again:
-        runs_to_prepare(again, session.history(), epoch)
-        for entry in walk(again, "/"):
-            for chunk in entry.chunks:
-                told[chunk.handle].append(entry.path)
-    return told
-
-
-def what_a_rollback_finds(session: Session) -> list[Restorable]:
-    """Runs the lines of the store again in one without a file, rolls that one back, and looks which servers have each chunk of the prepare.
-    The store itself isn't touched. While it rolls back its epoch is already the one behind the upgrade's."""
+def what_a_rollback_finds(session: Session) -> tuple[list[str], list[str]]:
+    """How many servers have each chunk of the prepare as it was, and which chunks none has. The lines of the store are run again in one without a
+    file, that one is rolled back, and its servers are asked. The store itself isn't touched. While it rolls back its epoch is already the next."""
     name, epoch = phase(session)
-    chunks = prepared_chunks(session, epoch if name == "upgrade" else epoch - 1)
+    with session.again() as again:
+        runs_to_prepare(again, session.history(), epoch if name == "upgrade" else epoch - 1)
+        chunks = {handle: ", ".join(map(shown, paths)) for handle, paths in sorted(paths_of(walk(again, "/")).items())}
     with session.again() as again:
         for _ in again.ask_all(session.history()):
             pass
@@ -63,83 +44,65 @@ def what_a_rollback_finds(session: Session) -> list[Restorable]:
         for answer in again.ask_all(f"lose {server} {handle}" for handle in chunks for server in range(again.sizes.servers)):
             servers[int(answer.line.split(" ")[2])] += answer.is_ok
     servers[unrestored] = 0
-    return [Restorable(handle, chunks[handle], servers[handle]) for handle in sorted(chunks)]
+    of = f"of {again.sizes.servers} servers as it was at the prepare"
+    told = [f"chunk {handle}, on {servers[handle]} {of}: {paths}" for handle, paths in chunks.items()]
+    lost = [f"chunk {handle} has no sound replica of the prepare: {paths}" for handle, paths in chunks.items() if not servers[handle]]
+    return told, lost
 
 
 def rolled_back(session: Session, name: str) -> int | None:
     """Rolls a store back that is in such a phase. Answers the lowest chunk that nobody has as it was, where that refuses it."""
-    report_all(session)
-    try:
-        if name == "upgrade":
-            session.ask("rollingUpgrade", "rollback")
-            return None
-    except Refused as refused:
-        if refused.number != UNRESTORED:
-            raise
+    for line in ROLLBACKS[name == "rolling" :]:
         report_all(session)
-    try:
-        session.ask("rollback-commit")
-    except Refused as refused:
-        if refused.number != UNRESTORED:
-            raise
-        return int(refused.detail)
-    return None
+        answer = session.told(line, UNRESTORED)
+        if answer.is_ok:
+            return None
+    return int(answer.refusal.detail)
 
 
-def lost_lines(found: list[Restorable]) -> list[str]:
-    return [f"chunk {chunk.handle} has no sound replica of the prepare: {', '.join(map(shown, chunk.paths))}" for chunk in found if not chunk.servers]
-
-
-def healed(session: Session) -> int:
+def make_whole(session: Session) -> None:
     copies, refused = heal(session)
     if copies:
         say(f"{copies} copies made of what was short")
     if refused:
-        warn(f"a chunk is still short: {refused}")
-    return WRONG if refused else WELL
+        raise Failed(f"a chunk is still short: {refused}")
 
 
-def prepare(session: Session, asked: Namespace) -> int:
-    try:
-        epoch = session.ask("rollingUpgrade", "prepare")
-    except Refused as refused:
-        if refused.number != NOT_QUIET:
-            raise
+def prepare(session: Session, asked: Namespace) -> None:
+    answer = session.told(PREPARES[0], NOT_QUIET)
+    if not answer.is_ok:
         # What servers report settles what wasn't quiet.
         report_all(session)
-        epoch = session.ask("rollingUpgrade", "prepare")
-    say(f"an upgrade stands, epoch {epoch}: all that changes from now on can be taken back")
-    return WELL
+        answer = session.told(PREPARES[0])
+    say(f"an upgrade stands, epoch {answer.value}: all that changes from now on can be taken back")
 
 
-def status(session: Session, asked: Namespace) -> int:
+def status(session: Session, asked: Namespace) -> int | None:
     name, epoch = phase(session)
     say(f"phase {name}, epoch {epoch}")
     if name not in ("upgrade", "rolling"):
-        return WELL
-    found = what_a_rollback_finds(session)
-    for chunk in found:
-        of = f"on {chunk.servers} of {session.sizes.servers} servers as it was at the prepare"
-        say(f"chunk {chunk.handle}, {of}: {', '.join(map(shown, chunk.paths))}")
-    lost = lost_lines(found)
+        return None
+    told, lost = what_a_rollback_finds(session)
     if name == "rolling":
-        say("a rollback is begun: until it is done the store answers nothing else")
-    say("a rollback would be refused; `upgrade finalize` keeps what stands now" if lost and name == "upgrade" else "a rollback would be refused" if lost else "a rollback would give all back")
+        told.append("a rollback is begun: until it is done the store answers nothing else")
+    way = "; `upgrade finalize` keeps what stands now" if name == "upgrade" else ""
+    say("\n".join([*told, f"a rollback would be refused{way}" if lost else "a rollback would give all back"]))
     return WRONG if lost else WELL
 
 
-def rollback(session: Session, asked: Namespace) -> int:
+def rollback(session: Session, asked: Namespace) -> None:
     name, _ = phase(session)
-    if name in ("upgrade", "rolling") and not asked.anyway:
-        if lost := lost_lines(what_a_rollback_finds(session)):
-            raise Failed("\n".join(["a rollback can't be done. Begun by --anyway, the store would answer nothing else, for good. `upgrade finalize` keeps what stands now.", *lost]))
+    lost = what_a_rollback_finds(session)[1] if name in ("upgrade", "rolling") and not asked.anyway else []
+    if lost:
+        way = "Begun by --anyway, the store would answer nothing else, for good. `upgrade finalize` keeps what stands now."
+        raise Failed("\n".join([f"a rollback can't be done. {way}", *lost]))
     unrestored = rolled_back(session, name)
     if unrestored is not None:
         raise Failed(f"the rollback is begun and can't be done: nobody has chunk {unrestored} as it was at the prepare")
     say(f"rolled back to the prepare, epoch {phase(session)[1]}")
-    return healed(session)
+    make_whole(session)
 
 
-def finalize(session: Session, asked: Namespace) -> int:
+def finalize(session: Session, asked: Namespace) -> None:
     say(f"finalized, epoch {session.ask('rollingUpgrade', 'finalize')}")
-    return healed(session)
+    make_whole(session)

@@ -11,7 +11,7 @@ from unittest.mock import patch
 
 from client import ROOT
 from client.main import main
-from client.session import Place, Session
+from client.session import Session
 
 # So small that a file of some bytes has several chunks.
 TINY = {"chunk": 16, "block": 4}
@@ -59,7 +59,7 @@ class StoreCase(unittest.TestCase):
             session.try_all(lines)
 
     def session(self) -> Session:
-        return Place(self.store, {} if self.store.exists() else self.sizes).opened(True)
+        return Session(self.store, {} if self.store.exists() else self.sizes)
 
     def local(self, name: str, content: bytes) -> Path:
         """A file of this machine."""

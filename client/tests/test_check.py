@@ -11,7 +11,7 @@ class Checks(StoreCase):
     def test_a_sound_store(self) -> None:
         told = self.fs("fsck", "-v")
         self.assertIn("/a/f 20 bytes: chunk 1 on servers 0, 1, 2, chunk 2 on servers 0, 1, 2\n", told)
-        self.assertIn("3 files, 3 chunks, 11 blocks asked, 0 chunks short, 0 copies made\nall is sound\n", told)
+        self.assertIn("3 files, 0 of them in the trash, 3 chunks, 11 blocks asked, 0 chunks short, 0 copies made\nall is sound\n", told)
 
     def test_a_lost_replica_is_found_and_copied(self) -> None:
         self.lines("lose 1 2")
@@ -29,6 +29,7 @@ class Checks(StoreCase):
 
     def test_what_cant_be_repaired_is_told(self) -> None:
         self.lines(*(f"lose {server} 3" for server in range(3)))
+        self.assertIn("/h: its size can't be told: There is no live replica", self.fs("fsck", "/h", status=1))
         told = self.fs("fsck", "--repair", status=1)
         self.assertIn("/h: ", told)
         self.assertIn("not all is sound", told)
@@ -37,11 +38,24 @@ class Checks(StoreCase):
     def test_why_no_more_is_copied_is_told(self) -> None:
         self.lines("lose 1 3", "lose 2 3", "beat 1", "beat 2", "damage 0 3 0", "lose 1 1", "beat 1")
         told = self.fs("fsck", "--repair", status=1)
-        self.assertIn("no more copies: replicate: ", told)
+        self.assertIn("no more copies: fsck --repair: ", told)
         self.assertIn("keeps other chunks from being copied", told)
         self.lines("rm /h")
         self.fs("expunge", "--all")
         self.assertIn("1 copies made\nall is sound", self.fs("fsck", "--repair"))
+
+    def test_what_may_come_back_is_looked_at_too(self) -> None:
+        self.lines("mkdir /d/e", "create /d/e/k", "write /d/e/k 0 6b", "rm /d/e/k", "rm -r /d", "rm /h", "damage 0 3 0", "lose 1 4")
+        told = self.fs("fsck", status=1)
+        self.assertIn("chunk 4 on servers 0, 2, where 3 are wanted: /d/e/k (in the trash)\n", told)
+        self.assertIn("4 files, 2 of them in the trash, 4 chunks", told)
+        self.assertIn("2 files, 0 of them in the trash", self.fs("fsck", "/a", "/g"))
+        self.assertEqual(self.fs("fsck", "--chunk", "4"), "/d/e/k (in the trash)\n")
+        self.assertIn("all is sound", self.fs("fsck", "--repair"))
+        self.lines(*(f"lose {server} 3" for server in range(3)))
+        self.assertIn("/h (in the trash): its size can't be told", self.fs("fsck", status=1))
+        self.fs("expunge", "--all")
+        self.assertIn("2 files, 0 of them in the trash", self.fs("fsck"))
 
     def test_paths_of_a_chunk(self) -> None:
         self.assertEqual(self.fs("fsck", "--chunk", "1"), "/g\n/a/f\n")

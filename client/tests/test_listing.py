@@ -13,12 +13,16 @@ class Listing(StoreCase):
         self.assertEqual(self.fs("ls", "/a"), "b/\nf\n")
         self.assertEqual(self.fs("ls", "-l", "/a"), "d  -            - b/\n-  2           20 f\n")
         self.assertEqual(self.fs("ls", "-l", "-h", "/a/f"), "-  2         20 B /a/f\n")
+        self.assertEqual(self.fs("ls", "-R", "/h"), "/h\n")
         self.assertEqual(self.fs("ls", "-R"), "/a/\n/a/b/\n/a/b/two words\n/a/f\n/h\n")
         self.assertIn("Nothing stands at the path.", self.fs("ls", "/nothing", "/h", status=1))
 
     def test_a_lost_file_hides_no_other(self) -> None:
         self.lines("lose 0 2", "lose 2 2")
-        self.assertIn("? f: refused 28", self.fs("ls", "-l", "/a"))
+        self.assertIn("? f: There is no live replica", self.fs("ls", "-l", "/a"))
+        for words in (("ls", "/a/f"), ("ls", "-l", "/a/f"), ("du", "/a/f"), ("cat", "/a/f"), ("get", "/a/f", ".")):
+            self.assertIn("/a/f: There is no live replica", self.fs(*words, status=1))
+        self.assertEqual(self.fs("find", "/a/f"), "/a/f\n")
         self.assertEqual(self.fs("ls", "-R", "/a"), "/a/b/\n/a/b/two words\n/a/f\n")
         self.assertEqual(self.fs("find", "/a", "-name", "f"), "/a/f\n")
         self.assertIn("28 NoReplica", self.fs("count", "/a", status=1))

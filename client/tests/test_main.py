@@ -1,7 +1,7 @@
 import shlex
 from pathlib import Path
 
-from client.commands import COMMANDS, UPGRADES
+from client.commands import COMMANDS, STEPS
 from client.main import SHELL, words_of
 from client.tests import TINY, StoreCase
 
@@ -10,19 +10,42 @@ class Words(StoreCase):
     sizes = TINY
 
     def test_each_command_has_help_with_an_example_that_is_one(self) -> None:
-        for command in (*COMMANDS, *UPGRADES, SHELL):
+        for name in ("notes.txt", "photos", "more.txt", "backup.txt", "commands.txt"):
+            self.local(name, b"")
+        for command in (*COMMANDS, *STEPS, SHELL):
             words = shlex.split(command.example)
             asked = words_of().parse_args(["store", *words])
-            self.assertEqual((asked.run, asked.makes), (command.run, command.makes))
-            step = words[: 2 if command in UPGRADES else 1]
+            self.assertIn(command.run, (asked.run, None))
+            self.assertEqual(asked.makes, command.makes)
+            step = words[: 2 if command in STEPS else 1]
             self.assertIn(f"./chunkfs STORE {command.example}", self.fs(*step, "--help"))
 
     def test_statuses(self) -> None:
         self.assertIn("no store stands there", self.fs("ls", status=1))
+        self.assertFalse(self.store.exists())
         self.fs("mkdir", "/a")
-        for words in (["frob"], [], ["ls", "--frob"], ["upgrade"], ["put"]):
+        for words in ([], ["ls", "--frob"], ["upgrade"], ["put"], ["tail", "-c", "x", "/a"]):
             self.assertIn("usage: ", self.fs(*words, status=2))
         self.fs("ls", "/a")
+
+    def test_a_mistyped_command_gives_one_that_is_like_it(self) -> None:
+        self.assertEqual(self.fs("upgade", status=2), "chunkfs: no command 'upgade'; did you mean 'upgrade'?\n")
+        self.assertEqual(self.fs("upgrade", "stauts", status=2), "chunkfs: no command 'stauts'; did you mean 'status'?\n")
+        self.assertEqual(self.fs("quite-other", status=2), "chunkfs: no command 'quite-other'\n")
+        self.assertIn("chunkfs: no command 'hlep'; did you mean 'help'?\n", self.fs("shell", said=b"hlep\n", status=2))
+
+    def test_a_store_that_cant_be_one(self) -> None:
+        self.store = self.folder
+        self.assertEqual(self.fs("ls", status=1), f"chunkfs: {self.folder}: is a directory\n")
+        self.store = self.local("f", b"") / "store"
+        self.assertIn("chunkfs: ", self.fs("mkdir", "/a", status=1))
+        self.store = self.folder / "nothing" / "store"
+        self.assertIn("chunkfs: the store's program has ended, with status", self.fs("mkdir", "/a", status=1))
+
+    def test_no_store_is_made_for_what_isnt_there(self) -> None:
+        for words in (("put", "nothing", "/"), ("append", "/f", "nothing"), ("import", "nothing"), ("shell", "-f", "nothing")):
+            self.assertEqual(self.fs(*words, status=1), "chunkfs: nothing: no such file or directory\n")
+        self.assertFalse(self.store.exists())
 
     def test_sizes_are_those_of_a_new_store(self) -> None:
         self.fs("mkdir", "/a")

@@ -11,7 +11,7 @@ class Shown(unittest.TestCase):
 
     def test_a_bar_grows_with_what_is_done(self) -> None:
         progress = Progress(100)
-        progress.add(50)
+        self.assertEqual(list(progress.counted([b"a" * 20, b"b" * 30])), [b"a" * 20, b"b" * 30])
         self.assertEqual(progress.line(10), f"[{'#' * 15}{' ' * 15}] 50 B of 100 B, 10 B/s")
-        progress.add(60)
+        progress.done += 60
         self.assertIn("#" * 30 + "]", progress.line(10))

@@ -37,9 +37,12 @@ class Scripts(StoreCase):
         self.made()
         script = self.folder / "script"
         text = script.read_bytes()
+        self.assertEqual(self.fs("import", self.folder, status=1), f"chunkfs: {self.folder}: is a directory\n")
         for wrong in (text.replace(b"create", b"mkdir ", 1), text.rsplit(b"\n", 2)[0] + b"\n", text[:-5], b"", text + b"mkdir /more\n"):
             script.write_bytes(wrong)
             self.assertIn("its last line isn't the digest of the others", self.fs("import", "script", status=1))
+        script.write_bytes(b"\xff\xfe\n" + text)
+        self.assertIn("its last line isn't the digest of the others", self.fs("import", "script", status=1))
         script.write_bytes(text)
         self.fs("import", "script")
         self.assertIn("something stands in this one", self.fs("import", "script", status=1))
@@ -47,6 +50,9 @@ class Scripts(StoreCase):
     def test_what_is_refused(self) -> None:
         self.fs("export", "--to", "script")
         self.assertIn("something stands there already", self.fs("export", "--to", "script", status=1))
+        self.local("script", b"other")
+        self.fs("export", "-f", "--to", "script")
+        self.assertEqual((self.folder / "script").read_text(), self.fs("export"))
         self.fs("upgrade", "prepare")
         self.assertIn("an upgrade stands", self.fs("export", status=1))
         self.assertIn("an upgrade stands", self.fs("export", "--to", "third", status=1))

@@ -1,8 +1,8 @@
 import random
 import select
 
-from client.refusals import Failed, Refused
-from client.session import Answer, Ended, Place, Sizes, next_piece
+from client.session import Answer, Ended, Session, Sizes, next_piece, sizes_of
+from client.telling import Refused
 from client.tests import TINY, StoreCase
 
 
@@ -38,14 +38,14 @@ class Sessions(StoreCase):
             self.assertEqual(session.ask("rollingUpgrade", "query"), "ordinary 0")
 
     def test_long_answers(self) -> None:
-        with Place(self.store).opened(True) as session:
+        with Session(self.store, {}) as session:
             session.try_all(["create /f", f"write /f 0 {'61' * 400_000}"])
             for told in session.try_all(["read /f 0 400000"] * 50):
                 self.assertEqual(told, "61" * 400_000)
 
     def test_history_is_all_lines(self) -> None:
-        for place in (Place(self.store, TINY), Place(None, TINY)):
-            with place.opened(True) as session:
+        for file in (self.store, None):
+            with Session(file, TINY) as session:
                 session.try_all(["mkdir /a", "create /a/f"])
                 self.assertEqual(list(session.history()), ["mkdir /a", "create /a/f"])
                 with session.again() as again:
@@ -54,17 +54,12 @@ class Sessions(StoreCase):
 
     def test_sizes_are_those_of_the_file(self) -> None:
         self.session().__exit__(None)
-        self.assertEqual(Place(self.store).sizes(), Sizes(**TINY))
-
-    def test_no_store_is_made_by_looking(self) -> None:
-        with self.assertRaises(Failed):
-            Place(self.store).opened(False)
-        self.assertFalse(self.store.exists())
+        self.assertEqual(sizes_of(self.store, {}), Sizes(**TINY))
 
     def test_a_program_that_ends_is_told(self) -> None:
         self.store.write_text("no store\n")
         with self.assertRaisesRegex(Ended, "line 1 isn't that of a store"):
-            with Place(self.store).opened(False) as session:
+            with Session(self.store, {}) as session:
                 session.ask("ls", "/")
 
     def test_a_killed_program_is_told(self) -> None:
@@ -75,7 +70,12 @@ class Sessions(StoreCase):
                 session.try_all(["ls /"] * 1_000)
 
     def test_what_a_refusal_is_about(self) -> None:
-        for line, about in (("mv /a%20b /c", "/a b: "), ("replicate", "replicate: "), ("rm -r /d", "/d: ")):
+        for line, about in (
+            ("mv /a%20b /c", "/a b to /c: "),
+            ("replicate", "fsck --repair: "),
+            ("rollingUpgrade finalize", "upgrade finalize: "),
+            ("rm -r /d", "/d: "),
+        ):
             with self.assertRaises(Refused) as caught:
                 Answer(line, "refused 3 NotFound").value
             self.assertTrue(str(caught.exception).startswith(about))

@@ -7,6 +7,8 @@ import time
 from client.tests import TINY, StoreCase
 
 SECONDS = 300
+# Python's prompt misses an interrupt that comes right before it waits. A person types it again.
+SECONDS_BETWEEN = 15
 
 
 class Terminal:
@@ -33,13 +35,17 @@ class Terminal:
     def type(self, text: str) -> None:
         os.write(self.end, text.encode())
 
-    def status(self) -> int:
-        """How it ends, which it has to within some time."""
-        limit = time.monotonic() + SECONDS
-        while time.monotonic() < limit:
+    def status(self, typed: str) -> int:
+        """How it ends, which it has to within some time, after something is typed."""
+        begun = asked = time.monotonic()
+        self.type(typed)
+        while time.monotonic() < begun + SECONDS:
             child, status = os.waitpid(self.child, os.WNOHANG)
             if child:
                 return os.waitstatus_to_exitcode(status)
+            if time.monotonic() > asked + SECONDS_BETWEEN:
+                asked = time.monotonic()
+                self.type(typed)
             time.sleep(0.05)
         os.kill(self.child, signal.SIGKILL)
         os.waitpid(self.child, 0)
@@ -68,9 +74,8 @@ class Shells(StoreCase):
         terminal.type("help ls\n")
         self.assertIn("what stands in a directory", terminal.await_text("/photos> "))
         terminal.type("frob\n")
-        self.assertIn("invalid choice", terminal.await_text("/photos> "))
-        terminal.type("\x04")
-        self.assertEqual(terminal.status(), 0)
+        self.assertIn("no command 'frob'", terminal.await_text("/photos> "))
+        self.assertEqual(terminal.status("\x04"), 0)
         self.assertIn("cd photos\n", (self.folder / "chunkfs" / "history").read_text())
 
     def test_a_script_ends_where_something_is_wrong(self) -> None:
@@ -86,10 +91,20 @@ class Shells(StoreCase):
         self.assertIn("line 1: frob", self.fs("shell", said=b"frob\n", status=2))
         self.assertEqual(self.fs("ls"), "two words/\n")
 
+    def test_a_folder_whose_name_is_escaped(self) -> None:
+        typed = ["mkdir '/two words/a b'", "cd 'two words'", "ls", "cd 'a b'", "mkdir c:d", "ls", "tree", "cd", "ls", ""]
+        told = self.fs("shell", said="\n".join(typed).encode())
+        self.assertEqual(told, "a b/\nc:d/\n/two words/a b\n└── c:d/\ntwo words/\n")
+
+    def test_what_no_shell_reads(self) -> None:
+        self.assertIn("No closing quotation", self.fs("shell", said=b"ls '/a\n", status=2))
+        self.assertEqual(self.fs("shell", said=b"exit\nls /nothing\n"), "")
+
     def test_help(self) -> None:
-        told = self.fs("shell", said=b"help\nhelp cd\nhelp upgrade\n")
-        for words in ("brings files and directories into the store", "lines [LINE]", "paths that don't begin with a slash", "upgrade status"):
+        told = self.fs("shell", said=b"help\nhelp cd\nhelp upgrade status\nhelp lines\nlines --help\ncd --help\n")
+        for words in ("brings files and directories", "lines [--help] [LINE]", "paths that don't begin with a slash", "upgrade status"):
             self.assertIn(words, told)
+        self.assertNotIn("chunkfs STORE", told)
 
     def test_odd_bytes(self) -> None:
         script = self.local("script", b"mkdir /\xff\nls\n")
@@ -101,6 +116,5 @@ class Shells(StoreCase):
         terminal.await_text("/> ")
         terminal.type("mkdir /a\n")
         terminal.await_text("/> ")
-        terminal.type("\x03")
-        self.assertEqual(terminal.status(), 0)
+        self.assertEqual(terminal.status("\x03"), 0)
         self.assertEqual(self.fs("ls"), "a/\n")

@@ -1,5 +1,5 @@
-from client.refusals import Refused
 from client.store import Chunk, Entry, children, file_sha256, found, heal, phase, read_bytes, read_entry, sha256_of, stats, walk
+from client.telling import Refused
 from client.tests import TINY, StoreCase
 
 
@@ -9,9 +9,8 @@ class Stores(StoreCase):
     def test_what_stat_tells(self) -> None:
         entry = read_entry("/f", "file 17 1/2/0,1,2 5/1/-")
         self.assertEqual(entry, Entry("/f", False, 17, (Chunk(1, 2, (0, 1, 2)), Chunk(5, 1, ()))))
-        self.assertEqual(entry.replicas, 0)
         self.assertEqual(read_entry("/d", "dir"), Entry("/d", True))
-        self.assertIsNone(read_entry("/e", "file 0").replicas)
+        self.assertEqual(read_entry("/e", "file 0"), Entry("/e", False))
 
     def test_names_and_files(self) -> None:
         with self.session() as session:
@@ -23,7 +22,7 @@ class Stores(StoreCase):
             with self.assertRaises(Refused):
                 list(walk(session, "/nothing"))
             one, other = stats(session, ["/h", "/nothing"])
-            self.assertEqual((one.path, other.text), ("/h", "refused 3 NotFound"))
+            self.assertEqual((one.path, other.number), ("/h", 3))
             self.assertEqual(file_sha256(session, "/a/f"), sha256_of([b"a" * 11, b"a" * 9]))
             self.assertNotEqual(file_sha256(session, "/a/f"), sha256_of([b"a" * 19]))
             self.assertEqual(phase(session), ("ordinary", 0))
@@ -32,6 +31,6 @@ class Stores(StoreCase):
         with self.session() as session:
             session.try_all(["create /f", "write /f 0 " + "61" * 40, "lose 0 1", "lose 1 2", "lose 2 3"])
             self.assertEqual(heal(session), (3, None))
-            self.assertEqual(found(session, "/f").replicas, 3)
+            self.assertEqual({len(chunk.servers) for chunk in found(session, "/f").chunks}, {3})
             session.try_all(["lose 0 1", "lose 1 1", "lose 2 1"])
             self.assertEqual(heal(session), (0, None))

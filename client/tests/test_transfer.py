@@ -1,5 +1,11 @@
+import os
+import subprocess
+from pathlib import Path
+from unittest.mock import patch
+
+from client.store import LINE_BYTES
 from client.tests import TINY, StoreCase, tree_of
-from client.transfer import COMING, WRITE_BYTES
+from client.transfer import COMING
 
 NAMES = ["two words", "a:b", "100%", "%20", "line\nend", ".deleted.x", "x" * 200, "\udcff"]
 
@@ -8,7 +14,7 @@ class Transfers(StoreCase):
     def test_names_and_bytes_come_out_as_they_went_in(self) -> None:
         for at, name in enumerate(NAMES):
             self.local(f"tree/{name}/{name}", name.encode("utf-8", "surrogateescape") * at)
-        for name, size in (("empty", 0), ("one", WRITE_BYTES), ("more", 2 * WRITE_BYTES + 1)):
+        for name, size in (("empty", 0), ("one", LINE_BYTES), ("more", 2 * LINE_BYTES + 1)):
             self.local(f"tree/{name}", bytes(at * at % 251 for at in range(size)))
         self.fs("put", "--verify", "tree", "/")
         self.fs("get", "/tree", "out")
@@ -39,9 +45,10 @@ class Transfers(StoreCase):
         self.fs("put", "d", "/e")
         self.fs("put", "d", "/e")
         self.assertEqual(self.fs("find", "/"), "/\n/e\n/e/d\n/e/d/f\n/e/f\n")
-        self.assertIn("a directory is needed there", self.fs("put", "d/f", "/no/f", status=1))
-        self.assertIn("several files need a directory", self.fs("put", "d/f", "d", "/e/f", status=1))
-        self.assertIn("no file or directory", self.fs("put", "nothing", "/", status=1))
+        self.assertIn("/no: Nothing stands at the path.", self.fs("put", "d/f", "/no/f", status=1))
+        self.assertIn("5 NotADirectory", self.fs("put", "d/f", "/e/f/g", status=1))
+        self.assertIn("several need a directory", self.fs("put", "d/f", "d", "/e/f", status=1))
+        self.assertEqual("chunkfs: nothing: no such file or directory\n", self.fs("put", "d", "nothing", "/", status=1))
         self.assertIn(COMING, self.fs("put", self.local(f"f{COMING}", b""), "/", status=1))
 
     def test_a_target_is_needed(self) -> None:
@@ -70,6 +77,52 @@ class Transfers(StoreCase):
         self.assertEqual(self.fs("cat", "/f"), "bytes")
         self.assertEqual(self.fs("ls"), "f\n")
 
+    def test_what_the_machine_refuses_is_told_by_name(self) -> None:
+        self.local("f", b"f")
+        self.fs("put", "f", "/")
+        self.fs("mkdir", "/d/f")
+        self.assertEqual("chunkfs: no/such/g: no such file or directory\n", self.fs("get", "/f", "no/such/g", status=1))
+        self.assertEqual("chunkfs: f/g: not a directory\n", self.fs("get", "/f", "f/g", status=1))
+        self.assertEqual("chunkfs: no/d: no such file or directory\n", self.fs("get", "/d", "no/d", status=1).splitlines(True)[0])
+        self.local("g/f", b"")
+        self.assertEqual("chunkfs: g/f: file exists\n", self.fs("get", "/d/f", "g", status=1))
+        (self.folder / "h" / "f" / "x").mkdir(parents=True)
+        self.assertEqual("chunkfs: h/f: is a directory\n", self.fs("get", "-f", "/f", "h", status=1))
+        self.assertEqual([path.name for path in (self.folder / "h").iterdir()], ["f"])
+        (self.folder / "dangling").symlink_to("nothing")
+        os.mkfifo(self.folder / "pipe")
+        self.assertEqual("chunkfs: dangling: no such file or directory\n", self.fs("put", "dangling", "/", status=1))
+        self.assertEqual("chunkfs: pipe: neither a file nor a directory stands there\n", self.fs("put", "pipe", "/", status=1))
+        for words in (("export", "--to", "no/script"), ("export", "--to", "f/script")):
+            self.assertRegex(self.fs(*words, status=1), r"^chunkfs: \w+/script: (no such file or|not a) directory\n$")
+
+    def test_what_may_not_be_read_is_told_before_a_byte_comes(self) -> None:
+        self.local("d/a", b"a")
+        self.local("d/b", b"b")
+
+        def refuse(file: Path, how: str) -> object:
+            if file.name == "b":
+                raise PermissionError(13, "Permission denied")
+            return open(file, how)
+
+        # (whoever runs the tests may read all)
+        with patch("client.transfer.open", refuse, create=True):
+            self.assertEqual("chunkfs: d/b: permission denied\n", self.fs("put", "d", "/", status=1))
+        self.assertEqual(self.fs("ls"), "")
+
+    def test_a_disk_of_this_machine_that_is_full(self) -> None:
+        """On a file system in memory, where one can be mounted."""
+        disk = self.folder / "disk"
+        disk.mkdir()
+        if subprocess.run(["mount", "-t", "tmpfs", "-o", "size=64k", "none", disk], capture_output=True).returncode:
+            self.skipTest("no file system can be mounted")
+        self.addCleanup(subprocess.run, ["umount", disk], check=True)
+        self.local("f", bytes(200_000))
+        self.fs("put", "f", "/")
+        for words, name in ((("get", "/f", disk), "f"), (("export", "--to", disk / "script"), "script")):
+            self.assertEqual(f"chunkfs: {disk / name}: no space left on device\n", self.fs(*words, status=1))
+            self.assertEqual(list(disk.iterdir()), [])
+
     def test_links_and_odd_files(self) -> None:
         self.local("d/f", b"f")
         (self.folder / "d" / "link").symlink_to("f")
@@ -88,11 +141,15 @@ class Ends(StoreCase):
         self.assertEqual(self.fs("tail", "-c", "5", "/f"), "89end")
         self.assertEqual(len(self.fs("tail", "/f")), 1_024)
         self.assertEqual(self.fs("cat", "/f", "/f"), ("0123456789" * 200 + "end") * 2)
+        self.assertEqual(self.fs("tail", "-c", "1", "/f", "/f"), "dd")
         self.assertIn("a directory stands there", self.fs("cat", "/", status=1))
 
     def test_a_refused_append_leaves_no_gap(self) -> None:
-        self.assertIn("No such file", self.fs("append", "/new", "nothing", status=1))
-        self.assertEqual(self.fs("ls"), "")
+        self.fs("mkdir", "/d")
+        self.assertEqual("chunkfs: nothing: no such file or directory\n", self.fs("append", "/new", "nothing", status=1))
+        self.assertEqual(f"chunkfs: {self.folder}: is a directory\n", self.fs("append", "/new", self.local("more", b""), self.folder, status=1))
+        self.assertIn("a directory stands there", self.fs("append", "/d", said=b"more", status=1))
+        self.assertEqual(self.fs("ls"), "d/\n")
         self.lines("create /f", "write /f 0 61", *(f"damage {server} 1 0" for server in range(3)))
-        self.fs("append", "/f", self.local("more", bytes(2 * WRITE_BYTES)), status=1)
+        self.fs("append", "/f", self.local("more", bytes(2 * LINE_BYTES)), status=1)
         self.assertEqual(self.fs("shell", said=b"lines stat /f\n").split(" ")[2], "1")
