@@ -9,7 +9,7 @@ import re
 UNFIT = re.compile("[\x00-\x20:%\udc80-\udcff]|^\\.(?=deleted\\.)")
 ESCAPE = re.compile(rb"%([0-9A-F]{2})")
 HIDDEN = re.compile(r"\.deleted\.(?P<moment>\d{20})\.(?P<number>\d{20})\.(?P<name>.+)")
-# A path behind this word is taken as it stands in lines.
+# A path after this word is taken as it stands in lines.
 AS_IT_STANDS = "lines:"
 # The path of a name in a directory, and the two parts of a path.
 child, parent, last = posixpath.join, posixpath.dirname, posixpath.basename

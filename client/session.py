@@ -28,7 +28,7 @@ AHEAD_LINES = 4_096
 SAID_BYTES = 2_000
 SIZE = re.compile(r"--(servers|racks|replicas|chunk|block) (\d+)")
 # How the commands of this client call what lines ask for.
-CALLED = {"rollingUpgrade": "upgrade", "rollback-commit": "upgrade rollback", "replicate": "fsck --repair", "scan": "expunge"}
+CALLED = {"rollingUpgrade": "upgrade", "rollback-commit": "upgrade rollback", "scan": "expunge"}
 
 
 class Ended(Exception):

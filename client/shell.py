@@ -2,6 +2,7 @@
 
 import contextlib
 import os
+import re
 import readline
 import shlex
 import sys
@@ -16,7 +17,16 @@ from client.session import Session
 from client.store import children, is_directory
 from client.telling import MISUSED, WELL, WRONG, Failed, local, say, warn
 
+# What has a meaning of its own in a typed line.
+SPECIAL = re.compile(r"[\s\\'\"#]")
 HISTORY = Path(os.environ.get("XDG_STATE_HOME") or Path.home() / ".local" / "state") / "chunkfs" / "history"
+
+
+def split(typed: str) -> list[str]:
+    """The words of a typed line, up to one that begins with #."""
+    lexer = shlex.shlex(typed, posix=True)
+    lexer.whitespace_split, lexer.commenters = True, ""
+    return list(iter(lambda: None if typed[lexer.instream.tell() :].lstrip().startswith("#") else lexer.get_token(), None))
 
 
 class Shell:
@@ -41,11 +51,9 @@ class Shell:
         if self.is_in_lines or name == "lines" and line != "--help":
             # What stands in a line of the store is taken as it stands.
             return self.lines(self.session, Namespace(line=typed if self.is_in_lines else line))
-        words = shlex.split(typed, comments=True)
-        if not words:
-            return WELL
-        asked = self.parser.parse_args(words, Namespace(folder=self.folder))
-        return asked.run(self.session, asked)
+        if words := split(typed):
+            asked = self.parser.parse_args(words, Namespace(folder=self.folder))
+            return asked.run(self.session, asked)
 
     def lines(self, session: Session, asked: Namespace) -> int | None:
         self.is_in_lines = bool(asked.line) if self.is_in_lines else not asked.line
@@ -90,7 +98,7 @@ class Shell:
             return [f"{name} " for name in self.commands]
         before = text[: text.rfind("/") + 1]
         names = children(self.session, line_path(before, self.folder))
-        return [before + shown(name) + "/" * is_directory for name, is_directory in names.items()]
+        return [before + SPECIAL.sub(r"\\\g<0>", shown(name)) + "/" * is_directory for name, is_directory in names.items()]
 
 
 def typed_lines(shell: Shell) -> Iterator[str]:

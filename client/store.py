@@ -154,6 +154,6 @@ def heal(session: Session) -> tuple[int, str | None]:
     for made in itertools.count():
         answer = session.told("replicate")
         if not answer.is_ok:
-            return made, str(answer.refusal)
+            return made, answer.refusal.says
         if answer.value == "none":
             return made, None

@@ -12,7 +12,6 @@ from contextlib import contextmanager
 from client import ROOT
 from client.names import bytes_of
 
-REFUSED = re.compile(r"refused (\d+) (\w+)(?: (.+))?")
 NOT_FOUND = 3
 # The statuses with which commands end.
 WELL, WRONG, MISUSED = 0, 1, 2
@@ -45,8 +44,8 @@ class Refused(Failed):
     """A line was refused that is about something."""
 
     def __init__(self, answer: str, about: str, *paths: str):
-        number, _, self.detail = REFUSED.fullmatch(answer).groups()
-        self.number = int(number)
+        _, number, _, *detail = answer.split(" ")
+        self.number, self.detail = int(number), " ".join(detail)
         row = told()[self.number]
         self.says = f"{row['what it says']} ({answer.removeprefix('refused ')})"
         # What to do is told by the commands of this client, where the words for lines wouldn't do.

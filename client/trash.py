@@ -31,9 +31,9 @@ def hidden_paths(session: Session) -> list[str]:
     places: set[str] = set()
     with session.again() as again:
         for answer in again.ask_all(session.history()):
-            for before, behind in moves_of(answer.line, answer.text[3:]) if answer.is_ok else ():
-                places |= {behind + place.removeprefix(before) for place in places if place.startswith(f"{before}/")}
-                places |= {behind} if hidden_parts(behind) else set()
+            for before, after in moves_of(answer.line, answer.text[3:]) if answer.is_ok else ():
+                places |= {after + place.removeprefix(before) for place in places if place.startswith(f"{before}/")}
+                places |= {after} if hidden_parts(after) else set()
     return sorted(places, key=lambda path: hidden_parts(path)[1])
 
 

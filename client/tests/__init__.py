@@ -40,7 +40,7 @@ class StoreCase(unittest.TestCase):
         return [sys.executable, str(ROOT / "chunkfs"), *self.words(*words)]
 
     def fs(self, *words: object, status: int = 0, said: bytes = b"") -> str:
-        """What a command prints, on standard output and behind it on standard error. Its status has to be the one that is meant."""
+        """What a command prints, on standard output and after it on standard error. Its status has to be the one that is meant."""
         streams = [io.TextIOWrapper(io.BytesIO(content)) for content in (said, b"", b"")]
         with patch("sys.stdin", streams[0]), redirect_stdout(streams[1]), redirect_stderr(streams[2]):
             try:

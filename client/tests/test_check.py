@@ -38,7 +38,7 @@ class Checks(StoreCase):
     def test_why_no_more_is_copied_is_told(self) -> None:
         self.lines("lose 1 3", "lose 2 3", "beat 1", "beat 2", "damage 0 3 0", "lose 1 1", "beat 1")
         told = self.fs("fsck", "--repair", status=1)
-        self.assertIn("no more copies: fsck --repair: ", told)
+        self.assertIn("no more copies: There is no live replica", told)
         self.assertIn("keeps other chunks from being copied", told)
         self.lines("rm /h")
         self.fs("expunge", "--all")

@@ -28,8 +28,8 @@ class Scripts(StoreCase):
         self.fs("export", "--to", "again")
         self.assertEqual((self.folder / "again").read_bytes(), (self.folder / "script").read_bytes())
         self.fs("undelete", "/tree/a")
-        self.fs("get", "/tree", "behind")
-        self.assertEqual(tree_of(self.folder / "behind"), tree_of(self.folder / "before"))
+        self.fs("get", "/tree", "after")
+        self.assertEqual(tree_of(self.folder / "after"), tree_of(self.folder / "before"))
         self.fs("undelete", "/tree/a/b")
         self.assertEqual(self.fs("ls", "/tree/a/b"), "empty\n")
 

@@ -72,7 +72,7 @@ class Sessions(StoreCase):
     def test_what_a_refusal_is_about(self) -> None:
         for line, about in (
             ("mv /a%20b /c", "/a b to /c: "),
-            ("replicate", "fsck --repair: "),
+            ("scan", "expunge: "),
             ("rollingUpgrade finalize", "upgrade finalize: "),
             ("rm -r /d", "/d: "),
         ):

@@ -4,6 +4,7 @@ import select
 import signal
 import time
 
+from client.shell import split
 from client.tests import TINY, StoreCase
 
 SECONDS = 300
@@ -27,7 +28,7 @@ class Terminal:
         limit = time.monotonic() + SECONDS
         while text not in self.told:
             if time.monotonic() > limit or not select.select([self.end], [], [], SECONDS)[0]:
-                raise AssertionError(f"{text!r} doesn't come behind {self.told!r}")
+                raise AssertionError(f"{text!r} doesn't come after {self.told!r}")
             self.told += os.read(self.end, 4_096).decode()
         before, self.told = self.told.split(text, 1)
         return before
@@ -49,7 +50,7 @@ class Terminal:
             time.sleep(0.05)
         os.kill(self.child, signal.SIGKILL)
         os.waitpid(self.child, 0)
-        raise AssertionError(f"it doesn't end behind {self.told!r}")
+        raise AssertionError(f"it doesn't end after {self.told!r}")
 
 
 class Shells(StoreCase):
@@ -61,6 +62,8 @@ class Shells(StoreCase):
         terminal.await_text("/> ")
         terminal.type("ls /pho\t\n")
         self.assertIn("two words", terminal.await_text("/> "))
+        terminal.type("ls -l /photos/tw\t\n")
+        self.assertIn("/photos/two words\r\n", terminal.await_text("/> "))
         terminal.type("undel\t/nothing\n")
         self.assertIn("nothing of that name", terminal.await_text("/> "))
         terminal.type("cd photos\n")
@@ -71,6 +74,10 @@ class Shells(StoreCase):
         self.assertIn("ok 2024/ two%20words", terminal.await_text("lines> "))
         terminal.type("\n")
         terminal.await_text("/photos> ")
+        self.local("big", bytes(3_000))
+        terminal.type("put big /photos\n")
+        shown = terminal.await_text("/photos> ")
+        self.assertRegex(shown, r"\[#{30}\] 2\.9 K of 2\.9 K, [0-9.]+ [BKMG]/s")
         terminal.type("help ls\n")
         self.assertIn("what stands in a directory", terminal.await_text("/photos> "))
         terminal.type("frob\n")
@@ -95,6 +102,19 @@ class Shells(StoreCase):
         typed = ["mkdir '/two words/a b'", "cd 'two words'", "ls", "cd 'a b'", "mkdir c:d", "ls", "tree", "cd", "ls", ""]
         told = self.fs("shell", said="\n".join(typed).encode())
         self.assertEqual(told, "a b/\nc:d/\n/two words/a b\n└── c:d/\ntwo words/\n")
+
+    def test_words_of_a_line(self) -> None:
+        for typed, words in (
+            ("", []),
+            ("# a comment", []),
+            ("ls /a # and another", ["ls", "/a"]),
+            ("rm /a#1 b#", ["rm", "/a#1", "b#"]),
+            ("rm '#1' \\#2 \"a # b\"#c", ["rm", "#1", "#2", "a # b#c"]),
+            ("ls two\\ words 'it''s'\t'' #", ["ls", "two words", "its", ""]),
+        ):
+            self.assertEqual(split(typed), words)
+        self.fs("shell", said=b"mkdir /a /a#1\nrm -r /a#1\n")
+        self.assertEqual(self.fs("ls"), "a/\n")
 
     def test_what_no_shell_reads(self) -> None:
         self.assertIn("No closing quotation", self.fs("shell", said=b"ls '/a\n", status=2))

@@ -123,6 +123,14 @@ class Transfers(StoreCase):
             self.assertEqual(f"chunkfs: {disk / name}: no space left on device\n", self.fs(*words, status=1))
             self.assertEqual(list(disk.iterdir()), [])
 
+    def test_what_came_otherwise_is_told_and_gets_no_name(self) -> None:
+        self.local("f", b"f")
+        with patch("client.transfer.file_sha256", return_value="another"):
+            self.assertIn("f: what came into the store isn't what stands here", self.fs("put", "--verify", "f", "/", status=1))
+        self.assertEqual(self.fs("ls"), f"f{COMING}\n")
+        self.fs("put", "--verify", "f", "/")
+        self.assertEqual(self.fs("ls"), "f\n")
+
     def test_links_and_odd_files(self) -> None:
         self.local("d/f", b"f")
         (self.folder / "d" / "link").symlink_to("f")

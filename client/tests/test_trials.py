@@ -85,7 +85,7 @@ class Trials(StoreCase):
         self.assertIn("all is sound", self.fs("fsck"))
 
     def killed(self, seconds: float, is_alone: bool) -> None:
-        """A put that is killed behind some time, alone or with the store's program."""
+        """A put that is killed after some time, alone or with the store's program."""
         run = subprocess.Popen(self.command("put", "-f", "tree", "/"), start_new_session=True, **{**QUIET, "stderr": subprocess.DEVNULL})
         time.sleep(seconds)
         if is_alone:

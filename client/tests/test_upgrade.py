@@ -16,6 +16,7 @@ class Upgrades(StoreCase):
         told = self.fs("upgrade", "status")
         self.assertIn("chunk 1, on 3 of 3 servers as it was at the prepare: /f\n", told)
         self.assertTrue(told.endswith("a rollback would give all back\n"))
+        self.assertIn("an upgrade stands, of which this says nothing: upgrade status tells", self.fs("fsck"))
         self.assertIn("rolled back to the prepare, epoch 2", self.fs("upgrade", "rollback"))
         self.assertEqual(self.fs("cat", "/f", "/g"), "a" * 20 + "b")
 
