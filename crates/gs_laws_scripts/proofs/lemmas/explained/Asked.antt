@@ -2,27 +2,23 @@
 use Rattle.std.proofs.Common.{[], ap, arith, inl, inr, refl, subst, sym, ◌&&◌, ◌<◌, ◌∷◌, ◌∙◌, ◌≡◌, ◌≤◌, ◌⊎◌, Bool, Err, List, None, Ok, Option, Result, Some, false, length, map, suc, true, zero, ℕ}
 use Rattle.std.proofs.lemmas.Bool.{false≢true}
 use Rattle.std.specs.FinMap as fin
-use Rattle.std.specs.Prelude.{if◌then◌else◌, slice_get}
 use Rattle.gs_base.specs.declared.config.Config.{Config}
 use Rattle.gs_base.specs.declared.numbers.Moment.{Moment}
 use Rattle.gs_base.specs.declared.numbers.ReqId.{ReqId}
 use Rattle.gs_base.specs.declared.refusal.Refusal.{Refusal}
 use Rattle.gs_base.specs.declared.refusal.Refusal.TheVariants as refusals
 use Rattle.gs_edit.proofs.Tables.{seen as rows_of}
-use Rattle.gs_edit.specs.Mapped.{mapped_rows}
 use Rattle.gs_laws_moves.specs.answers.AtOnce.{OneSays}
 use Rattle.gs_lease.specs.declared.view.View.{View}
 use Rattle.gs_master_record.specs.declared.checkpoint.Phase.{Phase as Durable_phase}
 use Rattle.gs_master_record.specs.declared.checkpoint.Phase.TheVariants.{Ordinary, Rolling, Upgrade}
 use Rattle.gs_master_spec.specs.Applied.{view_in}
-use Rattle.gs_master_spec.specs.Calls.{chunk_status, found_chunk, is_any_deep, is_any_hidden, is_locked, listing, location, location_on, looked_up, ordered, refused_before, status, told_phase}
-use Rattle.gs_master_spec.specs.Durable.{Durable}
+use Rattle.gs_master_spec.specs.Calls.{chunk_status, found_chunk, is_any_deep, is_locked, listing, location, location_on, looked_up, refused_before, status, told_phase}
 use Rattle.gs_master_spec.specs.Durable.{is_rolling as is_rolled}
-use Rattle.gs_master_spec.specs.Handling.{called_unless, new_call}
+use Rattle.gs_master_spec.specs.Handling.{called_unless}
 use Rattle.gs_master_spec.specs.State.{State, first_of, is_failed, reply_to}
 use Rattle.gs_msg.specs.declared.answer.Answer.{Answer as Said}
 use Rattle.gs_msg.specs.declared.answer.Answer.TheVariants as says
-use Rattle.gs_msg.specs.declared.answer.Status.TheVariants as statuses
 use Rattle.gs_msg.specs.declared.body.Body.TheVariants as bodies
 use Rattle.gs_msg.specs.declared.call.Call.{Call}
 use Rattle.gs_msg.specs.declared.call.Call.TheVariants as calls

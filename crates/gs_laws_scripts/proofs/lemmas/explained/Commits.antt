@@ -1,7 +1,7 @@
 -- Lines that leave what stands are explained in a script, right after a prepare or a rollback that is accepted.
-use Rattle.std.proofs.Common.{[], ap, inl, inr, refl, subst, ◌++◌, ◌∷◌, ◌≡◌, ◌⊎◌, List, length, true, ℕ}
+use Rattle.std.proofs.Common.{[], ap, inl, inr, subst, ◌++◌, ◌∷◌, ◌≡◌, ◌⊎◌, List, true, ℕ}
 use Rattle.std.proofs.lemmas.Bool.{false≢true}
-use Rattle.std.specs.Prelude.{codes, decimal, false}
+use Rattle.std.specs.Prelude.{codes, decimal}
 use Rattle.gs_base.specs.declared.config.Config.{Config}
 use Rattle.gs_journal.specs.Records.{fresh, standing}
 use Rattle.gs_msg.specs.declared.answer.Phase.{Phase}
@@ -19,8 +19,7 @@ use Rattle.gs_laws_scripts.proofs.lemmas.lists.Scripts.{Epoch_at, Line_answered,
 use Rattle.gs_laws_scripts.proofs.lemmas.reads.Clients.{lines_mine}
 use Rattle.gs_laws_scripts.specs.answers.Meeting.{IsClientOf}
 use Rattle.gs_laws_scripts.specs.explained.Commits.{AfterACommitUntilAReadFails, AfterACommitUntilAWriteFails, AreExplainedFromSome, HasStillLines, ScriptsAfterACommit, StillLinesAfter}
-use Rattle.gs_laws_scripts.specs.explained.Machine.{Machine}
-use Rattle.gs_laws_scripts.specs.explained.Standing.{AreStillLines, Stands}
+use Rattle.gs_laws_scripts.specs.explained.Standing.{AreStillLines}
 use Rattle.gs_laws_scripts.specs.lists.Lines.{commits_prepare, commits_rollback}
 use Rattle.gs_laws_scripts.specs.lists.Scripts.{AsksFor}
 

@@ -1,5 +1,5 @@
 -- After a prepare or a rollback that is accepted the names stand while nothing is asked but look-ups.
-use Rattle.std.proofs.Common.{[], ap, arith, inl, inr, refl, subst, sym, ◌++◌, ◌<◌, ◌∷◌, ◌∙◌, ◌≡◌, ◌⊎◌, List, None, Ok, Some, false, length, true, ℕ, ◌^◌}
+use Rattle.std.proofs.Common.{[], ap, arith, inl, inr, refl, subst, sym, ◌++◌, ◌<◌, ◌∷◌, ◌∙◌, ◌≡◌, List, None, Ok, false, length, true, ℕ, ◌^◌}
 use Rattle.std.specs.FinMap as fin
 use Rattle.std.specs.List.{AllByRecursion}
 use Rattle.gs_base.specs.Told.{IsNumber}
@@ -15,7 +15,7 @@ use Rattle.gs_laws_chunks.proofs.lemmas.desks.Ways.{joined}
 use Rattle.gs_laws_chunks.proofs.lemmas.desks.When.{StepsSo}
 use Rattle.gs_laws_chunks.specs.answers.Asked.{AreAsked}
 use Rattle.gs_laws_chunks.specs.answers.Behind.{IsOnly, asks_call, is_halt}
-use Rattle.gs_laws_chunks.specs.desks.Reached.{Covers, history}
+use Rattle.gs_laws_chunks.specs.desks.Reached.{history}
 use Rattle.gs_laws_chunks.specs.desks.Within.{IsReachedWithin}
 use Rattle.gs_laws_looks.proofs.lemmas.halts.Commits.{commits_halt}
 use Rattle.gs_laws_looks.specs.carrying.Carried.{IsCarried}
@@ -46,7 +46,6 @@ use Rattle.gs_laws_scripts.proofs.lemmas.reads.Clients.{begun_mine, still_mine}
 use Rattle.gs_laws_scripts.specs.answers.Meeting.{IsClientOf}
 use Rattle.gs_laws_scripts.specs.explained.Machine.{Machine, new_machine, new_text}
 use Rattle.gs_laws_scripts.specs.explained.Standing.{CommitsStand, IsUndisturbed, ShowsNames, Stands, the_client}
-use Rattle.gs_laws_scripts.specs.lists.Lines.{commits_prepare, commits_rollback}
 
 -- a machine that shows the names
 abbrev shown : Durable → Machine

@@ -1,19 +1,16 @@
 -- What a list is answered by a store whose names stand is what the machine answers that shows them.
-use Rattle.std.proofs.Common.{[], ap, inl, inr, refl, subst, sym, ◌++◌, ◌&&◌, ◌∷◌, ◌∙◌, ◌≡◌, ◌⊎◌, Bool, Err, List, None, Ok, Option, Result, Some, cond, false, map, not, true, ℕ}
+use Rattle.std.proofs.Common.{[], ap, inl, inr, refl, subst, sym, ◌&&◌, ◌∷◌, ◌∙◌, ◌≡◌, Bool, Err, List, None, Ok, Option, Result, Some, cond, false, map, true, ℕ}
 use Rattle.std.proofs.lemmas.Bool.{false≢true}
 use Rattle.std.specs.FinMap as fin
 use Rattle.std.specs.List.{AllByRecursion}
-use Rattle.std.specs.Prelude.{if◌then◌else◌, unwrap_or}
-use Rattle.std.specs.Result.{result_unwrap_or}
+use Rattle.std.specs.Prelude.{if◌then◌else◌}
 use Rattle.gs_base.specs.declared.config.Config.{Config}
 use Rattle.gs_base.specs.declared.numbers.Moment.{Moment}
 use Rattle.gs_base.specs.declared.numbers.ReqId.{ReqId}
 use Rattle.gs_base.specs.declared.refusal.Refusal.{Refusal}
 use Rattle.gs_base.specs.declared.refusal.Refusal.TheVariants as refusals
-use Rattle.gs_client.specs.declared.link.Reply.{Reply}
 use Rattle.gs_client.specs.declared.link.Reply.TheVariants as replies
 use Rattle.gs_edit.proofs.Tables.{seen as rows_of}
-use Rattle.gs_edit.specs.Machine.{with_tree}
 use Rattle.gs_edit.specs.Mapped.{mapped_rows}
 use Rattle.gs_edit.specs.View.{NamesView}
 use Rattle.gs_laws_chunks.proofs.lemmas.answers.Answered.{answers_are_made}
@@ -22,7 +19,7 @@ use Rattle.gs_laws_chunks.proofs.lemmas.answers.Resting.{stays_still}
 use Rattle.gs_laws_chunks.proofs.lemmas.answers.Sparing.{asked_spared, lasts_spared}
 use Rattle.gs_laws_chunks.specs.answers.Answered.{WasAnswered}
 use Rattle.gs_laws_chunks.specs.answers.Behind.{asks_call}
-use Rattle.gs_laws_chunks.specs.answers.Resting.{IsLooking, IsStill, StandsStill, StandsStillAt}
+use Rattle.gs_laws_chunks.specs.answers.Resting.{IsLooking, StandsStill, StandsStillAt}
 use Rattle.gs_laws_looks.specs.carrying.Exchanged.{HasReply}
 use Rattle.gs_laws_moves.proofs.lemmas.answers.Resting.{lists_answered}
 use Rattle.gs_laws_moves.proofs.lemmas.looks.Looks.{no_answer}
@@ -30,8 +27,7 @@ use Rattle.gs_laws_master.specs.Standing.{IsFirm}
 use Rattle.gs_laws_moves.specs.answers.AtOnce.{OneSays, is_answered_at_once}
 use Rattle.gs_laws_moves.specs.answers.Resting.{is_look}
 use Rattle.gs_laws_plain.proofs.lemmas.commands.Answering.{same_names}
-use Rattle.gs_laws_plain.specs.calm.Calm.{hidden_after}
-use Rattle.gs_laws_plain.specs.commands.Answers.{by_paths, listed, plain_answer}
+use Rattle.gs_laws_plain.specs.commands.Answers.{listed}
 use Rattle.gs_laws_world.proofs.lemmas.steady.Keeping.{run_keeps}
 use Rattle.gs_laws_world.specs.steady.Saying.{IsStepWithin}
 use Rattle.gs_laws_world.specs.steady.Unarmed.{unarmed}
@@ -61,7 +57,7 @@ use Rattle.gs_tree.specs.Find.{Rows, at}
 use Rattle.gs_tree.specs.Mapped.{mapped_at, mapped_entry}
 use Rattle.gs_world.specs.Histories.{History}
 use Rattle.gs_world.specs.Runs.{Comes, RunsTo, Step}
-use Rattle.gs_laws_scripts.specs.explained.Lines.{AsksOne, AsksTree, IsOfStore, IsSaid, overtaken}
+use Rattle.gs_laws_scripts.specs.explained.Lines.{AsksOne, AsksTree, IsOfStore, IsSaid}
 use Rattle.gs_laws_scripts.specs.explained.Machine.{Machine, Text, called, is_preparing, is_rolling, taken, tree_called, tree_said}
 use Rattle.gs_laws_scripts.specs.explained.Standing.{IsUndisturbed, ShowsNames, is_upgrading, the_client}
 

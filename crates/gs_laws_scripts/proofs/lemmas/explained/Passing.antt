@@ -1,5 +1,5 @@
 -- Lines about servers and messages, and look-ups, are steps at which nothing is asked of the master but look-ups.
-use Rattle.std.proofs.Common.{[], inl, inr, refl, subst, sym, ap, ◌++◌, ◌-◌, ◌==◌, ◌∷◌, ◌∙◌, ◌≡◌, ◌⊎◌, Bool, Err, List, MatchOption, None, Ok, Option, Result, Some, false, slice_get, true, ℕ}
+use Rattle.std.proofs.Common.{[], inl, inr, refl, subst, sym, ap, ◌++◌, ◌-◌, ◌==◌, ◌∷◌, ◌≡◌, ◌⊎◌, Bool, Err, List, MatchOption, None, Ok, Option, Result, Some, false, slice_get, true, ℕ}
 use Rattle.std.specs.List.{AllByRecursion}
 use Rattle.std.proofs.lemmas.Bool.{false≢true}
 use Rattle.gs_base.specs.Calls.{Does}
@@ -24,7 +24,7 @@ use Rattle.gs_shell_desk.specs.Ways.{DeliversWhole, IsDelivered, Sends, Way, sho
 use Rattle.gs_shell_grammar.specs.Grammar.{Request}
 use Rattle.gs_shell_grammar.specs.Grammar as lines
 use Rattle.gs_shell_grammar.specs.declared.command.Restarted.TheVariants as restarted
-use Rattle.gs_world.specs.Histories.{AtNode, ComesTo, History, Upshot, silent, told}
+use Rattle.gs_world.specs.Histories.{AtNode, ComesTo, Upshot, silent, told}
 use Rattle.gs_world.specs.Runs.{Comes, RunsTo, Step}
 use Rattle.gs_world.specs.Sent.{IsSent, Sent}
 use Rattle.gs_laws_chunks.proofs.lemmas.desks.Ending.{Alike, CanPost, IsOver, alike_covers, alike_to, as_it_is, delivered_posts, ended, known_server}

@@ -30,7 +30,7 @@ use Rattle.gs_shell_grammar.specs.declared.command.Upgrade.TheVariants as upgrad
 use Rattle.gs_shell_line.specs.Line.{content, longest_line}
 use Rattle.gs_shell_script.specs.Run.{AnswersIfShort, AnswersLine, Runs}
 use Rattle.gs_shell_script.specs.declared.RunFault.{RunFault}
-use Rattle.gs_laws_scripts.proofs.lemmas.explained.Lifted.{create_leads, delete_leads, lifted, lifted_of, lifted_rows, list_leads, mkdirs_leads, rename_leads, rows_quiet, snapshot_leads, undelete_leads}
+use Rattle.gs_laws_scripts.proofs.lemmas.explained.Lifted.{create_leads, delete_leads, lifted, lifted_of, list_leads, mkdirs_leads, rename_leads, rows_quiet, snapshot_leads, undelete_leads}
 use Rattle.gs_laws_scripts.proofs.lemmas.plain.Answering.{scripts_are_plain}
 use Rattle.gs_laws_scripts.proofs.lemmas.plain.Stopping.{are_plain_until_a_read_fails, are_plain_until_a_write_fails, first_lines}
 use Rattle.gs_laws_scripts.proofs.lemmas.plain.Untroubled.{went_well}

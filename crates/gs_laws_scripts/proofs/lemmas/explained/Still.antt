@@ -1,7 +1,6 @@
 -- Lines that list names, or are about servers and messages, are explained where the names stand; and they stand after them.
-use Rattle.std.proofs.Common.{[], ap, inl, inr, refl, subst, sym, ◌++◌, ◌+◌, ◌<◌, ◌∷◌, ◌∙◌, ◌≡◌, ◌⊎◌, Bool, Err, List, MatchOption, None, Ok, Option, Result, Some, false, if◌then◌else◌, length, nat_le, true, ℕ}
+use Rattle.std.proofs.Common.{[], ap, inl, inr, refl, subst, sym, ◌++◌, ◌∷◌, ◌∙◌, ◌≡◌, ◌⊎◌, Bool, Err, List, MatchOption, None, Ok, Option, Result, Some, false, if◌then◌else◌, length, nat_le, true, ℕ}
 use Rattle.std.proofs.lemmas.Bool.{false≢true}
-use Rattle.std.specs.List.{AllByRecursion}
 use Rattle.gs_base.specs.Told.{IsNumber}
 use Rattle.gs_base.specs.declared.config.Config.{Config}
 use Rattle.gs_base.specs.declared.refusal.Refusal.{Refusal}
@@ -23,8 +22,6 @@ use Rattle.gs_laws_looks.specs.carrying.Exchanged.{HasReply, IsExchanged, Looks,
 use Rattle.gs_laws_moves.specs.answers.Resting.{is_look}
 use Rattle.gs_laws_world.specs.steady.Asking.{MayBeAsked, asks_at}
 use Rattle.gs_laws_world.specs.steady.Saying.{IsStepWithin}
-use Rattle.gs_laws_world.specs.steady.Unarmed.{unarmed}
-use Rattle.gs_master_spec.specs.Durable.{Durable}
 use Rattle.gs_msg.specs.declared.answer.Answer.TheVariants as says
 use Rattle.gs_msg.specs.declared.answer.Phase.{Phase}
 use Rattle.gs_msg.specs.declared.call.Call.{Call}
@@ -34,13 +31,13 @@ use Rattle.gs_msg.specs.declared.event.Request.TheVariants as requests
 use Rattle.gs_msg.specs.declared.lists.ListedName.{ListedName}
 use Rattle.gs_path.specs.Path.{Path}
 use Rattle.gs_path.specs.Rules.{parse_hidden}
-use Rattle.gs_shell_calls.specs.Asked.{answered, asked_by, at_phase, on, upgrade_line}
+use Rattle.gs_shell_calls.specs.Asked.{answered, at_phase, on, upgrade_line}
 use Rattle.gs_shell_calls.specs.Texts.{answer_text}
 use Rattle.gs_shell_calls.specs.declared.answer.Answer.{Answer}
 use Rattle.gs_shell_calls.specs.declared.answer.Answer.TheVariants as answers
 use Rattle.gs_shell_desk.specs.Answering.{AnswersText, IsText}
 use Rattle.gs_shell_desk.specs.Lines.{Comes, NodesDo}
-use Rattle.gs_shell_desk.specs.Ways.{Way, way_of}
+use Rattle.gs_shell_desk.specs.Ways.{way_of}
 use Rattle.gs_shell_desk.specs.declared.desk.Desk.{Desk}
 use Rattle.gs_shell_desk.specs.declared.wire.Wire.{Wire}
 use Rattle.gs_shell_grammar.specs.Grammar.{Request, line_request}
@@ -50,7 +47,7 @@ use Rattle.gs_shell_grammar.specs.declared.command.Upgrade.TheVariants as upgrad
 use Rattle.gs_shell_line.specs.Line.{content, longest_line}
 use Rattle.gs_shell_script.specs.Run.{AnswersIfShort, AnswersLine, Runs, memory_text}
 use Rattle.gs_world.specs.Histories.{History}
-use Rattle.gs_world.specs.Runs.{Comes as StepComes, RunsTo, Step}
+use Rattle.gs_world.specs.Runs.{Comes as StepComes}
 use Rattle.gs_world.specs.Sent.{Sent}
 use Rattle.gs_laws_scripts.proofs.lemmas.explained.Alike.{refused_never}
 use Rattle.gs_laws_scripts.proofs.lemmas.explained.Listed.{is_calm, is_listed, is_shallow, is_told, list_is, list_off, not_ordinary, query_is, query_off, undisturbed_on}
@@ -60,7 +57,7 @@ use Rattle.gs_laws_scripts.proofs.lemmas.reads.Clients.{still_mine}
 use Rattle.gs_laws_scripts.specs.answers.Meeting.{IsClientOf}
 use Rattle.gs_laws_scripts.specs.explained.Lines.{AsksOne, AsksTree, Explains, IsOfStore, Leads}
 use Rattle.gs_laws_scripts.specs.explained.Machine.{Machine}
-use Rattle.gs_laws_scripts.specs.explained.Standing.{AreStillLines, IsRefusedByStoreAlone, IsStillLine, IsUndisturbed, ShowsNames, Stands, StillLinesAreExplained, is_name_look, is_query, is_still_line, is_upgrading, the_client}
+use Rattle.gs_laws_scripts.specs.explained.Standing.{AreStillLines, IsRefusedByStoreAlone, IsStillLine, ShowsNames, Stands, StillLinesAreExplained, is_name_look, is_query, is_still_line, is_upgrading, the_client}
 use Rattle.gs_laws_scripts.specs.plain.Machines.{asked_in}
 use Rattle.gs_laws_scripts.specs.plain.Machines as plainly
 
