@@ -1,6 +1,10 @@
+pub mod Asking
+pub mod Commits
 pub mod Digested
 pub mod Following
 pub mod Lines
 pub mod Machine
 pub mod Rows
+pub mod Scripts
+pub mod Standing
 pub mod Told

@@ -1,9 +1,17 @@
 //! A plain machine of trees and bytes, with what each line may be answered from it and where that leads.
-//! It knows no node and no message. That a store answers each script so isn't proved yet: what is proved here is of the machine, and of a client's dialogues.
+//! It knows no node and no message. That a store answers each script so isn't proved yet. It is of scripts of lines of the tree and of an upgrade; what else is proved here is of the machine, and of a client's dialogues.
 
+ghost use Rattle.std.specs.Prelude.{ℕ, List};
+ghost use Rattle.gs_base.specs.declared.config.Config.{Config};
+ghost use Rattle.gs_laws_scripts.specs.explained.Commits.{AfterACommitUntilAReadFails, AfterACommitUntilAWriteFails, ScriptsAfterACommit};
+ghost use Rattle.gs_laws_scripts.specs.explained.Asking.{ListsAreTold, PlacesAreTold, QueriesAreTold, StatusesAreTold};
 ghost use Rattle.gs_laws_scripts.specs.explained.Digested.{DigestsAreExplained};
 ghost use Rattle.gs_laws_scripts.specs.explained.Following.{LooksComeBack, PlainAnswersAreAFunction};
+ghost use Rattle.gs_laws_scripts.specs.explained.Scripts.{AreExplainedUntilAReadFails, AreExplainedUntilAWriteFails, ScriptsOfTheTreeAreExplained};
+ghost use Rattle.gs_laws_scripts.specs.explained.Standing.{CommitsStand, StillLinesAreExplained};
 ghost use Rattle.gs_laws_scripts.specs.explained.Told.{AppendsAreExplained, ReadsAreExplained, StatsAreExplained, WritesAreExplained};
+
+use gs_block::promises::configurations_have_sizes;
 
 /// Of a script that the machine explains: where the store refuses no line and none is unsure, the answers are a function of the lines.
 /// Three things are left aside: what `stat` tells of chunks beside their number, how many chunks a scan forgets, and lines about nodes alone.
@@ -26,4 +34,45 @@ fn dialogues_are_explained()
     ensures stats { StatsAreExplained }
     ensures reads { ReadsAreExplained }
     ensures digests { DigestsAreExplained }
+{}
+
+/// So long as the lines of a script are of the tree (`mkdir`, `create`, `ls`, `mv`, `rm`, `undelete`, `snapshot`), of an upgrade (`rollingUpgrade` with each of its four words), `at`, or bad, and no answer is that
+/// there is no room (30) or that a counter has no value left (31), the machine explains what `run` answers them: over empty disks, and where memory isn't wanting and no disk fails. Nothing is ever owed then.
+/// So it is too where a read of the script or a write of an answer fails and ends the run.
+pub fn scripts_of_the_tree_are_explained<D>()
+    ensures ended { (seen : D → List ℕ) (failures : D → ℕ) (config : Config) (disks : D × D) → ScriptsOfTheTreeAreExplained seen failures config disks }
+    ensures read_fails { (seen : D → List ℕ) (failures : D → ℕ) (config : Config) (disks : D × D) → AreExplainedUntilAReadFails seen failures config disks }
+    ensures write_fails { (seen : D → List ℕ) (failures : D → ℕ) (config : Config) (disks : D × D) → AreExplainedUntilAWriteFails seen failures config disks }
+{}
+
+/// While nothing is asked that changes something the machine explains what a desk answers, and it stands for the machine after each line: to `ls`, `at`, `hold`, `beat`, `lose`, `damage`, `deliver`, `restart` of a server, and to lines that are none.
+/// The store may have any files with any bytes, led chunks, held messages, lost and damaged replicas, and disks that fail. A list may be refused by the store, and is else what the machine lists; of other refusals of it nothing is said here.
+fn still_lines_are_explained<D>()
+    ensures { StillLinesAreExplained D }
+{}
+
+/// A desk stands so for a machine right after a prepare, or a rollback, that is accepted: whatever lines came before, whatever is held back, and whatever disks fail.
+fn a_desk_stands_after_a_commit<D>()
+    ensures { CommitsStand D }
+{
+    configurations_have_sizes();
+}
+
+/// Right after a prepare or a rollback that is answered by an epoch, one machine explains what a script is answered: as long as its lines are `ls`, `at`, `hold`, `beat`, `lose`, `damage`, `deliver` and `restart` of a server, or bad, and the store alone refuses a list.
+/// So all lists of these lines are of the same names. Whatever lines come before, with held messages, lost and damaged replicas, and disks that fail: of what they left nothing is known but the names.
+pub fn lines_after_a_commit_are_explained<D>()
+    ensures ended { ScriptsAfterACommit D }
+    ensures read_fails { AfterACommitUntilAReadFails D }
+    ensures write_fails { AfterACommitUntilAWriteFails D }
+{
+    configurations_have_sizes();
+}
+
+/// What the master answers to a look-up that is new to it is what a machine tells that shows what the master stands on, refusals too: a list, a query, the status of an entry, and where a chunk of a file is.
+/// Else the store refuses it. It is said of one turn, of paths of no more elements than one that is read, and of files of no more chunks than one may have.
+fn looks_are_told()
+    ensures lists { ListsAreTold }
+    ensures queries { QueriesAreTold }
+    ensures statuses { StatusesAreTold }
+    ensures places { PlacesAreTold }
 {}

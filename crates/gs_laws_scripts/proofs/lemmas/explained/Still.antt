@@ -1,0 +1,394 @@
+-- Lines that list names, or are about servers and messages, are explained where the names stand; and they stand after them.
+use Rattle.std.proofs.Common.{[], ap, inl, inr, refl, subst, sym, ◌++◌, ◌∷◌, ◌∙◌, ◌≡◌, ◌⊎◌, Bool, Err, List, MatchOption, None, Ok, Option, Result, Some, false, if◌then◌else◌, length, nat_le, true, ℕ}
+use Rattle.std.proofs.lemmas.Bool.{false≢true}
+use Rattle.gs_base.specs.Told.{IsNumber}
+use Rattle.gs_base.specs.declared.config.Config.{Config}
+use Rattle.gs_base.specs.declared.refusal.Refusal.{Refusal}
+use Rattle.gs_base.specs.declared.refusal.Refusal.TheVariants as refusals
+use Rattle.gs_base.specs.declared.numbers.Moment.{Moment}
+use Rattle.gs_client.specs.Replies.{looked, names_in, phase_in}
+use Rattle.gs_client.specs.Sends.{next_request}
+use Rattle.gs_client.specs.Trees.{and_then, list_call}
+use Rattle.gs_client.specs.declared.client.Client.{Client}
+use Rattle.gs_client.specs.declared.link.Reply.{Reply}
+use Rattle.gs_client.specs.declared.link.Reply.TheVariants as replies
+use Rattle.gs_client_dialogue.specs.Dialogues.{FollowsDialogue, Say, onward}
+use Rattle.gs_laws_chunks.proofs.lemmas.desks.Ways.{joined}
+use Rattle.gs_laws_chunks.proofs.lemmas.desks.Words.{IsSpoken, line_spoken}
+use Rattle.gs_laws_chunks.specs.answers.Resting.{IsLooking}
+use Rattle.gs_laws_chunks.specs.desks.Reached.{Covers, history}
+use Rattle.gs_laws_looks.proofs.lemmas.carrying.Exchanged.{looks_are_carried}
+use Rattle.gs_laws_looks.specs.carrying.Exchanged.{HasReply, IsExchanged, Looks, Went}
+use Rattle.gs_laws_moves.specs.answers.Resting.{is_look}
+use Rattle.gs_laws_world.specs.steady.Asking.{MayBeAsked, asks_at}
+use Rattle.gs_laws_world.specs.steady.Saying.{IsStepWithin}
+use Rattle.gs_msg.specs.declared.answer.Answer.TheVariants as says
+use Rattle.gs_msg.specs.declared.answer.Phase.{Phase}
+use Rattle.gs_msg.specs.declared.call.Call.{Call}
+use Rattle.gs_msg.specs.declared.call.Call.TheVariants as calls
+use Rattle.gs_msg.specs.declared.event.Request.{Request as Asked}
+use Rattle.gs_msg.specs.declared.event.Request.TheVariants as requests
+use Rattle.gs_msg.specs.declared.lists.ListedName.{ListedName}
+use Rattle.gs_path.specs.Path.{Path}
+use Rattle.gs_path.specs.Rules.{parse_hidden}
+use Rattle.gs_shell_calls.specs.Asked.{answered, at_phase, on, upgrade_line}
+use Rattle.gs_shell_calls.specs.Texts.{answer_text}
+use Rattle.gs_shell_calls.specs.declared.answer.Answer.{Answer}
+use Rattle.gs_shell_calls.specs.declared.answer.Answer.TheVariants as answers
+use Rattle.gs_shell_desk.specs.Answering.{AnswersText, IsText}
+use Rattle.gs_shell_desk.specs.Lines.{Comes, NodesDo}
+use Rattle.gs_shell_desk.specs.Ways.{way_of}
+use Rattle.gs_shell_desk.specs.declared.desk.Desk.{Desk}
+use Rattle.gs_shell_desk.specs.declared.wire.Wire.{Wire}
+use Rattle.gs_shell_grammar.specs.Grammar.{Request, line_request}
+use Rattle.gs_shell_grammar.specs.Grammar as lines
+use Rattle.gs_shell_grammar.specs.declared.command.Restarted.TheVariants as restarted
+use Rattle.gs_shell_grammar.specs.declared.command.Upgrade.TheVariants as upgrades
+use Rattle.gs_shell_line.specs.Line.{content, longest_line}
+use Rattle.gs_shell_script.specs.Run.{AnswersIfShort, AnswersLine, Runs, memory_text}
+use Rattle.gs_world.specs.Histories.{History}
+use Rattle.gs_world.specs.Runs.{Comes as StepComes}
+use Rattle.gs_world.specs.Sent.{Sent}
+use Rattle.gs_laws_scripts.proofs.lemmas.explained.Alike.{refused_never}
+use Rattle.gs_laws_scripts.proofs.lemmas.explained.Listed.{is_calm, is_listed, is_shallow, is_told, list_is, list_off, not_ordinary, query_is, query_off, undisturbed_on}
+use Rattle.gs_laws_scripts.proofs.lemmas.explained.Passing.{LooksOn, nodes_do}
+use Rattle.gs_laws_scripts.proofs.lemmas.lists.Lines.{Carries_at, all_join, next_small}
+use Rattle.gs_laws_scripts.proofs.lemmas.reads.Clients.{still_mine}
+use Rattle.gs_laws_scripts.specs.answers.Meeting.{IsClientOf}
+use Rattle.gs_laws_scripts.specs.explained.Lines.{AsksOne, AsksTree, Explains, IsOfStore, Leads}
+use Rattle.gs_laws_scripts.specs.explained.Machine.{Machine}
+use Rattle.gs_laws_scripts.specs.explained.Standing.{AreStillLines, IsRefusedByStoreAlone, IsStillLine, ShowsNames, Stands, StillLinesAreExplained, is_name_look, is_query, is_still_line, is_upgrading, the_client}
+use Rattle.gs_laws_scripts.specs.plain.Machines.{asked_in}
+use Rattle.gs_laws_scripts.specs.plain.Machines as plainly
+
+-- ---- a list as a dialogue
+
+names_said : (reply : Reply) (names : List ListedName) → and_then names_in (looked reply) ≡ Ok names → reply ≡ replies.Answer (says.Names names)
+names_said (replies.Answer (says.Names other)) names is = ap (λ k. replies.Answer (says.Names k)) (names_are is)
+  where
+    names_are : {a b : List ListedName} → ◌≡◌ {A = Result (List ListedName) Refusal} (Ok a) (Ok b) → a ≡ b
+    names_are is = cc
+names_said (replies.Answer answer) names is = absurd cc
+names_said (replies.Refused refusal) names is = absurd cc
+names_said replies.Lost names is = absurd cc
+names_said reply names is = absurd cc
+
+phase_said : (reply : Reply) (phase : Phase) (epoch : ℕ) → and_then phase_in (looked reply) ≡ Ok (phase, epoch) → reply ≡ replies.Answer (says.Phase phase epoch)
+phase_said (replies.Answer (says.Phase other before)) phase epoch is = ap (λ (k : Phase × ℕ). replies.Answer (says.Phase k.0 k.1)) (pair_is is)
+  where
+    pair_is : {a b : Phase × ℕ} → ◌≡◌ {A = Result (Phase × ℕ) Refusal} (Ok a) (Ok b) → a ≡ b
+    pair_is e = cc
+phase_said (replies.Answer answer) phase epoch is = absurd cc
+phase_said (replies.Refused refusal) phase epoch is = absurd cc
+phase_said replies.Lost phase epoch is = absurd cc
+phase_said reply phase epoch is = absurd cc
+
+module _ {S : Type 0} (carries : S → Asked → Reply → S → Type 0) where
+  -- Memory is wanting; or the path is none; or the list is asked, and its reply is told.
+  data ListGoes (parsed : Result Path Refusal) (old : S) (result : Result Answer Refusal) (new : S) : Type 0 where
+    Short : result ≡ Err refusals.Memory → new ≡ old → ListGoes parsed old result new
+    NoPath : (refusal : Refusal) → parsed ≡ Err refusal → result ≡ Err refusal → new ≡ old → ListGoes parsed old result new
+    IsAsked : (path : Path) (reply : Reply) → parsed ≡ Ok path → carries old (requests.Call (calls.List path)) reply new → result ≡ answered answers.Names (and_then names_in (looked reply)) → ListGoes parsed old result new
+
+  list_asked : (path : Path) (reply : Reply) (old mid new : S) (result : Result Answer Refusal) (r : Result (List ListedName) Refusal) → and_then names_in (looked reply) ≡ r → carries old (requests.Call (calls.List path)) reply mid
+      → FollowsDialogue carries (onward (λ x. Say (Ok (answers.Names x))) r) mid result new → ListGoes (Ok path) old result new
+  list_asked path reply old mid new result (Ok names) said carried (is, same) = IsAsked path reply refl (subst (λ s. carries old (requests.Call (calls.List path)) reply s) (sym same) carried) (is ∙ ap (answered answers.Names) (sym said))
+  list_asked path reply old mid new result (Err refusal) said carried (is, same) = IsAsked path reply refl (subst (λ s. carries old (requests.Call (calls.List path)) reply s) (sym same) carried) (is ∙ ap (answered answers.Names) (sym said))
+
+  -- the phase is asked, and the reply is told
+  record QueryGoes (old : S) (result : Result Answer Refusal) (new : S) : Type 0 where
+    reply : Reply
+    asks : carries old (requests.Call calls.Query) reply new
+    is : result ≡ answered at_phase (and_then phase_in (looked reply))
+
+  query_asked : (reply : Reply) (old mid new : S) (result : Result Answer Refusal) (r : Result (Phase × ℕ) Refusal) → and_then phase_in (looked reply) ≡ r → carries old (requests.Call calls.Query) reply mid
+      → FollowsDialogue carries (onward (λ x. Say (Ok (at_phase x))) r) mid result new → QueryGoes old result new
+  query_asked reply old mid new result (Ok told) said carried (is, same) = record { reply = reply; asks = subst (λ s. carries old (requests.Call calls.Query) reply s) (sym same) carried; is = is ∙ ap (answered at_phase) (sym said) }
+  query_asked reply old mid new result (Err refusal) said carried (is, same) = record { reply = reply; asks = subst (λ s. carries old (requests.Call calls.Query) reply s) (sym same) carried; is = is ∙ ap (answered at_phase) (sym said) }
+
+  query_goes : (old new : S) (result : Result Answer Refusal) → FollowsDialogue carries (upgrade_line upgrades.Query) old result new → QueryGoes old result new
+  query_goes old new result (reply, mid, carried, rest) = query_asked reply old mid new result (and_then phase_in (looked reply)) refl carried rest
+
+  list_goes : (parsed : Result Path Refusal) (old new : S) (result : Result Answer Refusal) → FollowsDialogue carries (on parsed list_call answers.Names) old result new → ListGoes parsed old result new
+  list_goes (Ok path) old new result (inl (reply, mid, carried, rest)) = list_asked path reply old mid new result (and_then names_in (looked reply)) refl carried rest
+  list_goes (Err refusal) old new result (inl (is, same)) = NoPath refusal refl is same
+  list_goes parsed old new result (inr (is, same)) = Short is same
+
+-- ---- a list that is carried
+
+module _ {D : Type 0} (seen : D → List ℕ) (failures : D → ℕ) where
+  abbrev at : Desk D → Client × Wire D
+  at d = (d.caller.client, d.wire)
+
+  went_on : (call : Call) → is_look call ≡ true → (old mid : History D) (reply : Reply) → Went seen failures the_client old (requests.Call call) reply mid → Looks seen failures the_client old mid
+  went_on call look old mid (replies.Answer answer) r = record {
+    steps = StepComes (asks_at r.moment r.req (requests.Call call)) ∷ r.behind.steps;
+    runs = (r.asked, (Ok tt, r.happens), r.behind.runs);
+    within = (r.asks, r.behind.within);
+    looking = ((refl, (r.own, look)), r.behind.looking);
+  }
+  went_on call look old mid (replies.Given given) r = record {
+    steps = StepComes (asks_at r.moment r.req (requests.Call call)) ∷ r.behind.steps;
+    runs = (r.asked, (Ok tt, r.happens), r.behind.runs);
+    within = (r.asks, r.behind.within);
+    looking = ((refl, (r.own, look)), r.behind.looking);
+  }
+  went_on call look old mid (replies.Outcome outcome) looks = looks
+  went_on call look old mid (replies.Refused refusal) looks = looks
+  went_on call look old mid replies.Lost looks = looks
+
+  looks_both : (old mid new : History D) → Looks seen failures the_client old mid → Looks seen failures the_client mid new → Looks seen failures the_client old new
+  looks_both old mid new first second = record {
+    steps = first.steps ++ second.steps;
+    runs = joined seen failures true first.steps second.steps old mid new first.runs second.runs;
+    within = all_join IsStepWithin first.steps second.steps first.within second.within;
+    looking = all_join (IsLooking the_client) first.steps second.steps first.looking second.looking;
+  }
+
+  none_looked : (old new : History D) → new ≡ old → Looks seen failures the_client old new
+  none_looked old new same = record { steps = []; runs = same; within = tt; looking = tt }
+
+  -- the exchange, and what it comes to
+  record IsLookCarried (sent : Sent) (old new : Client × Wire D) (call : Call) (reply : Reply) : Type 0 where
+    after : Sent
+    covers : Covers after (way_of new.1)
+    moment : new.1.moment ≡ old.1.moment
+    mid : History D
+    went : Went seen failures the_client (history sent (way_of old.1)) (requests.Call call) reply mid
+    taken : Looks seen failures the_client mid (history after (way_of new.1))
+
+  look_carried : (config : Config) (sent : Sent) (old new : Client × Wire D) (call : Call) (reply : Reply) → is_look call ≡ true → MayBeAsked (requests.Call call) → IsClientOf config old.0 → Covers sent (way_of old.1) → IsNumber old.1.moment.0
+      → Carries_at seen failures old (requests.Call call) reply new → IsLookCarried sent old new call reply
+  look_carried config sent old new call reply look may ours covers small (inl (below, is, c)) =
+      let e : IsExchanged seen failures the_client (way_of old.1) sent (requests.Call call) reply (way_of new.1) =
+      subst (λ k. IsExchanged seen failures k (way_of old.1) sent (requests.Call call) reply (way_of new.1)) ours.0
+      (looks_are_carried seen failures sent (way_of old.1) (way_of new.1) (next_request old.0) (requests.Call call) reply covers small (next_small old.0.last.number below, may) (refl, (refl, look)) c) in
+      record { after = e.after; covers = e.covers; moment = e.moment; mid = e.mid; went = e.went; taken = e.taken }
+  look_carried config sent old new call reply look may ours covers small (inr (last, is, same)) = record {
+    after = sent;
+    covers = subst (λ (s : Client × Wire D). Covers sent (way_of s.1)) (sym same) covers;
+    moment = ap (λ (s : Client × Wire D). s.1.moment) same;
+    mid = history sent (way_of old.1);
+    went = subst (λ r. Went seen failures the_client (history sent (way_of old.1)) (requests.Call call) r (history sent (way_of old.1))) (sym is) (none_looked (history sent (way_of old.1)) (history sent (way_of old.1)) refl);
+    taken = none_looked (history sent (way_of old.1)) (history sent (way_of new.1)) (ap (λ (s : Client × Wire D). history sent (way_of s.1)) same);
+  }
+
+  -- ---- a line
+
+  module _ (config : Config) (size block : ℕ) (old new : Desk D) (m : Machine) (st : Stands seen config old m) where
+    -- it is explained, and the desk stands for the machine to which it leads
+    record Goes (request : Request) (text : List ℕ) : Type 0 where
+      next : Machine
+      answer : Result Answer Refusal
+      leads : Leads size block request m answer next
+      is : IsText answer text
+      stands : Stands seen config new next
+      phase : next.phase ≡ m.phase
+
+    stands_on : (after : Sent) → Covers after (way_of new.wire) → IsNumber new.wire.moment.0 → IsClientOf config new.caller.client → Looks seen failures the_client (history st.sent (way_of old.wire)) (history after (way_of new.wire)) → (next : Machine) → ShowsNames st.durable next → Stands seen config new next
+    stands_on after covers small ours looks next shows = record {
+      sent = after;
+      covers = covers;
+      moment = small;
+      ours = ours;
+      durable = st.durable;
+      number = st.number;
+      rests = undisturbed_on seen failures st.durable st.number looks.steps (history st.sent (way_of old.wire)) (history after (way_of new.wire)) looks.runs looks.within looks.looking st.rests;
+      shows = shows;
+    }
+
+    -- nothing happens
+    stands_still : at new ≡ at old → Stands seen config new m
+    stands_still same = stands_on st.sent (subst (λ (s : Client × Wire D). Covers st.sent (way_of s.1)) (sym same) st.covers) (subst (λ (s : Client × Wire D). IsNumber s.1.moment.0) (sym same) st.moment)
+        (subst (λ (s : Client × Wire D). IsClientOf config s.0) (sym same) st.ours) (none_looked (history st.sent (way_of old.wire)) (history st.sent (way_of new.wire)) (ap (λ (s : Client × Wire D). history st.sent (way_of s.1)) same)) m st.shows
+
+    abbrev Tree : Result Path Refusal → Result Answer Refusal → Type 0
+    Tree parsed answer = AsksTree size (plainly.on parsed calls.List) m answer m
+
+    -- where a refusal is told, it is the store's
+    of_store : (text : List ℕ) (refusal : Refusal) → IsRefusedByStoreAlone text → text ≡ answer_text (Err refusal) → (other : Refusal) × (text ≡ answer_text (Err other)) × IsOfStore other
+    of_store text refusal (inl accepted) is = refused_never refusal text is accepted
+    of_store text refusal (inr store) is = store
+
+    -- memory is wanting for the text
+    is_short : (answer : Result Answer Refusal) (text : List ℕ) → answer ≡ Err refusals.Memory → IsText answer text → text ≡ memory_text
+    is_short answer text is (inl said) = said ∙ ap answer_text is
+    is_short answer text is (inr short) = short
+
+    short_text : (parsed : Result Path Refusal) (text : List ℕ) → text ≡ memory_text → (answer : Result Answer Refusal) × Tree parsed answer × IsText answer text
+    short_text (Ok path) text short = (Err refusals.Memory, list_off size m path refusals.Memory refl, inr short)
+    short_text (Err refusal) text short = (Err refusal, (refl, refl), inr short)
+
+    no_path : (parsed : Result Path Refusal) (refusal : Refusal) → parsed ≡ Err refusal → Tree parsed (Err refusal)
+    no_path parsed refusal is = subst (λ r. Tree r (Err refusal)) (sym is) (refl, refl)
+
+    on_path : (parsed : Result Path Refusal) (path : Path) (answer : Result Answer Refusal) → parsed ≡ Ok path → Tree (Ok path) answer → Tree parsed answer
+    on_path parsed path answer is tree = subst (λ r. Tree r answer) (sym is) tree
+
+    told_text : (parsed : Result Path Refusal) (path : Path) (reply : Reply) (text : List ℕ) → parsed ≡ Ok path → IsRefusedByStoreAlone text → (c : IsLookCarried st.sent (at old) (at new) (calls.List path) reply) → (r : Result (List ListedName) Refusal) → and_then names_in (looked reply) ≡ r
+        → IsText (answered answers.Names r) text → (answer : Result Answer Refusal) × Tree parsed answer × IsText answer text
+    told_text parsed path reply text is store c (Ok names) said text_is =
+        let h : HasReply seen failures the_client (history st.sent (way_of old.wire)) (requests.Call (calls.List path)) (replies.Answer (says.Names names)) c.mid =
+        subst (λ r. Went seen failures the_client (history st.sent (way_of old.wire)) (requests.Call (calls.List path)) r c.mid) (names_said reply names said) c.went in (
+          Ok (answers.Names names),
+          on_path parsed path (Ok (answers.Names names)) is
+              (list_is size st.durable m path names st.shows (is_listed seen failures st.durable st.number (history st.sent (way_of old.wire)) c.mid path (says.Names names) st.rests h) (is_calm seen failures st.durable st.number (history st.sent (way_of old.wire)) c.mid path (says.Names names) st.rests h)
+              (is_shallow seen failures st.durable st.number (history st.sent (way_of old.wire)) c.mid path (says.Names names) st.rests h)),
+          text_is,
+        )
+    told_text parsed path reply text is store c (Err refusal) said (inl text_is) = let other = of_store text refusal store text_is in (Err other.0, on_path parsed path (Err other.0) is (list_off size m path other.0 other.2), inl other.1)
+    told_text parsed path reply text is store c (Err refusal) said (inr short) = short_text parsed text short
+
+    list_line : (p : List ℕ) (answer : Result Answer Refusal) (text : List ℕ) → IsRefusedByStoreAlone text → IsText answer text → ListGoes (Carries_at seen failures) (parse_hidden p) (at old) answer (at new) → Goes (lines.Ls p) text
+    list_line p answer text store text_is (Short is same) =
+        let said = short_text (parse_hidden p) text (is_short answer text is text_is) in record { next = m; answer = said.0; leads = said.1; is = said.2; stands = stands_still same; phase = refl }
+    list_line p answer text store text_is (NoPath refusal parsed is same) = record { next = m; answer = Err refusal; leads = no_path (parse_hidden p) refusal parsed; is = subst (λ a. IsText a text) is text_is; stands = stands_still same; phase = refl }
+    list_line p answer text store text_is (IsAsked path reply parsed carried is) =
+        let c = look_carried config st.sent (at old) (at new) (calls.List path) reply refl (record { named = tt; met = λ names. tt }) st.ours st.covers st.moment carried in
+        let said = told_text (parse_hidden p) path reply text parsed store c (and_then names_in (looked reply)) refl (subst (λ a. IsText a text) is text_is) in
+        record {
+          next = m;
+          answer = said.0;
+          leads = said.1;
+          is = said.2;
+          stands = stands_on c.after c.covers (subst (λ (moment : Moment). IsNumber moment.0) (sym c.moment) st.moment) (still_mine seen failures config (at old) (at new) (requests.Call (calls.List path)) reply st.ours carried)
+              (looks_both (history st.sent (way_of old.wire)) c.mid (history c.after (way_of new.wire)) (went_on (calls.List path) refl (history st.sent (way_of old.wire)) c.mid reply c.went) c.taken) m st.shows;
+          phase = refl;
+        }
+
+    -- ---- the phase
+
+    abbrev Query : Result Answer Refusal → Type 0
+    Query answer = AsksOne size calls.Query m answer m
+
+    told_phase_text : (reply : Reply) (text : List ℕ) → is_upgrading m.phase ≡ true → IsRefusedByStoreAlone text → (c : IsLookCarried st.sent (at old) (at new) calls.Query reply) → (r : Result (Phase × ℕ) Refusal) → and_then phase_in (looked reply) ≡ r → IsText (answered at_phase r) text
+        → (answer : Result Answer Refusal) × Query answer × IsText answer text
+    told_phase_text reply text upgrading store c (Ok (phase, epoch)) said text_is =
+        let h : HasReply seen failures the_client (history st.sent (way_of old.wire)) (requests.Call calls.Query) (replies.Answer (says.Phase phase epoch)) c.mid =
+        subst (λ r. Went seen failures the_client (history st.sent (way_of old.wire)) (requests.Call calls.Query) r c.mid) (phase_said reply phase epoch said) c.went in
+        let told = is_told seen failures st.durable st.number (history st.sent (way_of old.wire)) c.mid (says.Phase phase epoch) st.rests h (not_ordinary st.durable.phase (ap is_upgrading (sym st.shows.phase) ∙ upgrading)) in
+        (Ok (answers.Phase phase epoch), query_is size m phase epoch (phase_is told ∙ sym st.shows.phase) (epoch_is told ∙ sym st.shows.epoch), text_is)
+      where
+        phase_is : {a b : Phase} {j k : ℕ} → says.Phase a j ≡ says.Phase b k → a ≡ b
+        phase_is e = cc
+
+        epoch_is : {a b : Phase} {j k : ℕ} → says.Phase a j ≡ says.Phase b k → j ≡ k
+        epoch_is e = cc
+    told_phase_text reply text upgrading store c (Err refusal) said (inl text_is) = let other = of_store text refusal store text_is in (Err other.0, query_off size m other.0 other.2, inl other.1)
+    told_phase_text reply text upgrading store c (Err refusal) said (inr short) = (Err refusals.Memory, query_off size m refusals.Memory refl, inr short)
+
+    query_line : (answer : Result Answer Refusal) (text : List ℕ) → is_upgrading m.phase ≡ true → IsRefusedByStoreAlone text → IsText answer text → QueryGoes (Carries_at seen failures) (at old) answer (at new) → Goes (lines.RollingUpgrade upgrades.Query) text
+    query_line answer text upgrading store text_is q =
+        let c = look_carried config st.sent (at old) (at new) calls.Query q.reply refl (record { named = tt; met = λ names. tt }) st.ours st.covers st.moment q.asks in
+        let said = told_phase_text q.reply text upgrading store c (and_then phase_in (looked q.reply)) refl (subst (λ a. IsText a text) q.is text_is) in
+        record {
+          next = m;
+          answer = said.0;
+          leads = said.1;
+          is = said.2;
+          stands = stands_on c.after c.covers (subst (λ (moment : Moment). IsNumber moment.0) (sym c.moment) st.moment) (still_mine seen failures config (at old) (at new) (requests.Call calls.Query) q.reply st.ours q.asks)
+              (looks_both (history st.sent (way_of old.wire)) c.mid (history c.after (way_of new.wire)) (went_on calls.Query refl (history st.sent (way_of old.wire)) c.mid q.reply c.went) c.taken) m st.shows;
+          phase = refl;
+        }
+
+    -- ---- a line about servers and messages
+
+    abbrev Did : Request → Result Answer Refusal → Type 0
+    Did request answer = (new.caller.client ≡ old.caller.client) × NodesDo seen failures request (way_of old.wire) answer (way_of new.wire)
+
+    node_line : (request : Request) (answer : Result Answer Refusal) (text : List ℕ) (next : Machine) → is_still_line (Some request) ≡ true → IsSpoken request → IsText answer text → Leads size block request m answer next → ShowsNames st.durable next → next.phase ≡ m.phase → Did request answer → Goes request text
+    node_line request answer text next is spoken text_is leads shows same_phase (same, did) =
+        let l : LooksOn seen failures the_client (way_of old.wire) (way_of new.wire) st.sent = nodes_do seen failures the_client request (way_of old.wire) answer (way_of new.wire) is spoken did st.sent st.covers st.moment in
+        record {
+          next = next;
+          answer = answer;
+          leads = leads;
+          is = text_is;
+          stands = stands_on l.after l.covers l.moment (subst (IsClientOf config) (sym same) st.ours) (record { steps = l.steps; runs = l.runs; within = l.within; looking = l.looking }) next shows;
+          phase = same_phase;
+        }
+
+    is_set : (moment : ℕ) (answer : Result Answer Refusal) → Did (lines.At moment) answer → answer ≡ Ok answers.Done
+    is_set moment answer (same, (is, there)) = is
+
+    shows_then : (moment : ℕ) → ShowsNames st.durable (record m { moment = moment })
+    shows_then moment = record { text = st.shows.text; tree = st.shows.tree; epoch = st.shows.epoch; phase = st.shows.phase }
+
+    -- ---- any such line
+
+    request_goes : (request : Request) (answer : Result Answer Refusal) (text : List ℕ) → is_still_line (Some request) ≡ true → IsSpoken request → (is_name_look (Some request) ≡ true → IsRefusedByStoreAlone text) → (is_query (Some request) ≡ true → is_upgrading m.phase ≡ true) → Comes seen failures request old answer new → IsText answer text → Goes request text
+    unfolding Comes
+    request_goes (lines.Ls p) answer text is spoken store query comes text_is = list_line p answer text (store refl) text_is (list_goes (Carries_at seen failures) (parse_hidden p) (at old) (at new) answer comes)
+    request_goes (lines.At moment) answer text is spoken store query comes text_is = node_line (lines.At moment) answer text (record m { moment = moment }) is spoken text_is (m, ([], refl), is_set moment answer comes, refl) (shows_then moment) refl comes
+    request_goes (lines.Hold kind) answer text is spoken store query comes text_is = node_line (lines.Hold kind) answer text m is spoken text_is ([], refl) st.shows refl comes
+    request_goes (lines.Beat server) answer text is spoken store query comes text_is = node_line (lines.Beat server) answer text m is spoken text_is ([], refl) st.shows refl comes
+    request_goes (lines.Restart (restarted.Server number)) answer text is spoken store query comes text_is = node_line (lines.Restart (restarted.Server number)) answer text m is spoken text_is ([], refl) st.shows refl comes
+    request_goes (lines.Restart restarted.Master) answer text is spoken store query comes text_is = absurd (false≢true is)
+    request_goes (lines.Lose server handle) answer text is spoken store query comes text_is = node_line (lines.Lose server handle) answer text m is spoken text_is ([], refl) st.shows refl comes
+    request_goes (lines.Damage server handle index) answer text is spoken store query comes text_is = node_line (lines.Damage server handle index) answer text m is spoken text_is ([], refl) st.shows refl comes
+    request_goes (lines.Deliver number) answer text is spoken store query comes text_is = node_line (lines.Deliver number) answer text m is spoken text_is ([], refl) st.shows refl comes
+    request_goes (lines.Mkdir p) answer text is spoken store query comes text_is = absurd (false≢true is)
+    request_goes (lines.Create p) answer text is spoken store query comes text_is = absurd (false≢true is)
+    request_goes (lines.Stat p) answer text is spoken store query comes text_is = absurd (false≢true is)
+    request_goes (lines.Mv p q) answer text is spoken store query comes text_is = absurd (false≢true is)
+    request_goes (lines.Rm p recursive) answer text is spoken store query comes text_is = absurd (false≢true is)
+    request_goes (lines.Undelete p) answer text is spoken store query comes text_is = absurd (false≢true is)
+    request_goes (lines.Snapshot p q) answer text is spoken store query comes text_is = absurd (false≢true is)
+    request_goes (lines.Write p offset bytes) answer text is spoken store query comes text_is = absurd (false≢true is)
+    request_goes (lines.Append p bytes) answer text is spoken store query comes text_is = absurd (false≢true is)
+    request_goes (lines.Read p offset many) answer text is spoken store query comes text_is = absurd (false≢true is)
+    request_goes (lines.Digest p chunk index) answer text is spoken store query comes text_is = absurd (false≢true is)
+    request_goes lines.Scan answer text is spoken store query comes text_is = absurd (false≢true is)
+    request_goes lines.Replicate answer text is spoken store query comes text_is = absurd (false≢true is)
+    request_goes (lines.RollingUpgrade upgrades.Query) answer text is spoken store query comes text_is = query_line answer text (query refl) (store refl) text_is (query_goes (Carries_at seen failures) (at old) (at new) answer comes)
+    request_goes (lines.RollingUpgrade upgrades.Prepare) answer text is spoken store query comes text_is = absurd (false≢true is)
+    request_goes (lines.RollingUpgrade upgrades.Finalize) answer text is spoken store query comes text_is = absurd (false≢true is)
+    request_goes (lines.RollingUpgrade upgrades.Rollback) answer text is spoken store query comes text_is = absurd (false≢true is)
+    request_goes (lines.Step step) answer text is spoken store query comes text_is = absurd (false≢true is)
+
+    -- ---- a line with its end
+
+    abbrev LineGoes : List ℕ → List ℕ → Type 0
+    LineGoes whole text = (next : Machine) × AnswersLine (Explains size block) m whole text next × Stands seen config new next × (next.phase ≡ m.phase)
+
+    abbrev Given : Option Request → List ℕ → Type 0
+    Given o text = (is_still_line o ≡ true) × (is_name_look o ≡ true → IsRefusedByStoreAlone text) × (is_query o ≡ true → is_upgrading m.phase ≡ true)
+
+    by_request : (line text : List ℕ) (o : Option Request) → line_request line ≡ o → Given o text
+        → MatchOption o (IsText (Err refusals.BadLine) text × (new ≡ old)) (λ request. (answer : Result Answer Refusal) × Comes seen failures request old answer new × IsText answer text)
+        → (next : Machine) × MatchOption o (IsText (Err refusals.BadLine) text × (next ≡ m)) (λ request. (answer : Result Answer Refusal) × Leads size block request m answer next × IsText answer text) × Stands seen config new next × (next.phase ≡ m.phase)
+    by_request line text None read given (bad, same) = (m, (bad, refl), stands_still (ap at same), refl)
+    by_request line text (Some request) read given (answer, comes, text_is) =
+        let g = request_goes request answer text given.0 (line_spoken line request read) given.1 given.2 comes text_is in (g.next, (g.answer, g.leads, g.is), g.stands, g.phase)
+
+    abbrev Either : Bool → List ℕ → List ℕ → Type 0
+    Either short line text = ((text ≡ memory_text) × (new ≡ old)) ⊎ ((next : Machine) × AnswersIfShort (Explains size block) short m line text next × Stands seen config new next × (next.phase ≡ m.phase))
+
+    short_line : (line text : List ℕ) → Given (line_request line) text → AnswersText seen failures old line text new → Either true line text
+    unfolding AnswersText
+    short_line line text given (inl none) = inl none
+    short_line line text given (inr came) = inr (by_request line text (line_request line) refl given came)
+
+    whole_line : (line text : List ℕ) (short : Bool) → Given (if short then line_request line else None) text → AnswersIfShort (AnswersText seen failures) short old line text new → Either short line text
+    whole_line line text true given a = short_line line text given a
+    whole_line line text false given (bad, same) = inr (m, (bad, refl), stands_still (ap at same), refl)
+
+    pub line_goes : (whole text : List ℕ) → IsStillLine m.phase whole text → AnswersLine (AnswersText seen failures) old whole text new → LineGoes whole text
+    line_goes whole text still (inl (short, same)) = (m, inl (short, refl), stands_still (ap at same), refl)
+    line_goes whole text still (inr a) = elim (whole_line (content whole) text (nat_le (length (content whole)) longest_line) still a) [
+      | inl (short, same) ↦ (m, inl (short, refl), stands_still (ap at same), refl)
+      | inr (next, explains, stands, phase) ↦ (next, inr explains, stands, phase)
+    ]
+
+  -- ---- many of them
+
+  pub lines_go : (config : Config) (size block : ℕ) (all texts : List (List ℕ)) (old new : Desk D) (m : Machine) → Stands seen config old m → AreStillLines m.phase all texts → Runs (AnswersText seen failures) old all texts new → (end : Machine) × Runs (Explains size block) m all texts end × Stands seen config new end
+  lines_go config size block [] [] old new m st are same = (m, refl, subst (λ d. Stands seen config d m) (sym same) st)
+  lines_go config size block (whole ∷ all) (text ∷ texts) old new m st are (mid, one, rest) =
+      let first = line_goes config size block old mid m st whole text are.0 one in
+      let more = lines_go config size block all texts mid new first.0 first.2 (subst (λ phase. AreStillLines phase all texts) (sym first.3) are.1) rest in (more.0, (first.0, first.1, more.1), more.2)
+  lines_go config size block [] (text ∷ texts) old new m st are never = absurd never
+  lines_go config size block (whole ∷ all) [] old new m st are never = absurd never
+
+pub still_lines_are_explained : {D : Type 0} → StillLinesAreExplained D
+still_lines_are_explained seen failures config size block old new all texts m st are runs = lines_go seen failures config size block all texts old new m st are runs

@@ -1,0 +1,92 @@
+-- What a script is answered right after a prepare or a rollback that is accepted, while its lines ask for nothing that changes something.
+use Rattle.std.proofs.Common.{inl}
+use Rattle.std.specs.Prelude.{[], ◌++◌, ◌∷◌, ◌≡◌, ◌⊎◌, List, Option, Some, codes, decimal, length, refl, true, ℕ}
+use Rattle.std.specs.Char.{encode_utf8}
+use Rattle.std.specs.Fmt.{digits}
+use Rattle.std.specs.Str.{chars, is_utf8}
+use Rattle.gs_base.specs.declared.config.Config.{Config}
+use Rattle.gs_journal.specs.Records.{fresh, standing}
+use Rattle.gs_msg.specs.declared.answer.Phase.TheVariants as phases
+use Rattle.gs_shell.specs.Serving.{Serves, StopsServing}
+use Rattle.gs_shell_grammar.specs.Grammar.{Request, lose_line, number_line, three_words, two_words, upgrade_line}
+use Rattle.gs_shell_grammar.specs.Grammar as lines
+use Rattle.gs_shell_grammar.specs.declared.command.Upgrade.TheVariants as upgrades
+use Rattle.gs_shell_script.specs.Run.{Runs, lines_of}
+use Rattle.gs_shell_script.specs.declared.RunFault.TheVariants as fault
+use Rattle.gs_laws_scripts.specs.explained.Lines.{Explains}
+use Rattle.gs_laws_scripts.specs.explained.Machine.{Machine}
+use Rattle.gs_laws_scripts.specs.explained.Standing.{AreStillLines}
+use Rattle.gs_laws_scripts.specs.lists.Lines.{commits_prepare, commits_rollback}
+use Rattle.gs_laws_scripts.specs.lists.Scripts.{AsksFor}
+
+-- Of the lines of a script, and of their answers: after any lines a prepare, or a rollback, is answered by an epoch. Right after it come lines that leave what stands.
+pub record HasStillLines (all texts : List (List ℕ)) : Type 0 where
+  pub before : List (List ℕ)
+  pub commit : List ℕ
+  pub still : List (List ℕ)
+  pub later : List (List ℕ)
+  pub lines_are : all ≡ before ++ commit ∷ (still ++ later)
+  pub texts_before : List (List ℕ)
+  pub epoch : ℕ
+  pub texts_still : List (List ℕ)
+  pub texts_later : List (List ℕ)
+  pub texts_are : texts ≡ texts_before ++ (codes "ok " ++ decimal epoch) ∷ (texts_still ++ texts_later)
+  pub long_before : length texts_before ≡ length before
+  pub long_still : length texts_still ≡ length still
+  pub by : Request
+  pub commits : (commits_prepare by ≡ true) ⊎ (commits_rollback by ≡ true)
+  pub asks : AsksFor by commit
+  pub are : AreStillLines phases.Ordinary still texts_still
+
+-- ---- what is to hold
+
+-- such lines are explained, each with its answer, from some machine on
+abbrev pub AreExplainedFromSome : (size block : ℕ) → List (List ℕ) → List (List ℕ) → Type 0
+AreExplainedFromSome size block all texts = (m : Machine) × (end : Machine) × Runs (Explains size block) m all texts end
+
+abbrev pub StillLinesAfter : (size block : ℕ) → List (List ℕ) → List (List ℕ) → Type 0
+StillLinesAfter size block all texts = (q : HasStillLines all texts) → AreExplainedFromSome size block q.still q.texts_still
+
+-- So it is of each script over empty disks: whatever lines come before and later, whatever is held back, and whatever disks fail.
+abbrev pub ScriptsAfterACommit : Type 0 → Type 0
+ScriptsAfterACommit D = (seen : D → List ℕ) (failures : D → ℕ) (config : Config) (disks : D × D) (input : List ℕ) (old new : Option (List ℕ)) (s : Serves seen failures config disks input old new) → standing (seen disks.0) (seen disks.1) ≡ fresh
+    → StillLinesAfter config.chunk config.block (lines_of input) s.writes.texts
+
+-- So it is where a read of the script fails, in those of its lines that were read and answered before.
+abbrev pub AfterACommitUntilAReadFails : Type 0 → Type 0
+AfterACommitUntilAReadFails D = (seen : D → List ℕ) (failures : D → ℕ) (config : Config) (disks : D × D) (input : List ℕ) (left old new : Option (List ℕ)) (s : StopsServing seen failures config disks fault.Read (Some input) left old new)
+    → standing (seen disks.0) (seen disks.1) ≡ fresh → StillLinesAfter config.chunk config.block s.fails.lines s.fails.written.texts
+
+-- And where a write of an answer fails, in the lines whose answers were written before, and in these with the line of that answer.
+abbrev pub AfterACommitUntilAWriteFails : Type 0 → Type 0
+AfterACommitUntilAWriteFails D = (seen : D → List ℕ) (failures : D → ℕ) (config : Config) (disks : D × D) (input : List ℕ) (left old new : Option (List ℕ)) (s : StopsServing seen failures config disks fault.Write (Some input) left old new)
+    → standing (seen disks.0) (seen disks.1) ≡ fresh
+    → StillLinesAfter config.chunk config.block s.fails.lines s.fails.written.texts × StillLinesAfter config.chunk config.block (s.fails.lines ++ s.fails.line ∷ []) (s.fails.written.texts ++ s.fails.text ∷ [])
+
+-- ---- Worked: after a prepare two lists come, and between them a replica is lost and a server reports
+abbrev some_lines : List (List ℕ)
+some_lines = codes "append /f 00" ∷ codes "rollingUpgrade prepare" ∷ codes "ls /" ∷ codes "lose 1 2" ∷ codes "beat 1" ∷ codes "ls /" ∷ codes "rm /f" ∷ []
+
+abbrev some_texts : List ℕ → List ℕ → List (List ℕ)
+some_texts had said = had ∷ codes "ok 1" ∷ codes "ok f" ∷ codes "ok" ∷ codes "ok 0" ∷ codes "ok f" ∷ said ∷ []
+
+it_is_such_a_script : (had said : List ℕ) → HasStillLines some_lines (some_texts had said)
+unfolding two_words three_words upgrade_line number_line lose_line is_utf8 chars encode_utf8 digits
+it_is_such_a_script had said = record {
+  before = codes "append /f 00" ∷ [];
+  commit = codes "rollingUpgrade prepare";
+  still = codes "ls /" ∷ codes "lose 1 2" ∷ codes "beat 1" ∷ codes "ls /" ∷ [];
+  later = codes "rm /f" ∷ [];
+  lines_are = refl;
+  texts_before = had ∷ [];
+  epoch = 1;
+  texts_still = codes "ok f" ∷ codes "ok" ∷ codes "ok 0" ∷ codes "ok f" ∷ [];
+  texts_later = said ∷ [];
+  texts_are = refl;
+  long_before = refl;
+  long_still = refl;
+  by = lines.RollingUpgrade upgrades.Prepare;
+  commits = inl refl;
+  asks = refl;
+  are = ((refl, (λ look. inl refl), (λ query. query)), ((refl, (λ look. inl refl), (λ query. query)), ((refl, (λ look. inl refl), (λ query. query)), ((refl, (λ look. inl refl), (λ query. query)), tt))));
+}
