@@ -20,6 +20,7 @@ def words_of() -> ArgumentParser:
     parser = Words(prog="chunkfs", description="A client of a store that is kept in a file.", epilog="docs/CHUNKFS.md is its page.")
     for name, size in vars(Sizes()).items():
         parser.add_argument(f"--{name}", type=int, metavar="N", help=f"of a new store, {size} where it isn't given")
+    parser.add_argument("--lab", action="store_true", help="a shell's lines may harm the store too")
     parser.add_argument("store", type=Path, metavar="STORE", help="the file in which the store is kept; --memory for a new one without a file")
     add_commands(parser, (*COMMANDS, SHELL), "./chunkfs STORE ")
     return parser
@@ -36,7 +37,7 @@ def main(words: list[str]) -> int:
         with local(None):
             if file and not asked.makes and not file.exists():
                 raise Failed(f"{file}: no store stands there; put, append, mkdir, import and shell make one")
-            with Session(file, given) as session:
+            with Session(file, given, is_lab=asked.lab) as session:
                 session.set_moment()
                 return attempt(session, lambda: asked.run(session, asked))
     except BrokenPipeError:

@@ -88,14 +88,15 @@ def next_piece(unsent: bytes) -> bytes:
 class Session:
     """A program that is asked lines, many of them before their answers come, so that its log is synced seldom."""
 
-    def __init__(self, file: Path | None, given: dict[str, int], is_recorded: bool = True):
-        """Starts the program that keeps a store in a file, or the one that needs none, with the sizes that are given for a new one."""
+    def __init__(self, file: Path | None, given: dict[str, int], is_recorded: bool = True, is_lab: bool = False):
+        """Starts the program that keeps a store in a file, or the one that needs none, with the sizes that are given for a new one. In a lab
+        lines that harm a store are answered too. One without a file answers them always."""
         self.file, self.sizes = file, sizes_of(file, given)
         # The lines of a store that has no file, by which it can be run again.
         self.recorded: deque[str] = deque(maxlen=None if is_recorded and not file else 0)
         self.said = tempfile.TemporaryFile()
         words = [launch.program_of("chunkkeep").path, file] if file else [launch.program_of("chunkstore").path]
-        words += [str(word) for name, size in given.items() for word in (f"--{name}", size)]
+        words += [str(word) for name, size in given.items() for word in (f"--{name}", size)] + ["--lab"] * bool(file and is_lab)
         how = {"stdin": subprocess.PIPE, "stdout": subprocess.PIPE, "stderr": self.said, "bufsize": 0, "pipesize": PIPE_BYTES}
         # What is typed at a terminal is for the client, which ends the program itself.
         self.program = subprocess.Popen(words, preexec_fn=lambda: signal.signal(signal.SIGINT, signal.SIG_IGN), **how)
@@ -181,9 +182,9 @@ class Session:
         part = os.read(self.program.stdout.fileno(), PIPE_BYTES)
         if not part:
             raise self.ended()
-        # What a start has cut off its log is told.
+        # What a start has put aside and cut off its log is told.
         for line in self.last_said() if not self.is_heard else ():
-            if line.endswith(" cut off"):
+            if line.endswith(" cut off") or " put aside in " in line:
                 warn(line)
         self.is_heard = True
         self.unread += part
