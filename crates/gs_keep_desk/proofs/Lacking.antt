@@ -5,9 +5,7 @@ use Rattle.gs_shell_script.specs.Run.{memory_text}
 use Rattle.gs_shell_desk.specs.Answering.{AnswersText}
 use Rattle.gs_shell_desk.specs.declared.desk.Desk.{Desk}
 use Rattle.gs_keep_desk.specs.Keeps.{MayAnswer}
-use Rattle.gs_keep_desk.specs.Looks.{LooksAt, LooksIf, looks}
 use Rattle.gs_keep_desk.specs.declared.KeptDesk.{KeptDesk}
-use Rattle.gs_keep_desk.specs.declared.looking.LookingDesk.{LookingDesk}
 
 same_lacking : (asked : Option Request) (none none' : Type 0) (some some' : Request → Type 0) → (none → none') → ((r : Request) → some r → some' r) → MatchOption asked none some → MatchOption asked none' some'
 same_lacking None none none' some some' f g h = f h
@@ -27,13 +25,3 @@ module _ {D A E : Type 0} (bytes : A → List ℕ) (seen : D → List ℕ) (fail
   pub kept_lacks : (old new : KeptDesk D) (r : Result A E) → new.is_lab ≡ old.is_lab → IfOk r (λ t. AnswersText seen failures old.desk line (bytes t) new.desk)
       → OnErr r (AnswersText seen failures old.desk line memory_text new.desk) → MayAnswer seen failures old line memory_text new
   kept_lacks old new r lab ok err = inl (lab, lacks old.desk new.desk r ok err)
-
-  pub kept_answers : (old new : KeptDesk D) (r : Result A E) → new.is_lab ≡ old.is_lab → IfOk r (λ t. AnswersText seen failures old.desk line (bytes t) new.desk)
-      → IfOk r (λ t. MayAnswer seen failures old line (bytes t) new)
-  kept_answers old new (Ok t) lab ok = inl (lab, ok)
-  kept_answers old new (Err e) lab ok = tt
-
-  pub kept_untold : (old new : KeptDesk D) (r : Result A E) → new.is_lab ≡ old.is_lab → OnErr r (AnswersText seen failures old.desk line memory_text new.desk)
-      → OnErr r (MayAnswer seen failures old line memory_text new)
-  kept_untold old new (Ok t) lab err = tt
-  kept_untold old new (Err e) lab err = inl (lab, err)

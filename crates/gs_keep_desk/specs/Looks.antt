@@ -1,28 +1,29 @@
 -- What lines may do to a store.
-use Rattle.std.specs.Prelude.{◌≡◌, ◌×◌, ◌⊎◌, ◌∷◌, ℕ, List, [], Bool, true, false, codes, Option, None, Some, MatchOption, refl}
-use Rattle.gs_shell_grammar.specs.Grammar.{Request, Append, At, Beat, Create, Damage, Deliver, Digest, Hold, Lose, Ls, Mkdir, Mv, Read, Replicate, Restart, Rm, RollingUpgrade, Scan, Snapshot, Stat, Step, Undelete, Write, line_request}
-use Rattle.gs_shell_grammar.specs.declared.command.Upgrade.TheVariants.{Query, Prepare, Finalize, Rollback}
+use Rattle.std.specs.Prelude.{◌≡◌, ◌⊎◌, ℕ, List, Bool, true, false, codes, Option, None, Some, MatchOption}
+use Rattle.gs_shell_grammar.specs.Grammar.{Request, line_request}
+use Rattle.gs_shell_grammar.specs.Grammar as lines
+use Rattle.gs_shell_grammar.specs.declared.command.Upgrade.TheVariants as upgrades
 use Rattle.gs_shell_script.specs.Run.{memory_text}
 use Rattle.gs_shell_desk.specs.Answering.{AnswersText}
 use Rattle.gs_keep_desk.specs.declared.looking.LookingDesk.{LookingDesk}
 
 -- what is asked for changes nothing that a store keeps
 abbrev pub looks : Request → Bool
-looks (Ls path) = true
-looks (Stat path) = true
-looks (Read path offset many) = true
-looks (Digest path chunk block) = true
-looks (RollingUpgrade Query) = true
-looks _ = false
+looks (lines.Ls path) = true
+looks (lines.Stat path) = true
+looks (lines.Read path offset many) = true
+looks (lines.Digest path chunk block) = true
+looks (lines.RollingUpgrade upgrades.Query) = true
+looks other = false
 
 -- a store is harmed, as a trial harms it
 abbrev pub harms : Request → Bool
-harms (Lose server handle) = true
-harms (Damage server handle block) = true
-harms (Hold kind) = true
-harms (Deliver number) = true
-harms (Restart node) = true
-harms _ = false
+harms (lines.Lose server handle) = true
+harms (lines.Damage server handle block) = true
+harms (lines.Hold kind) = true
+harms (lines.Deliver number) = true
+harms (lines.Restart node) = true
+harms other = false
 
 -- a line without its end asks for that
 abbrev pub asks : (Request → Bool) → Option Request → Bool
