@@ -45,8 +45,8 @@ pub fn scripts_of_the_tree_are_explained<D>()
     ensures write_fails { (seen : D → List ℕ) (failures : D → ℕ) (config : Config) (disks : D × D) → AreExplainedUntilAWriteFails seen failures config disks }
 {}
 
-/// While nothing is asked that changes something the machine explains what a desk answers, and it stands for the machine after each line: to `ls`, `at`, `hold`, `beat`, `lose`, `damage`, `deliver`, `restart` of a server, and to lines that are none.
-/// The store may have any files with any bytes, led chunks, held messages, lost and damaged replicas, and disks that fail. A list may be refused by the store, and is else what the machine lists; of other refusals of it nothing is said here.
+/// While nothing is asked that changes something the machine explains what a desk answers, and it stands for the machine after each line: to `ls`, `rollingUpgrade query`, `at`, `hold`, `beat`, `lose`, `damage`, `deliver`, `restart` of a server, and to lines that are none.
+/// The store may have any files with any bytes, led chunks, held messages, lost and damaged replicas, and disks that fail. A list and a query may be refused by the store, and are else what the machine tells. Of other refusals nothing is said here, and of a query that tells a prepare that is begun.
 fn still_lines_are_explained<D>()
     ensures { StillLinesAreExplained D }
 {}
@@ -58,8 +58,8 @@ fn a_desk_stands_after_a_commit<D>()
     configurations_have_sizes();
 }
 
-/// Right after a prepare or a rollback that is answered by an epoch, one machine explains what a script is answered: as long as its lines are `ls`, `at`, `hold`, `beat`, `lose`, `damage`, `deliver` and `restart` of a server, or bad, and the store alone refuses a list.
-/// So all lists of these lines are of the same names. Whatever lines come before, with held messages, lost and damaged replicas, and disks that fail: of what they left nothing is known but the names.
+/// Right after a prepare or a rollback that is answered by an epoch, one machine explains what a script is answered: as long as its lines are `ls`, `rollingUpgrade query`, `at`, `hold`, `beat`, `lose`, `damage`, `deliver` and `restart` of a server, or bad, the store alone refuses a list or a query, and no query tells a prepare that is begun.
+/// So all lists of these lines are of the same names, and all queries tell the same phase and epoch. Whatever lines come before, with held messages, lost and damaged replicas, and disks that fail: of what they left nothing is known but the names.
 pub fn lines_after_a_commit_are_explained<D>()
     ensures ended { ScriptsAfterACommit D }
     ensures read_fails { AfterACommitUntilAReadFails D }

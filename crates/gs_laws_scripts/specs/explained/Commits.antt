@@ -6,7 +6,6 @@ use Rattle.std.specs.Fmt.{digits}
 use Rattle.std.specs.Str.{chars, is_utf8}
 use Rattle.gs_base.specs.declared.config.Config.{Config}
 use Rattle.gs_journal.specs.Records.{fresh, standing}
-use Rattle.gs_msg.specs.declared.answer.Phase.TheVariants as phases
 use Rattle.gs_shell.specs.Serving.{Serves, StopsServing}
 use Rattle.gs_shell_grammar.specs.Grammar.{Request, lose_line, number_line, three_words, two_words, upgrade_line}
 use Rattle.gs_shell_grammar.specs.Grammar as lines
@@ -36,7 +35,7 @@ pub record HasStillLines (all texts : List (List ℕ)) : Type 0 where
   pub by : Request
   pub commits : (commits_prepare by ≡ true) ⊎ (commits_rollback by ≡ true)
   pub asks : AsksFor by commit
-  pub are : AreStillLines phases.Ordinary still texts_still
+  pub are : AreStillLines still texts_still
 
 -- ---- what is to hold
 
@@ -88,5 +87,5 @@ it_is_such_a_script had said = record {
   by = lines.RollingUpgrade upgrades.Prepare;
   commits = inl refl;
   asks = refl;
-  are = ((refl, (λ look. inl refl), (λ query. query)), ((refl, (λ look. inl refl), (λ query. query)), ((refl, (λ look. inl refl), (λ query. query)), ((refl, (λ look. inl refl), (λ query. query)), tt))));
+  are = ((refl, (λ look. inl refl), (λ query. absurd (cc))), ((refl, (λ look. inl refl), (λ query. absurd (cc))), ((refl, (λ look. inl refl), (λ query. absurd (cc))), ((refl, (λ look. inl refl), (λ query. absurd (cc))), tt))));
 }

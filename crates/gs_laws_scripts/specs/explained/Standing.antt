@@ -1,6 +1,6 @@
 -- What holds between two lines while nothing is asked that changes something, of the names and the phase alone; and lines that only look at these, or are about nodes.
-use Rattle.std.proofs.Common.{inl, inr}
-use Rattle.std.specs.Prelude.{[], ◌∷◌, ◌≡◌, ◌⊎◌, Bool, Err, List, None, Ok, Option, Some, codes, false, refl, true, ℕ}
+use Rattle.std.proofs.Common.{ap, arith, inl, inr}
+use Rattle.std.specs.Prelude.{[], ◌∷◌, ◌≡◌, ◌≢◌, ◌⊎◌, Bool, Err, List, None, Ok, Option, Some, codes, false, get_or, refl, true, ℕ}
 use Rattle.std.specs.Char.{encode_utf8}
 use Rattle.std.specs.FinMap as fin
 use Rattle.std.specs.Fmt.{digits}
@@ -14,7 +14,6 @@ use Rattle.gs_edit.specs.Mapped.{mapped_rows}
 use Rattle.gs_journal.specs.Records.{fresh, standing}
 use Rattle.gs_master_spec.specs.Durable.{Durable}
 use Rattle.gs_master_spec.specs.Calls.{told_phase}
-use Rattle.gs_msg.specs.declared.answer.Phase.{Phase}
 use Rattle.gs_msg.specs.declared.answer.Phase.TheVariants as phases
 use Rattle.gs_shell_calls.specs.Texts.{answer_text}
 use Rattle.gs_shell_calls.specs.declared.answer.Answer.TheVariants as answers
@@ -104,26 +103,24 @@ is_still_line asked = false
 abbrev pub IsRefusedByStoreAlone : List ℕ → Type 0
 IsRefusedByStoreAlone text = IsAccepted text ⊎ ((refusal : Refusal) × (text ≡ answer_text (Err refusal)) × IsOfStore refusal)
 
--- an upgrade stands, or is rolled back
-abbrev pub is_upgrading : Phase → Bool
-is_upgrading phases.Upgrade = true
-is_upgrading phases.Rolling = true
-is_upgrading phase = false
+-- it doesn't tell that a prepare is begun
+abbrev pub TellsNoPrepare : List ℕ → Type 0
+TellsNoPrepare text = (epoch : ℕ) → text ≢ answer_text (Ok (answers.Phase phases.Preparing epoch))
 
--- Such a line with its answer, in a phase: one that looks is refused by the store alone, and the phase is asked for only in an upgrade.
-abbrev pub IsStillLine : Phase → List ℕ → List ℕ → Type 0
-IsStillLine phase whole text = (is_still_line (asked_in whole) ≡ true) × (is_name_look (asked_in whole) ≡ true → IsRefusedByStoreAlone text) × (is_query (asked_in whole) ≡ true → is_upgrading phase ≡ true)
+-- Such a line with its answer: one that looks is refused by the store alone, and none is told that a prepare is begun.
+abbrev pub IsStillLine : List ℕ → List ℕ → Type 0
+IsStillLine whole text = (is_still_line (asked_in whole) ≡ true) × (is_name_look (asked_in whole) ≡ true → IsRefusedByStoreAlone text) × (is_query (asked_in whole) ≡ true → TellsNoPrepare text)
 
 -- all lines, with their answers
-abbrev pub AreStillLines : Phase → List (List ℕ) → List (List ℕ) → Type 0
-AreStillLines phase (whole ∷ all) (text ∷ texts) = IsStillLine phase whole text × AreStillLines phase all texts
-AreStillLines phase all texts = Unit {0}
+abbrev pub AreStillLines : List (List ℕ) → List (List ℕ) → Type 0
+AreStillLines (whole ∷ all) (text ∷ texts) = IsStillLine whole text × AreStillLines all texts
+AreStillLines all texts = Unit {0}
 
 -- ---- what is to hold
 
 -- Such lines are explained from each machine for which the desk stands, and after them it stands for the machine to which they lead.
 abbrev pub StillLinesAreExplained : Type 0 → Type 0
-StillLinesAreExplained D = (seen : D → List ℕ) (failures : D → ℕ) (config : Config) (size block : ℕ) (old new : Desk D) (all texts : List (List ℕ)) (m : Machine) → Stands seen config old m → AreStillLines m.phase all texts →
+StillLinesAreExplained D = (seen : D → List ℕ) (failures : D → ℕ) (config : Config) (size block : ℕ) (old new : Desk D) (all texts : List (List ℕ)) (m : Machine) → Stands seen config old m → AreStillLines all texts →
     Runs (AnswersText seen failures) old all texts new → (end : Machine) × Runs (Explains size block) m all texts end × Stands seen config new end
 
 -- A desk stands for a machine after a prepare or a rollback that is accepted, whatever was answered before, and whatever is under way.
@@ -136,16 +133,22 @@ a_change_is_none : is_still_line (asked_in (codes "create /f")) ≡ false
 unfolding two_words is_utf8 chars encode_utf8
 a_change_is_none = refl
 
--- lines of an upgrade that are such, with their answers
+-- lines that are such, with their answers
 abbrev some_lines : List (List ℕ)
 some_lines = codes "ls /" ∷ codes "rollingUpgrade query" ∷ codes "lose 1 2" ∷ codes "at 7" ∷ codes "beat 1" ∷ codes "ls /" ∷ codes "frob" ∷ []
 
 abbrev some_texts : List (List ℕ)
 some_texts = codes "ok notes photos/" ∷ codes "ok upgrade 1" ∷ codes "ok" ∷ codes "ok" ∷ codes "ok 0" ∷ codes "refused 33 Memory" ∷ codes "refused 34 BadLine" ∷ []
 
-they_are_such : AreStillLines phases.Upgrade some_lines some_texts
+an_upgrade_is_no_prepare : TellsNoPrepare (codes "ok upgrade 1")
+an_upgrade_is_no_prepare epoch is = never (ap (λ (t : List ℕ). get_or t 3 0) is)
+  where
+    never : ◌≡◌ {A = ℕ} 117 112 → ⊥
+    never e = omega arith
+
+they_are_such : AreStillLines some_lines some_texts
 unfolding one_word two_words three_words upgrade_line number_line lose_line is_utf8 chars encode_utf8 digits
 they_are_such = (
-  (refl, (λ look. inl refl), (λ query. refl)),
-  ((refl, (λ look. inl refl), (λ query. refl)), ((refl, (λ look. inl refl), (λ query. refl)), ((refl, (λ look. inl refl), (λ query. refl)), ((refl, (λ look. inl refl), (λ query. refl)), ((refl, (λ look. inr (refusals.Memory, refl, refl)), (λ query. refl)), ((refl, (λ look. absurd (cc)), (λ query. refl)), tt)))))),
+  (refl, (λ look. inl refl), (λ query. absurd (cc))),
+  ((refl, (λ look. inl refl), (λ query. an_upgrade_is_no_prepare)), ((refl, (λ look. inl refl), (λ query. absurd (cc))), ((refl, (λ look. inl refl), (λ query. absurd (cc))), ((refl, (λ look. inl refl), (λ query. absurd (cc))), ((refl, (λ look. inr (refusals.Memory, refl, refl)), (λ query. absurd (cc))), ((refl, (λ look. absurd (cc)), (λ query. absurd (cc))), tt)))))),
 )

@@ -1,11 +1,8 @@
 -- Lines that leave what stands are explained in a script, right after a prepare or a rollback that is accepted.
 use Rattle.std.proofs.Common.{[], ap, inl, inr, subst, ◌++◌, ◌∷◌, ◌≡◌, ◌⊎◌, List, true, ℕ}
-use Rattle.std.proofs.lemmas.Bool.{false≢true}
 use Rattle.std.specs.Prelude.{codes, decimal}
 use Rattle.gs_base.specs.declared.config.Config.{Config}
 use Rattle.gs_journal.specs.Records.{fresh, standing}
-use Rattle.gs_msg.specs.declared.answer.Phase.{Phase}
-use Rattle.gs_msg.specs.declared.answer.Phase.TheVariants as phases
 use Rattle.gs_shell_desk.specs.Starting.{Starts}
 use Rattle.gs_shell_desk.specs.declared.desk.Desk.{Desk}
 use Rattle.gs_shell_grammar.specs.Grammar.{Request}
@@ -19,16 +16,8 @@ use Rattle.gs_laws_scripts.proofs.lemmas.lists.Scripts.{Epoch_at, Line_answered,
 use Rattle.gs_laws_scripts.proofs.lemmas.reads.Clients.{lines_mine}
 use Rattle.gs_laws_scripts.specs.answers.Meeting.{IsClientOf}
 use Rattle.gs_laws_scripts.specs.explained.Commits.{AfterACommitUntilAReadFails, AfterACommitUntilAWriteFails, AreExplainedFromSome, HasStillLines, ScriptsAfterACommit, StillLinesAfter}
-use Rattle.gs_laws_scripts.specs.explained.Standing.{AreStillLines}
 use Rattle.gs_laws_scripts.specs.lists.Lines.{commits_prepare, commits_rollback}
 use Rattle.gs_laws_scripts.specs.lists.Scripts.{AsksFor}
-
--- where no line asks for the phase they are such in any
-in_any : (phase : Phase) (all texts : List (List ℕ)) → AreStillLines phases.Ordinary all texts → AreStillLines phase all texts
-in_any phase (whole ∷ all) (text ∷ texts) are = ((are.0.0, are.0.1, (λ query. absurd (false≢true (are.0.2 query)))), in_any phase all texts are.1)
-in_any phase [] [] are = tt
-in_any phase [] (text ∷ texts) are = tt
-in_any phase (whole ∷ all) [] are = tt
 
 module _ (sizes : HaveSizes) {D : Type 0} (seen : D → List ℕ) (failures : D → ℕ) (config : Config) (disks : D × D) (size block : ℕ) (empty : standing (seen disks.0) (seen disks.1) ≡ fresh) where
   -- which answer a prepare or a rollback has
@@ -43,7 +32,7 @@ module _ (sizes : HaveSizes) {D : Type 0} (seen : D → List ℕ) (failures : D 
         let told = epoch_at q.by q.commits q.commit q.epoch start mid q.asks answered in
         let stands = commits_stand sizes seen failures config disks start mid q.by told.number empty there mine q.commits told.comes in
         let parts = split seen failures q.still q.texts_still q.later q.texts_later mid ended q.long_still rest in
-        let found = lines_go seen failures config size block q.still q.texts_still mid parts.0 stands.0 stands.1 (in_any stands.0.phase q.still q.texts_still q.are) parts.1 in (stands.0, found.0, found.1)
+        let found = lines_go seen failures config size block q.still q.texts_still mid parts.0 stands.0 stands.1 q.are parts.1 in (stands.0, found.0, found.1)
 
     by_first : (start : Desk D) → IsReachedWithin seen failures config disks start → IsClientOf config start.caller.client
         → Lines_run seen failures start (q.commit ∷ (q.still ++ q.later)) ((codes "ok " ++ decimal q.epoch) ∷ (q.texts_still ++ q.texts_later)) ended → AreExplainedFromSome size block q.still q.texts_still

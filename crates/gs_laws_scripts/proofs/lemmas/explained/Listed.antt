@@ -1,6 +1,5 @@
 -- What a list is answered by a store whose names stand is what the machine answers that shows them.
 use Rattle.std.proofs.Common.{[], ap, inl, inr, refl, subst, sym, ◌&&◌, ◌∷◌, ◌∙◌, ◌≡◌, Bool, Err, List, None, Ok, Option, Result, Some, cond, false, map, true, ℕ}
-use Rattle.std.proofs.lemmas.Bool.{false≢true}
 use Rattle.std.specs.FinMap as fin
 use Rattle.std.specs.List.{AllByRecursion}
 use Rattle.std.specs.Prelude.{if◌then◌else◌}
@@ -14,7 +13,7 @@ use Rattle.gs_edit.proofs.Tables.{seen as rows_of}
 use Rattle.gs_edit.specs.Mapped.{mapped_rows}
 use Rattle.gs_edit.specs.View.{NamesView}
 use Rattle.gs_laws_chunks.proofs.lemmas.answers.Answered.{answers_are_made}
-use Rattle.gs_laws_chunks.proofs.lemmas.answers.Behind.{MadeThere, all_front, all_spare, firm_so, made_there}
+use Rattle.gs_laws_chunks.proofs.lemmas.answers.Behind.{MadeThere, all_front, all_spare, made_there}
 use Rattle.gs_laws_chunks.proofs.lemmas.answers.Resting.{stays_still}
 use Rattle.gs_laws_chunks.proofs.lemmas.answers.Sparing.{asked_spared, lasts_spared}
 use Rattle.gs_laws_chunks.specs.answers.Answered.{WasAnswered}
@@ -23,7 +22,6 @@ use Rattle.gs_laws_chunks.specs.answers.Resting.{IsLooking, StandsStill, StandsS
 use Rattle.gs_laws_looks.specs.carrying.Exchanged.{HasReply}
 use Rattle.gs_laws_moves.proofs.lemmas.answers.Resting.{lists_answered}
 use Rattle.gs_laws_moves.proofs.lemmas.looks.Looks.{no_answer}
-use Rattle.gs_laws_master.specs.Standing.{IsFirm}
 use Rattle.gs_laws_moves.specs.answers.AtOnce.{OneSays, is_answered_at_once}
 use Rattle.gs_laws_moves.specs.answers.Resting.{is_look}
 use Rattle.gs_laws_plain.proofs.lemmas.commands.Answering.{same_names}
@@ -31,11 +29,10 @@ use Rattle.gs_laws_plain.specs.commands.Answers.{listed}
 use Rattle.gs_laws_world.proofs.lemmas.steady.Keeping.{run_keeps}
 use Rattle.gs_laws_world.specs.steady.Saying.{IsStepWithin}
 use Rattle.gs_laws_world.specs.steady.Unarmed.{unarmed}
-use Rattle.gs_laws_world.specs.steady.Through.{LastsThrough}
 use Rattle.gs_master_record.specs.declared.checkpoint.Phase.{Phase as Durable_phase}
 use Rattle.gs_master_record.specs.declared.checkpoint.Phase.TheVariants.{Ordinary, Rolling, Upgrade}
-use Rattle.gs_master_spec.specs.Calls.{is_any_deep, is_any_hidden, is_locked, listing, ordered, refused_before, told_phase}
-use Rattle.gs_master_spec.specs.Durable.{Durable, is_ordinary}
+use Rattle.gs_master_spec.specs.Calls.{is_any_deep, is_any_hidden, is_locked, listing, refused_before, told_phase}
+use Rattle.gs_master_spec.specs.Durable.{Durable}
 use Rattle.gs_master_spec.specs.Durable.{is_rolling as is_rolled}
 use Rattle.gs_master_spec.specs.Handling.{called_unless, new_call}
 use Rattle.gs_master_spec.specs.State.{State, first_of, is_failed, reply_to}
@@ -59,7 +56,7 @@ use Rattle.gs_world.specs.Histories.{History}
 use Rattle.gs_world.specs.Runs.{Comes, RunsTo, Step}
 use Rattle.gs_laws_scripts.specs.explained.Lines.{AsksOne, AsksTree, IsOfStore, IsSaid}
 use Rattle.gs_laws_scripts.specs.explained.Machine.{Machine, Text, called, is_preparing, is_rolling, taken, tree_called, tree_said}
-use Rattle.gs_laws_scripts.specs.explained.Standing.{IsUndisturbed, ShowsNames, is_upgrading, the_client}
+use Rattle.gs_laws_scripts.specs.explained.Standing.{IsUndisturbed, ShowsNames, the_client}
 
 -- ---- rows with texts
 
@@ -199,28 +196,14 @@ said_is req given answer (inr none) = absurd none
 
 module _ (config : Config) (s : State) (req : ReqId) (moment : Moment) (answer : Said) where
   abbrev IsQueried : Type 0
-  IsQueried = (answer ≡ says.Phase (told_phase s.volatile.is_preparing s.durable.phase) s.durable.epoch) × (is_failed s.fault ≡ false)
+  IsQueried = answer ≡ says.Phase (told_phase s.volatile.is_preparing s.durable.phase) s.durable.epoch
 
-  not_failed : (failed : Bool) → first_of (ordered failed (is_rolled s.durable.phase) s.volatile.is_preparing (is_locked s req calls.Query) calls.Query) ≡ None → failed ≡ false
-  not_failed true is = absurd cc
-  not_failed false is = refl
-
-  by_query : (o : Option Refusal) → refused_before s req calls.Query ≡ o → OneSays req (Ok answer) (called_unless config s req moment calls.Query o).sent → IsQueried
-  by_query None none said = (said_is req (says.Phase (told_phase s.volatile.is_preparing s.durable.phase) s.durable.epoch) answer said, not_failed (is_failed s.fault) none)
-  by_query (Some refusal) is said = no_answer req refusal answer said
+  by_query : (o : Option Refusal) → OneSays req (Ok answer) (called_unless config s req moment calls.Query o).sent → IsQueried
+  by_query None said = said_is req (says.Phase (told_phase s.volatile.is_preparing s.durable.phase) s.durable.epoch) answer said
+  by_query (Some refusal) said = no_answer req refusal answer said
 
   queried_so : OneSays req (Ok answer) (new_call config s req moment calls.Query).sent → IsQueried
-  queried_so said = by_query (refused_before s req calls.Query) refl said
-
--- no prepare is begun in an upgrade
-none_begun : (preparing ordinary : Bool) → (preparing ≡ true → ordinary ≡ true) → ordinary ≡ false → preparing ≡ false
-none_begun true ordinary begun is = absurd (false≢true (sym is ∙ begun refl))
-none_begun false ordinary begun is = refl
-
-pub not_ordinary : (phase : Durable_phase) → is_upgrading (told_phase false phase) ≡ true → is_ordinary phase ≡ false
-not_ordinary Ordinary is = absurd (false≢true is)
-not_ordinary Upgrade is = refl
-not_ordinary Rolling is = refl
+  queried_so said = by_query (refused_before s req calls.Query) said
 
 -- ---- a store whose names stand
 
@@ -260,9 +243,6 @@ module _ {D : Type 0} (seen : D → List ℕ) (failures : D → ℕ) (d : Durabl
     stands : StandsStill d the_client number s
     stands = subst (StandsStillAt d the_client number) made.answers.stands now.still.master
 
-    firm : is_failed s.fault ≡ false → IsFirm s
-    firm sound = firm_so seen failures unarmed made.answers.master (subst (LastsThrough seen) made.answers.stands now.lasts) sound
-
   -- a list is by the names
   module _ (old mid : History D) (p : Path) (answer : Said) (u : IsUndisturbed seen d number old) (h : HasReply seen failures the_client old (requests.Call (calls.List p)) (replies.Answer answer) mid) where
     abbrev its : State
@@ -289,15 +269,11 @@ module _ {D : Type 0} (seen : D → List ℕ) (failures : D → ℕ) (d : Durabl
 
   -- and a query by the phase and the epoch
   module _ (old mid : History D) (answer : Said) (u : IsUndisturbed seen d number old) (h : HasReply seen failures the_client old (requests.Call calls.Query) (replies.Answer answer) mid) where
-    pub is_told : is_ordinary d.phase ≡ false → answer ≡ says.Phase (told_phase false d.phase) d.epoch
-    is_told upgrading =
+    pub is_told : (preparing : Bool) × (answer ≡ says.Phase (told_phase preparing d.phase) d.epoch)
+    is_told =
         let m = made old mid calls.Query refl refl answer u h in
-        let st = stands old mid calls.Query refl refl answer u h in
-        let said = queried_so m.answers.master.config m.answers.master.state h.req m.event.moment answer (there old mid calls.Query refl refl answer u h).says in
-        let kept = firm old mid calls.Query refl refl answer u h said.1 in
-        let none : m.answers.master.state.volatile.is_preparing ≡ false =
-        none_begun m.answers.master.state.volatile.is_preparing (is_ordinary m.answers.master.state.durable.phase) (λ begun. (kept.stands.preparing begun).0) (ap is_ordinary st.phase ∙ upgrading) in
-        said.0
-        ∙ ap (λ b. says.Phase (told_phase b m.answers.master.state.durable.phase) m.answers.master.state.durable.epoch) none
-        ∙ ap (λ p. says.Phase (told_phase false p) m.answers.master.state.durable.epoch) st.phase
-        ∙ ap (λ e. says.Phase (told_phase false d.phase) e) st.epoch
+        let st = stands old mid calls.Query refl refl answer u h in (
+          m.answers.master.state.volatile.is_preparing,
+          queried_so m.answers.master.config m.answers.master.state h.req m.event.moment answer (there old mid calls.Query refl refl answer u h).says
+              ∙ ap (λ p. says.Phase (told_phase m.answers.master.state.volatile.is_preparing p) m.answers.master.state.durable.epoch) st.phase ∙ ap (λ e. says.Phase (told_phase m.answers.master.state.volatile.is_preparing d.phase) e) st.epoch,
+        )

@@ -22,8 +22,10 @@ use Rattle.gs_laws_looks.specs.carrying.Exchanged.{HasReply, IsExchanged, Looks,
 use Rattle.gs_laws_moves.specs.answers.Resting.{is_look}
 use Rattle.gs_laws_world.specs.steady.Asking.{MayBeAsked, asks_at}
 use Rattle.gs_laws_world.specs.steady.Saying.{IsStepWithin}
+use Rattle.gs_master_spec.specs.Calls.{told_phase}
 use Rattle.gs_msg.specs.declared.answer.Answer.TheVariants as says
 use Rattle.gs_msg.specs.declared.answer.Phase.{Phase}
+use Rattle.gs_msg.specs.declared.answer.Phase.TheVariants as phases
 use Rattle.gs_msg.specs.declared.call.Call.{Call}
 use Rattle.gs_msg.specs.declared.call.Call.TheVariants as calls
 use Rattle.gs_msg.specs.declared.event.Request.{Request as Asked}
@@ -50,14 +52,14 @@ use Rattle.gs_world.specs.Histories.{History}
 use Rattle.gs_world.specs.Runs.{Comes as StepComes}
 use Rattle.gs_world.specs.Sent.{Sent}
 use Rattle.gs_laws_scripts.proofs.lemmas.explained.Alike.{refused_never}
-use Rattle.gs_laws_scripts.proofs.lemmas.explained.Listed.{is_calm, is_listed, is_shallow, is_told, list_is, list_off, not_ordinary, query_is, query_off, undisturbed_on}
+use Rattle.gs_laws_scripts.proofs.lemmas.explained.Listed.{is_calm, is_listed, is_shallow, is_told, list_is, list_off, query_is, query_off, undisturbed_on}
 use Rattle.gs_laws_scripts.proofs.lemmas.explained.Passing.{LooksOn, nodes_do}
 use Rattle.gs_laws_scripts.proofs.lemmas.lists.Lines.{Carries_at, all_join, next_small}
 use Rattle.gs_laws_scripts.proofs.lemmas.reads.Clients.{still_mine}
 use Rattle.gs_laws_scripts.specs.answers.Meeting.{IsClientOf}
 use Rattle.gs_laws_scripts.specs.explained.Lines.{AsksOne, AsksTree, Explains, IsOfStore, Leads}
 use Rattle.gs_laws_scripts.specs.explained.Machine.{Machine}
-use Rattle.gs_laws_scripts.specs.explained.Standing.{AreStillLines, IsRefusedByStoreAlone, IsStillLine, ShowsNames, Stands, StillLinesAreExplained, is_name_look, is_query, is_still_line, is_upgrading, the_client}
+use Rattle.gs_laws_scripts.specs.explained.Standing.{AreStillLines, IsRefusedByStoreAlone, IsStillLine, ShowsNames, Stands, StillLinesAreExplained, TellsNoPrepare, is_name_look, is_query, is_still_line, the_client}
 use Rattle.gs_laws_scripts.specs.plain.Machines.{asked_in}
 use Rattle.gs_laws_scripts.specs.plain.Machines as plainly
 
@@ -183,7 +185,6 @@ module _ {D : Type 0} (seen : D → List ℕ) (failures : D → ℕ) where
       leads : Leads size block request m answer next
       is : IsText answer text
       stands : Stands seen config new next
-      phase : next.phase ≡ m.phase
 
     stands_on : (after : Sent) → Covers after (way_of new.wire) → IsNumber new.wire.moment.0 → IsClientOf config new.caller.client → Looks seen failures the_client (history st.sent (way_of old.wire)) (history after (way_of new.wire)) → (next : Machine) → ShowsNames st.durable next → Stands seen config new next
     stands_on after covers small ours looks next shows = record {
@@ -241,8 +242,8 @@ module _ {D : Type 0} (seen : D → List ℕ) (failures : D → ℕ) where
 
     list_line : (p : List ℕ) (answer : Result Answer Refusal) (text : List ℕ) → IsRefusedByStoreAlone text → IsText answer text → ListGoes (Carries_at seen failures) (parse_hidden p) (at old) answer (at new) → Goes (lines.Ls p) text
     list_line p answer text store text_is (Short is same) =
-        let said = short_text (parse_hidden p) text (is_short answer text is text_is) in record { next = m; answer = said.0; leads = said.1; is = said.2; stands = stands_still same; phase = refl }
-    list_line p answer text store text_is (NoPath refusal parsed is same) = record { next = m; answer = Err refusal; leads = no_path (parse_hidden p) refusal parsed; is = subst (λ a. IsText a text) is text_is; stands = stands_still same; phase = refl }
+        let said = short_text (parse_hidden p) text (is_short answer text is text_is) in record { next = m; answer = said.0; leads = said.1; is = said.2; stands = stands_still same }
+    list_line p answer text store text_is (NoPath refusal parsed is same) = record { next = m; answer = Err refusal; leads = no_path (parse_hidden p) refusal parsed; is = subst (λ a. IsText a text) is text_is; stands = stands_still same }
     list_line p answer text store text_is (IsAsked path reply parsed carried is) =
         let c = look_carried config st.sent (at old) (at new) (calls.List path) reply refl (record { named = tt; met = λ names. tt }) st.ours st.covers st.moment carried in
         let said = told_text (parse_hidden p) path reply text parsed store c (and_then names_in (looked reply)) refl (subst (λ a. IsText a text) is text_is) in
@@ -253,7 +254,6 @@ module _ {D : Type 0} (seen : D → List ℕ) (failures : D → ℕ) where
           is = said.2;
           stands = stands_on c.after c.covers (subst (λ (moment : Moment). IsNumber moment.0) (sym c.moment) st.moment) (still_mine seen failures config (at old) (at new) (requests.Call (calls.List path)) reply st.ours carried)
               (looks_both (history st.sent (way_of old.wire)) c.mid (history c.after (way_of new.wire)) (went_on (calls.List path) refl (history st.sent (way_of old.wire)) c.mid reply c.went) c.taken) m st.shows;
-          phase = refl;
         }
 
     -- ---- the phase
@@ -261,26 +261,33 @@ module _ {D : Type 0} (seen : D → List ℕ) (failures : D → ℕ) where
     abbrev Query : Result Answer Refusal → Type 0
     Query answer = AsksOne size calls.Query m answer m
 
-    told_phase_text : (reply : Reply) (text : List ℕ) → is_upgrading m.phase ≡ true → IsRefusedByStoreAlone text → (c : IsLookCarried st.sent (at old) (at new) calls.Query reply) → (r : Result (Phase × ℕ) Refusal) → and_then phase_in (looked reply) ≡ r → IsText (answered at_phase r) text
+    told_phase_text : (reply : Reply) (text : List ℕ) → TellsNoPrepare text → IsRefusedByStoreAlone text → (c : IsLookCarried st.sent (at old) (at new) calls.Query reply) → (r : Result (Phase × ℕ) Refusal) → and_then phase_in (looked reply) ≡ r → IsText (answered at_phase r) text
         → (answer : Result Answer Refusal) × Query answer × IsText answer text
-    told_phase_text reply text upgrading store c (Ok (phase, epoch)) said text_is =
+    told_phase_text reply text none store c (Ok (phase, epoch)) said text_is =
         let h : HasReply seen failures the_client (history st.sent (way_of old.wire)) (requests.Call calls.Query) (replies.Answer (says.Phase phase epoch)) c.mid =
         subst (λ r. Went seen failures the_client (history st.sent (way_of old.wire)) (requests.Call calls.Query) r c.mid) (phase_said reply phase epoch said) c.went in
-        let told = is_told seen failures st.durable st.number (history st.sent (way_of old.wire)) c.mid (says.Phase phase epoch) st.rests h (not_ordinary st.durable.phase (ap is_upgrading (sym st.shows.phase) ∙ upgrading)) in
-        (Ok (answers.Phase phase epoch), query_is size m phase epoch (phase_is told ∙ sym st.shows.phase) (epoch_is told ∙ sym st.shows.epoch), text_is)
+        let told = is_told seen failures st.durable st.number (history st.sent (way_of old.wire)) c.mid (says.Phase phase epoch) st.rests h in by_told told.0 told.1
       where
         phase_is : {a b : Phase} {j k : ℕ} → says.Phase a j ≡ says.Phase b k → a ≡ b
         phase_is e = cc
 
         epoch_is : {a b : Phase} {j k : ℕ} → says.Phase a j ≡ says.Phase b k → j ≡ k
         epoch_is e = cc
-    told_phase_text reply text upgrading store c (Err refusal) said (inl text_is) = let other = of_store text refusal store text_is in (Err other.0, query_off size m other.0 other.2, inl other.1)
-    told_phase_text reply text upgrading store c (Err refusal) said (inr short) = (Err refusals.Memory, query_off size m refusals.Memory refl, inr short)
 
-    query_line : (answer : Result Answer Refusal) (text : List ℕ) → is_upgrading m.phase ≡ true → IsRefusedByStoreAlone text → IsText answer text → QueryGoes (Carries_at seen failures) (at old) answer (at new) → Goes (lines.RollingUpgrade upgrades.Query) text
-    query_line answer text upgrading store text_is q =
+        begun : phase ≡ phases.Preparing → IsText (Ok (answers.Phase phase epoch)) text → (answer : Result Answer Refusal) × Query answer × IsText answer text
+        begun is (inl told) = absurd (none epoch (told ∙ ap (λ p. answer_text (Ok (answers.Phase p epoch))) is))
+        begun is (inr short) = (Err refusals.Memory, query_off size m refusals.Memory refl, inr short)
+
+        by_told : (preparing : Bool) → says.Phase phase epoch ≡ says.Phase (told_phase preparing st.durable.phase) st.durable.epoch → (answer : Result Answer Refusal) × Query answer × IsText answer text
+        by_told true told = begun (phase_is told) text_is
+        by_told false told = (Ok (answers.Phase phase epoch), query_is size m phase epoch (phase_is told ∙ sym st.shows.phase) (epoch_is told ∙ sym st.shows.epoch), text_is)
+    told_phase_text reply text none store c (Err refusal) said (inl text_is) = let other = of_store text refusal store text_is in (Err other.0, query_off size m other.0 other.2, inl other.1)
+    told_phase_text reply text none store c (Err refusal) said (inr short) = (Err refusals.Memory, query_off size m refusals.Memory refl, inr short)
+
+    query_line : (answer : Result Answer Refusal) (text : List ℕ) → TellsNoPrepare text → IsRefusedByStoreAlone text → IsText answer text → QueryGoes (Carries_at seen failures) (at old) answer (at new) → Goes (lines.RollingUpgrade upgrades.Query) text
+    query_line answer text none store text_is q =
         let c = look_carried config st.sent (at old) (at new) calls.Query q.reply refl (record { named = tt; met = λ names. tt }) st.ours st.covers st.moment q.asks in
-        let said = told_phase_text q.reply text upgrading store c (and_then phase_in (looked q.reply)) refl (subst (λ a. IsText a text) q.is text_is) in
+        let said = told_phase_text q.reply text none store c (and_then phase_in (looked q.reply)) refl (subst (λ a. IsText a text) q.is text_is) in
         record {
           next = m;
           answer = said.0;
@@ -288,7 +295,6 @@ module _ {D : Type 0} (seen : D → List ℕ) (failures : D → ℕ) where
           is = said.2;
           stands = stands_on c.after c.covers (subst (λ (moment : Moment). IsNumber moment.0) (sym c.moment) st.moment) (still_mine seen failures config (at old) (at new) (requests.Call calls.Query) q.reply st.ours q.asks)
               (looks_both (history st.sent (way_of old.wire)) c.mid (history c.after (way_of new.wire)) (went_on calls.Query refl (history st.sent (way_of old.wire)) c.mid q.reply c.went) c.taken) m st.shows;
-          phase = refl;
         }
 
     -- ---- a line about servers and messages
@@ -296,8 +302,8 @@ module _ {D : Type 0} (seen : D → List ℕ) (failures : D → ℕ) where
     abbrev Did : Request → Result Answer Refusal → Type 0
     Did request answer = (new.caller.client ≡ old.caller.client) × NodesDo seen failures request (way_of old.wire) answer (way_of new.wire)
 
-    node_line : (request : Request) (answer : Result Answer Refusal) (text : List ℕ) (next : Machine) → is_still_line (Some request) ≡ true → IsSpoken request → IsText answer text → Leads size block request m answer next → ShowsNames st.durable next → next.phase ≡ m.phase → Did request answer → Goes request text
-    node_line request answer text next is spoken text_is leads shows same_phase (same, did) =
+    node_line : (request : Request) (answer : Result Answer Refusal) (text : List ℕ) (next : Machine) → is_still_line (Some request) ≡ true → IsSpoken request → IsText answer text → Leads size block request m answer next → ShowsNames st.durable next → Did request answer → Goes request text
+    node_line request answer text next is spoken text_is leads shows (same, did) =
         let l : LooksOn seen failures the_client (way_of old.wire) (way_of new.wire) st.sent = nodes_do seen failures the_client request (way_of old.wire) answer (way_of new.wire) is spoken did st.sent st.covers st.moment in
         record {
           next = next;
@@ -305,7 +311,6 @@ module _ {D : Type 0} (seen : D → List ℕ) (failures : D → ℕ) where
           leads = leads;
           is = text_is;
           stands = stands_on l.after l.covers l.moment (subst (IsClientOf config) (sym same) st.ours) (record { steps = l.steps; runs = l.runs; within = l.within; looking = l.looking }) next shows;
-          phase = same_phase;
         }
 
     is_set : (moment : ℕ) (answer : Result Answer Refusal) → Did (lines.At moment) answer → answer ≡ Ok answers.Done
@@ -316,17 +321,17 @@ module _ {D : Type 0} (seen : D → List ℕ) (failures : D → ℕ) where
 
     -- ---- any such line
 
-    request_goes : (request : Request) (answer : Result Answer Refusal) (text : List ℕ) → is_still_line (Some request) ≡ true → IsSpoken request → (is_name_look (Some request) ≡ true → IsRefusedByStoreAlone text) → (is_query (Some request) ≡ true → is_upgrading m.phase ≡ true) → Comes seen failures request old answer new → IsText answer text → Goes request text
+    request_goes : (request : Request) (answer : Result Answer Refusal) (text : List ℕ) → is_still_line (Some request) ≡ true → IsSpoken request → (is_name_look (Some request) ≡ true → IsRefusedByStoreAlone text) → (is_query (Some request) ≡ true → TellsNoPrepare text) → Comes seen failures request old answer new → IsText answer text → Goes request text
     unfolding Comes
     request_goes (lines.Ls p) answer text is spoken store query comes text_is = list_line p answer text (store refl) text_is (list_goes (Carries_at seen failures) (parse_hidden p) (at old) (at new) answer comes)
-    request_goes (lines.At moment) answer text is spoken store query comes text_is = node_line (lines.At moment) answer text (record m { moment = moment }) is spoken text_is (m, ([], refl), is_set moment answer comes, refl) (shows_then moment) refl comes
-    request_goes (lines.Hold kind) answer text is spoken store query comes text_is = node_line (lines.Hold kind) answer text m is spoken text_is ([], refl) st.shows refl comes
-    request_goes (lines.Beat server) answer text is spoken store query comes text_is = node_line (lines.Beat server) answer text m is spoken text_is ([], refl) st.shows refl comes
-    request_goes (lines.Restart (restarted.Server number)) answer text is spoken store query comes text_is = node_line (lines.Restart (restarted.Server number)) answer text m is spoken text_is ([], refl) st.shows refl comes
+    request_goes (lines.At moment) answer text is spoken store query comes text_is = node_line (lines.At moment) answer text (record m { moment = moment }) is spoken text_is (m, ([], refl), is_set moment answer comes, refl) (shows_then moment) comes
+    request_goes (lines.Hold kind) answer text is spoken store query comes text_is = node_line (lines.Hold kind) answer text m is spoken text_is ([], refl) st.shows comes
+    request_goes (lines.Beat server) answer text is spoken store query comes text_is = node_line (lines.Beat server) answer text m is spoken text_is ([], refl) st.shows comes
+    request_goes (lines.Restart (restarted.Server number)) answer text is spoken store query comes text_is = node_line (lines.Restart (restarted.Server number)) answer text m is spoken text_is ([], refl) st.shows comes
     request_goes (lines.Restart restarted.Master) answer text is spoken store query comes text_is = absurd (false≢true is)
-    request_goes (lines.Lose server handle) answer text is spoken store query comes text_is = node_line (lines.Lose server handle) answer text m is spoken text_is ([], refl) st.shows refl comes
-    request_goes (lines.Damage server handle index) answer text is spoken store query comes text_is = node_line (lines.Damage server handle index) answer text m is spoken text_is ([], refl) st.shows refl comes
-    request_goes (lines.Deliver number) answer text is spoken store query comes text_is = node_line (lines.Deliver number) answer text m is spoken text_is ([], refl) st.shows refl comes
+    request_goes (lines.Lose server handle) answer text is spoken store query comes text_is = node_line (lines.Lose server handle) answer text m is spoken text_is ([], refl) st.shows comes
+    request_goes (lines.Damage server handle index) answer text is spoken store query comes text_is = node_line (lines.Damage server handle index) answer text m is spoken text_is ([], refl) st.shows comes
+    request_goes (lines.Deliver number) answer text is spoken store query comes text_is = node_line (lines.Deliver number) answer text m is spoken text_is ([], refl) st.shows comes
     request_goes (lines.Mkdir p) answer text is spoken store query comes text_is = absurd (false≢true is)
     request_goes (lines.Create p) answer text is spoken store query comes text_is = absurd (false≢true is)
     request_goes (lines.Stat p) answer text is spoken store query comes text_is = absurd (false≢true is)
@@ -349,20 +354,20 @@ module _ {D : Type 0} (seen : D → List ℕ) (failures : D → ℕ) where
     -- ---- a line with its end
 
     abbrev LineGoes : List ℕ → List ℕ → Type 0
-    LineGoes whole text = (next : Machine) × AnswersLine (Explains size block) m whole text next × Stands seen config new next × (next.phase ≡ m.phase)
+    LineGoes whole text = (next : Machine) × AnswersLine (Explains size block) m whole text next × Stands seen config new next
 
     abbrev Given : Option Request → List ℕ → Type 0
-    Given o text = (is_still_line o ≡ true) × (is_name_look o ≡ true → IsRefusedByStoreAlone text) × (is_query o ≡ true → is_upgrading m.phase ≡ true)
+    Given o text = (is_still_line o ≡ true) × (is_name_look o ≡ true → IsRefusedByStoreAlone text) × (is_query o ≡ true → TellsNoPrepare text)
 
     by_request : (line text : List ℕ) (o : Option Request) → line_request line ≡ o → Given o text
         → MatchOption o (IsText (Err refusals.BadLine) text × (new ≡ old)) (λ request. (answer : Result Answer Refusal) × Comes seen failures request old answer new × IsText answer text)
-        → (next : Machine) × MatchOption o (IsText (Err refusals.BadLine) text × (next ≡ m)) (λ request. (answer : Result Answer Refusal) × Leads size block request m answer next × IsText answer text) × Stands seen config new next × (next.phase ≡ m.phase)
-    by_request line text None read given (bad, same) = (m, (bad, refl), stands_still (ap at same), refl)
+        → (next : Machine) × MatchOption o (IsText (Err refusals.BadLine) text × (next ≡ m)) (λ request. (answer : Result Answer Refusal) × Leads size block request m answer next × IsText answer text) × Stands seen config new next
+    by_request line text None read given (bad, same) = (m, (bad, refl), stands_still (ap at same))
     by_request line text (Some request) read given (answer, comes, text_is) =
-        let g = request_goes request answer text given.0 (line_spoken line request read) given.1 given.2 comes text_is in (g.next, (g.answer, g.leads, g.is), g.stands, g.phase)
+        let g = request_goes request answer text given.0 (line_spoken line request read) given.1 given.2 comes text_is in (g.next, (g.answer, g.leads, g.is), g.stands)
 
     abbrev Either : Bool → List ℕ → List ℕ → Type 0
-    Either short line text = ((text ≡ memory_text) × (new ≡ old)) ⊎ ((next : Machine) × AnswersIfShort (Explains size block) short m line text next × Stands seen config new next × (next.phase ≡ m.phase))
+    Either short line text = ((text ≡ memory_text) × (new ≡ old)) ⊎ ((next : Machine) × AnswersIfShort (Explains size block) short m line text next × Stands seen config new next)
 
     short_line : (line text : List ℕ) → Given (line_request line) text → AnswersText seen failures old line text new → Either true line text
     unfolding AnswersText
@@ -371,22 +376,22 @@ module _ {D : Type 0} (seen : D → List ℕ) (failures : D → ℕ) where
 
     whole_line : (line text : List ℕ) (short : Bool) → Given (if short then line_request line else None) text → AnswersIfShort (AnswersText seen failures) short old line text new → Either short line text
     whole_line line text true given a = short_line line text given a
-    whole_line line text false given (bad, same) = inr (m, (bad, refl), stands_still (ap at same), refl)
+    whole_line line text false given (bad, same) = inr (m, (bad, refl), stands_still (ap at same))
 
-    pub line_goes : (whole text : List ℕ) → IsStillLine m.phase whole text → AnswersLine (AnswersText seen failures) old whole text new → LineGoes whole text
-    line_goes whole text still (inl (short, same)) = (m, inl (short, refl), stands_still (ap at same), refl)
+    pub line_goes : (whole text : List ℕ) → IsStillLine whole text → AnswersLine (AnswersText seen failures) old whole text new → LineGoes whole text
+    line_goes whole text still (inl (short, same)) = (m, inl (short, refl), stands_still (ap at same))
     line_goes whole text still (inr a) = elim (whole_line (content whole) text (nat_le (length (content whole)) longest_line) still a) [
-      | inl (short, same) ↦ (m, inl (short, refl), stands_still (ap at same), refl)
-      | inr (next, explains, stands, phase) ↦ (next, inr explains, stands, phase)
+      | inl (short, same) ↦ (m, inl (short, refl), stands_still (ap at same))
+      | inr (next, explains, stands) ↦ (next, inr explains, stands)
     ]
 
   -- ---- many of them
 
-  pub lines_go : (config : Config) (size block : ℕ) (all texts : List (List ℕ)) (old new : Desk D) (m : Machine) → Stands seen config old m → AreStillLines m.phase all texts → Runs (AnswersText seen failures) old all texts new → (end : Machine) × Runs (Explains size block) m all texts end × Stands seen config new end
+  pub lines_go : (config : Config) (size block : ℕ) (all texts : List (List ℕ)) (old new : Desk D) (m : Machine) → Stands seen config old m → AreStillLines all texts → Runs (AnswersText seen failures) old all texts new → (end : Machine) × Runs (Explains size block) m all texts end × Stands seen config new end
   lines_go config size block [] [] old new m st are same = (m, refl, subst (λ d. Stands seen config d m) (sym same) st)
   lines_go config size block (whole ∷ all) (text ∷ texts) old new m st are (mid, one, rest) =
       let first = line_goes config size block old mid m st whole text are.0 one in
-      let more = lines_go config size block all texts mid new first.0 first.2 (subst (λ phase. AreStillLines phase all texts) (sym first.3) are.1) rest in (more.0, (first.0, first.1, more.1), more.2)
+      let more = lines_go config size block all texts mid new first.0 first.2 are.1 rest in (more.0, (first.0, first.1, more.1), more.2)
   lines_go config size block [] (text ∷ texts) old new m st are never = absurd never
   lines_go config size block (whole ∷ all) [] old new m st are never = absurd never
 
