@@ -34,6 +34,8 @@ import time
 import beside
 
 SIZES = ["--block", "4", "--chunk", "16"]
+# Lines of a script harm the store too, as restarts do.
+LAB = [*SIZES, "--lab"]
 # The most seconds before a kill; a start takes a few thousandths.
 MOST_SECONDS = 0.1
 LINES = 400
@@ -151,7 +153,7 @@ def talked(run, lines, chance, most, seconds=None):
 
 def killed(program, path, lines, chance):
     """Starts the program on lines, and kills it at a moment or behind some answers. Gives what it answered."""
-    run = subprocess.Popen([program, path, *SIZES], stdin=subprocess.PIPE, stdout=subprocess.PIPE, stderr=subprocess.DEVNULL)
+    run = subprocess.Popen([program, path, *LAB], stdin=subprocess.PIPE, stdout=subprocess.PIPE, stderr=subprocess.DEVNULL)
     if lines and chance.random() < 0.75:
         return talked(run, lines, chance, chance.randint(1, len(lines)))
     return talked(run, lines, chance, LINES + 1, chance.random() * MOST_SECONDS)
@@ -202,7 +204,7 @@ def first_difference(program, path, plain, lines, answered, asked):
         return "what is kept isn't what was asked"
     if b"#" not in rest and not text_of(lines[len(kept) :]).startswith(rest):
         return "what stands behind the last mark is no beginning of the next lines"
-    if answers_of(program, [path, *SIZES], asked[len(kept) :]) != plain[len(kept) :]:
+    if answers_of(program, [path, *LAB], asked[len(kept) :]) != plain[len(kept) :]:
         return "an answer behind the kill isn't that of a store that went on"
     return None
 
@@ -231,7 +233,7 @@ def cut(program, plain_program, path, chance):
     asked = lines + probes()
     plain = answers_of(plain_program, SIZES, asked)
     count = chance.randint(0, LINES - 1)
-    answered = answers_of(program, [path, *SIZES], lines[:count])
+    answered = answers_of(program, [path, *LAB], lines[:count])
     more = lines[count : count + chance.choice((1, 10, 100))]
     text, before = bytes_of(path) + text_of(more), bytes_of(path)
     behind = text_of(more) + mark(text, count + len(more), text_of(plain[: count + len(more)]))
@@ -239,14 +241,17 @@ def cut(program, plain_program, path, chance):
     if behind and chance.random() < 0.5:
         at = chance.randrange(len(behind))
         hole = behind[at : at + chance.choice((1, 40, 512))]
-        behind[at : at + len(hole)] = chance.choice((bytes(len(hole)), chance.randbytes(len(hole))))
+        # A line end within a mark would leave a part of one before the end, which is refused.
+        behind[at : at + len(hole)] = chance.choice((bytes(len(hole)), chance.randbytes(len(hole)).replace(b"\n", b"\0")))
     with open(path, "ab") as file:
         file.write(behind)
     status, said = ended(program, [path, *SIZES])[::2]
-    if status or (behind and f"{len(behind)} bytes behind what was answered are cut off" not in said):
+    if status or (behind and f"{len(behind)} bytes after what was answered are cut off" not in said):
         return f"a start has status {status}: {said}", count
     if bytes_of(path) != before:
         return "what was answered was changed by a start", count
+    if behind and bytes_of(f"{path}.cut") != behind:
+        return "what was cut off isn't what was put aside", count
     return first_difference(program, path, plain, lines, answered, asked), count
 
 
@@ -255,7 +260,7 @@ def limited(program, plain_program, path, chance):
     lines = [one_line(chance) for _ in range(LINES)]
     asked = lines + probes()
     plain = answers_of(plain_program, SIZES, asked)
-    answers_of(program, [path, *SIZES], [])
+    answers_of(program, [path, *LAB], [])
     most = os.path.getsize(path) + chance.randint(0, len(text_of(lines)) - 1)
 
     def limit():
@@ -264,7 +269,7 @@ def limited(program, plain_program, path, chance):
         resource.setrlimit(resource.RLIMIT_FSIZE, (most, most))
 
     # The limit is one of every file that the program writes: standard error goes through a pipe.
-    run = subprocess.Popen([program, path, *SIZES], stdin=subprocess.PIPE, stdout=subprocess.PIPE, stderr=subprocess.PIPE, preexec_fn=limit)
+    run = subprocess.Popen([program, path, *LAB], stdin=subprocess.PIPE, stdout=subprocess.PIPE, stderr=subprocess.PIPE, preexec_fn=limit)
     told = talked(run, lines, chance, LINES + 1)
     said, status = run.stderr.read().decode(), run.wait()
     run.stderr.close()
@@ -324,7 +329,7 @@ def other_version(program, path, chance):
 def broken_line(program, path, chance):
     """A line in the midst of a file is none, or another one."""
     lines = [one_line(chance) for _ in range(LINES)]
-    answers_of(program, [path, *SIZES], lines)
+    answers_of(program, [path, *LAB], lines)
     stands = bytes_of(path).splitlines(keepends=True)
     number = chance.choice([number for number, line in enumerate(stands) if number and not is_mark(line)])
     stands[number] = chance.choice((b"", b" ", b"mkdir", b"ls  /", b"\x00" * 40, b"create /a/f ", b"write /a/f 0 6")) + b"\n"
@@ -337,7 +342,7 @@ def broken_line(program, path, chance):
 
 
 def other_sizes(program, path, chance):
-    answers_of(program, [path, *SIZES], [one_line(chance) for _ in range(20)])
+    answers_of(program, [path, *LAB], [one_line(chance) for _ in range(20)])
     name, given, size = chance.choice(
         (("servers", 4, 3), ("racks", 2, 1), ("replicas", 2, 3), ("chunk", 32, 16), ("block", 8, 4), ("block", 0, 4))
     )
@@ -902,6 +907,206 @@ def marks_are_lost(program, path, chance):
     return is_refused(program, path, KEPT + b"mkdir /c\n" * 600_000)
 
 
+# ---- what stands after the last mark
+
+
+def refused_so(program, path, text, pattern):
+    """What is wrong with a start on a file that has to be refused with status 1 and a text."""
+    kept_file(path, text)
+    return refused_at(program, [path], path, 1, pattern)
+
+
+def is_put_aside(program, path, text, stands, names):
+    """What is wrong with a start that has to put aside what it cuts off a file, and then to serve these directories."""
+    aside = [f"{path}.cut", f"{path}.cut.2"]
+    for name in aside:
+        if os.path.exists(name):
+            os.remove(name)
+    for name in aside:
+        kept_file(path, text)
+        status, answered, said = ended(program, [path], b"ls /\n")
+        wanted = f"{' '.join(['ok', *(f'{one}/' for one in names)])}\n".encode()
+        if (status, answered) != (0, wanted) or f"are put aside in {name}\n" not in said:
+            return f"the status is {status}, and it answers {answered!r}: {said}"
+        if not bytes_of(path).startswith(stands):
+            return f"the file holds {bytes_of(path)!r}"
+        wrong = unlike(name, text[len(stands) :])
+        if wrong:
+            return wrong
+    return None
+
+
+def line_ends_are_others(program, path, chance):
+    """A log of which the lines end with a carriage return too is refused, whether that is so of its first line or not."""
+    head, rest = KEPT.split(b"\n", 1)
+    rest = rest.replace(b"\n", b"\r\n")
+    pattern = "its lines end with .r.n, marks too"
+    return refused_so(program, path, head + b"\r\n" + rest, pattern) or refused_so(program, path, head + b"\n" + rest, pattern)
+
+
+def marks_are_taken_out(program, path, chance):
+    """What stands in a log without its marks is put aside, since it may be a batch that waited."""
+    return is_put_aside(program, path, unmarked(KEPT), HEAD + b"\n", "")
+
+
+def end_is_gone(program, path, chance):
+    """A log that lacks its last byte, or has zeros at its end or behind it."""
+    batch = KEPT.index(b"mkdir /b")
+    wrong = is_put_aside(program, path, KEPT[:-1], KEPT[:batch], "a")
+    wrong = wrong or is_put_aside(program, path, KEPT[:-20] + bytes(20), KEPT[:batch], "a")
+    return wrong or is_put_aside(program, path, KEPT + bytes(4096), KEPT, "ab")
+
+
+def mark_is_too_early(program, path, chance):
+    """A mark that isn't whole with lines after it is none that a crash leaves."""
+    torn = KEPT[: -chance.randint(2, MARK_BYTES - 4)] + b"\n"
+    return refused_so(program, path, torn + b"mkdir /c\n", "line 5 begins as a mark") or refused_so(program, path, torn + b"mkdir", "line 5 begins as a mark")
+
+
+def first_form_with_zeros(program, path, chance):
+    """Zeros behind the lines of a log of the first form are what a crash left. A line there that is too long is none of a log."""
+    text = FIRST_HEAD + b"\nmkdir /a\nmkdir /b\n"
+    wrong = is_put_aside(program, path, text + bytes(3_000_000), text, "ab")
+    return wrong or refused_so(program, path, text + bytes(1_100_000) + b"\nmkdir /c\n", "line 4 is longer than a line may be")
+
+
+def cant_be_put_aside(program, path, chance):
+    """Where what is cut off can't be put aside it isn't cut off, and nothing of it is left beside."""
+
+    def limit():
+        signal.signal(signal.SIGXFSZ, signal.SIG_IGN)
+        resource.setrlimit(resource.RLIMIT_FSIZE, (10, 10))
+
+    kept_file(path, KEPT + b"mkdir /somewhere")
+    return refused_at(program, [path], path, 1, "can't be put aside, so it isn't cut off", preexec_fn=limit)
+
+
+# ---- what is looked at
+
+
+def checked(program, path, text, status, pattern):
+    """What is wrong with a look at a file, which changes nothing."""
+    kept_file(path, text)
+    before = sorted(os.listdir(os.path.dirname(path)))
+    got, shown, said = ended(program, [path, "--check"])
+    if got != status or not re.search(pattern, shown.decode() if status == 0 else said):
+        return f"the status is {got}: {shown!r} {said}"
+    if sorted(os.listdir(os.path.dirname(path))) != before:
+        return "a look changed the folder"
+    return unlike(path, text)
+
+
+def is_checked(program, path, chance):
+    """--check says what a file holds and what a start would do, and changes nothing; also while another process has the file."""
+    wrong = checked(program, path, KEPT, 0, "2 lines and 2 marks.*\n.*nothing stands after")
+    wrong = wrong or checked(program, path, KEPT + b"mkd", 0, "3 bytes stand after what was answered; a start puts them aside")
+    wrong = wrong or checked(program, path, FIRST_HEAD + b"\nmkdir /a\n", 0, "form 1.*\n.*1 lines and 0 marks.*\n.*a start puts a mark after")
+    wrong = wrong or checked(program, path, KEPT.replace(b"/b", b"/c"), 1, "line 5 is a mark that says otherwise of the text")
+    if wrong:
+        return wrong
+    kept_file(path)
+    with subprocess.Popen([program, path], stdin=subprocess.PIPE, stdout=subprocess.PIPE, stderr=subprocess.DEVNULL) as run:
+        run.stdin.write(b"mkdir /c\n")
+        run.stdin.flush()
+        run.stdout.readline()
+        status, shown, said = ended(program, [path, "--check"])
+        run.communicate()
+    if status or b"3 lines and 3 marks" not in shown:
+        return f"the status of a look at a file that is in use is {status}: {shown!r} {said}"
+    os.remove(path)
+    return refused_at(program, [path, "--check"], path, 1, "nothing stands there")
+
+
+def is_read_only(program, path, chance):
+    """--read-only answers what looks, and changes neither the store nor its folder, also where nothing can be written."""
+
+    def limit():
+        signal.signal(signal.SIGXFSZ, signal.SIG_IGN)
+        resource.setrlimit(resource.RLIMIT_FSIZE, (0, 0))
+
+    text = KEPT + b"mkd"
+    kept_file(path, text)
+    before = sorted(os.listdir(os.path.dirname(path)))
+    script = b"ls /\nmkdir /c\nrollingUpgrade query\nwhat\nrestart master\nls /\n"
+    wanted = [b"ok a/ b/", b"refused 40 ReadOnly", b"ok", b"refused 34 BadLine", b"refused 40 ReadOnly", b"ok a/ b/"]
+    pipe = subprocess.PIPE
+    run = subprocess.run([program, path, "--read-only"], input=script, stdout=pipe, stderr=pipe, timeout=60, preexec_fn=limit)
+    answers = run.stdout.splitlines()
+    if run.returncode or len(answers) != len(wanted) or any(not answer.startswith(one) for answer, one in zip(answers, wanted)):
+        return f"the status is {run.returncode}: {run.stdout!r} {run.stderr!r}"
+    if sorted(os.listdir(os.path.dirname(path))) != before:
+        return "a look changed the folder"
+    return unlike(path, text) or readers_and_a_writer(program, path)
+
+
+def readers_and_a_writer(program, path):
+    """Two may read a store at once, and nobody reads one that another process writes or the other way round."""
+    pipe = subprocess.PIPE
+    with subprocess.Popen([program, path, "--read-only"], stdin=pipe, stdout=pipe, stderr=subprocess.DEVNULL) as first:
+        first.stdin.write(b"ls /\n")
+        first.stdin.flush()
+        if first.stdout.readline() != b"ok a/ b/\n":
+            return "a reader doesn't answer"
+        second = ended(program, [path, "--read-only"], b"ls /\n")
+        writer = ended(program, [path], b"ls /\n")
+        first.communicate()
+    if second[:2] != (0, b"ok a/ b/\n") or writer[0] != 1 or "another process has it" not in writer[2]:
+        return f"beside a reader: {second} {writer}"
+    with subprocess.Popen([program, path], stdin=pipe, stdout=pipe, stderr=subprocess.DEVNULL) as first:
+        first.stdin.write(b"ls /\n")
+        first.stdin.flush()
+        first.stdout.readline()
+        second = ended(program, [path, "--read-only"], b"ls /\n")
+        first.communicate()
+    return None if second[0] == 1 and "another process has it" in second[2] else f"beside a writer: {second}"
+
+
+def is_upto(program, path, chance):
+    """--upto gives a store as it stood after a line of the file, its first line and marks counted too."""
+    kept_file(path)
+    for line, names in ((1, ""), (2, "a"), (3, "a"), (4, "ab"), (5, "ab")):
+        wanted = f"{' '.join(['ok', *(f'{one}/' for one in names)])}\nrefused 40 ReadOnly\n".encode()
+        status, answered, said = ended(program, [path, "--upto", str(line)], b"ls /\nmkdir /z\n")
+        if (status, answered) != (0, wanted):
+            return f"up to line {line} the status is {status}: {answered!r} {said}"
+    for line in (0, 6):
+        wrong = refused_at(program, [path, "--upto", str(line)], path, 1, f"it has 5 lines, and no line {line}")
+        if wrong:
+            return wrong
+    return unlike(path, KEPT)
+
+
+def needs_a_lab(program, path, chance):
+    """A line that harms a store is refused without --lab and isn't kept. What was kept of such lines is run again."""
+    kept_file(path)
+    harm = b"restart master\nhold on reply\nhold off\nlose 0 1\ndamage 0 1 0\ndeliver 1\n"
+    status, answered, said = ended(program, [path], harm)
+    if status or answered != b"refused 39 NeedsLab\n" * 6:
+        return f"the status is {status}: {answered!r} {said}"
+    wrong = unlike(path, KEPT)
+    if wrong:
+        return wrong
+    status, answered, said = ended(program, [path, "--lab"], b"restart master\n")
+    if status or b"NeedsLab" in answered:
+        return f"with --lab the status is {status}: {answered!r} {said}"
+    return lines_unlike(path, KEPT + b"restart master\n") or goes_on(program, path, "ab")
+
+
+def no_memory_for_a_line(program, path, chance):
+    """A line for which a node lacks memory ends the run and isn't kept, and a start with more memory takes the log."""
+
+    def limit():
+        resource.setrlimit(resource.RLIMIT_AS, (60_000 << 10, 60_000 << 10))
+
+    kept_file(path, marked([[(b"create /f", b"ok")]], FIRST_HEAD[:9] + b" 2 --servers 3 --racks 1 --replicas 3 --chunk 67108864 --block 65536"))
+    pipe = subprocess.PIPE
+    run = subprocess.run([program, path], input=b"write /f 30000000 21\nappend /f 2e\n", stdout=pipe, stderr=pipe, preexec_fn=limit, timeout=60)
+    if run.returncode != 1 or run.stdout or b"memory is lacking" not in run.stderr:
+        return f"the status is {run.returncode}: {run.stdout!r} {run.stderr!r}"
+    status, answered, said = ended(program, [path], b"write /f 30000000 21\nstat /f\n")
+    return None if status == 0 and b"refused" not in answered else f"the next start has status {status}: {answered!r} {said}"
+
+
 BREAKS = {
     "standard input is closed": is_closed(0),
     "standard output is closed": is_closed(1),
@@ -949,6 +1154,17 @@ BREAKS = {
     "a last line without its end": torn_line,
     "less memory at a start": less_memory,
     "more behind the last mark than a crash leaves": marks_are_lost,
+    "line ends are others": line_ends_are_others,
+    "marks are taken out": marks_are_taken_out,
+    "the end is gone": end_is_gone,
+    "a mark that isn't whole before the end": mark_is_too_early,
+    "zeros behind a log of the first form": first_form_with_zeros,
+    "what is cut off can't be put aside": cant_be_put_aside,
+    "--check": is_checked,
+    "--read-only": is_read_only,
+    "--upto": is_upto,
+    "without --lab": needs_a_lab,
+    "no memory for a line": no_memory_for_a_line,
 }
 
 

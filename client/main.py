@@ -23,6 +23,7 @@ def words_of() -> ArgumentParser:
     parser = ArgumentParser(prog="chunkfs", description="A client of a store that is kept in a file.", epilog="docs/CHUNKFS.md is its page.")
     for name, size in vars(Sizes()).items():
         parser.add_argument(f"--{name}", type=int, metavar="N", help=f"of a new store, {size} where it isn't given")
+    parser.add_argument("--lab", action="store_true", help="a shell's lines may harm the store too")
     parser.add_argument("store", type=Path, metavar="STORE", help="the file in which the store is kept; --memory for a new one without a file")
     add_commands(parser, SHELL)
     return parser
@@ -37,7 +38,7 @@ def main(words: list[str]) -> int:
     try:
         if asked.run is put:
             need_local(asked)
-        with Place(None if asked.store == MEMORY else asked.store, given).opened(asked.makes) as session:
+        with Place(None if asked.store == MEMORY else asked.store, given, is_lab=asked.lab).opened(asked.makes) as session:
             session.set_moment()
             return asked.run(session, asked)
     except BrokenPipeError:

@@ -74,6 +74,8 @@ class Place:
     given: dict[str, int] = field(default_factory=dict)
     # Whether the lines of a store without a file are kept, so that they can be run again.
     is_recorded: bool = True
+    # Whether lines that harm a store are answered too. One without a file answers them always.
+    is_lab: bool = False
 
     def sizes(self) -> Sizes:
         """Those of the file's first line, or those of a new store."""
@@ -90,7 +92,8 @@ class Place:
             return Session("chunkstore", given, self.sizes(), self)
         if not may_make and not self.file.exists():
             raise Failed(f"{self.file}: no store stands there; put, mkdir, import and shell make one")
-        return Session("chunkkeep", [str(self.file), *given], self.sizes(), self)
+        lab = ["--lab"] if self.is_lab else []
+        return Session("chunkkeep", [str(self.file), *given, *lab], self.sizes(), self)
 
 
 def next_piece(unsent: bytes) -> bytes:
@@ -209,9 +212,9 @@ class Session:
             raise self.ended() from None
 
     def tell_start(self) -> None:
-        """Says what a start has cut off its log."""
+        """Says what a start has put aside and cut off its log."""
         for line in os.pread(self.said.fileno(), 2_000, 0).decode(errors="replace").splitlines():
-            if line.endswith(" cut off"):
+            if line.endswith(" cut off") or " put aside in " in line:
                 warn(line)
 
     def last_said(self) -> str:

@@ -21,6 +21,8 @@ class StoreCase(unittest.TestCase):
     """A folder, and a store in a file there."""
 
     sizes: dict[str, int] = {}
+    # Whether the commands are those of a lab, whose lines may harm the store.
+    is_lab = False
 
     def setUp(self) -> None:
         room = tempfile.TemporaryDirectory(prefix="chunkfs-")
@@ -33,7 +35,7 @@ class StoreCase(unittest.TestCase):
     def words(self, *words: object) -> list[str]:
         """The words of a command over the store, with its sizes where it is a new one."""
         given = [word for name, size in self.sizes.items() for word in (f"--{name}", size)] if not self.store.exists() else []
-        return list(map(str, [*given, self.store, *words]))
+        return list(map(str, [*given, *(["--lab"] if self.is_lab else []), self.store, *words]))
 
     def command(self, *words: object) -> list[str]:
         """A command as a process of its own."""
@@ -54,12 +56,12 @@ class StoreCase(unittest.TestCase):
         return told
 
     def lines(self, *lines: str) -> None:
-        """Has the store answer lines of its own, each of which has to be accepted."""
+        """Has the store answer lines of its own, each of which has to be accepted, also those that harm it."""
         with self.session() as session:
             session.try_all(lines)
 
     def session(self) -> Session:
-        return Place(self.store, {} if self.store.exists() else self.sizes).opened(True)
+        return Place(self.store, {} if self.store.exists() else self.sizes, is_lab=True).opened(True)
 
     def local(self, name: str, content: bytes) -> Path:
         """A file of this machine."""

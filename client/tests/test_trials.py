@@ -30,6 +30,8 @@ def real_files(count: int) -> list[Path]:
 
 
 class Trials(StoreCase):
+    is_lab = True
+
     def tree(self, count: int) -> Path:
         """A directory with files of the repository."""
         top = self.folder / "tree"

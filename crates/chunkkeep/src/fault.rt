@@ -1,5 +1,6 @@
 use gs_keep::{KeepFault, ReplayFault, StoreFault, Wrong};
 use gs_keep_file::{FileFault, FileLog, LogFile, OpenFault};
+use gs_shell_script::RunFault;
 use std::io;
 use thiserror::Error;
 
@@ -12,6 +13,8 @@ pub(crate) enum Fault {
     NoStore,
     #[error("nothing stands there, and --existing makes no store")]
     NotThere,
+    #[error("nothing stands there")]
+    Absent,
     #[error("it is a symbolic link to a name under which nothing stands; no store is made there")]
     Dangling,
     #[error("it is empty, and no store; nothing is changed. A store is made where no file stands")]
@@ -38,8 +41,26 @@ pub(crate) enum Fault {
     Mark { line: u64, wrong: Wrong },
     #[error("a mark of it is damaged; nothing is changed")]
     Damaged,
-    #[error("no mark stands in its last {0} bytes, and a crash leaves fewer; nothing is changed")]
+    #[error("a line of it is longer than a line may be, and a mark stands after it; nothing is changed")]
+    LateMark,
+    #[error("line {0} begins as a mark that isn't whole, and others stand after it, which no crash leaves; nothing is changed")]
+    EarlyMark(u64),
+    #[error("its lines end with \\r\\n, marks too, so another program has written it anew; nothing is changed")]
+    Returns,
+    #[error("line {0} is longer than a line may be; nothing is changed")]
+    Long(u64),
+    #[error("{0} bytes stand after what is whole of it, and a crash leaves fewer; nothing is changed")]
     Unmarked(u64),
+    #[error("it was cut while it was read; nothing is changed")]
+    Shorter,
+    #[error("what stands after the lines that were answered can't be put aside, so it isn't cut off: {0}")]
+    Aside(io::Error),
+    #[error("it has {0} lines, and no line {1}")]
+    NoLine(u64, u64),
+    #[error("{0}")]
+    Script(RunFault),
+    #[error("standard output can't be written: {0}")]
+    Tell(io::Error),
     #[error("{0}")]
     Run(StoreFault),
 }
@@ -68,21 +89,35 @@ impl Fault {
         }
     }
 
-    /// Why a run over a log ended.
-    pub(crate) fn of_run<F: LogFile + Drop>(fault: StoreFault, log: FileLog<F>) -> Fault {
+    /// Why a run over a log ended. `unaside` is why what stands after its lines couldn't be put aside, if it couldn't.
+    pub(crate) fn of_run<F: LogFile + Drop>(
+        fault: StoreFault,
+        log: FileLog<F>,
+        unaside: Option<io::Error>,
+    ) -> Fault {
         match fault {
+            StoreFault::Aside => match unaside {
+                Some(error) => Fault::Aside(error),
+                None => Fault::Memory,
+            },
             StoreFault::Cut
             | StoreFault::Begin(KeepFault::Log)
             | StoreFault::Serve(KeepFault::Log) => Fault::of_log(log),
+            StoreFault::Replay(fault) => Fault::of_replay(fault),
+            fault => Fault::Run(fault),
+        }
+    }
+
+    /// Why the lines of a log can't be run again.
+    pub(crate) fn of_replay(fault: ReplayFault) -> Fault {
+        match fault {
             // The first line stands before those that are counted.
-            StoreFault::Replay(ReplayFault::BadLine(before)) => {
-                Fault::BadLine(before.saturating_add(2))
-            }
-            StoreFault::Replay(ReplayFault::Mark(before, wrong)) => Fault::Mark {
+            ReplayFault::BadLine(before) => Fault::BadLine(before.saturating_add(2)),
+            ReplayFault::Mark(before, wrong) => Fault::Mark {
                 line: before.saturating_add(2),
                 wrong,
             },
-            fault => Fault::Run(fault),
+            fault => Fault::Run(StoreFault::Replay(fault)),
         }
     }
 }

@@ -5,9 +5,11 @@
 ghost use Rattle.std.specs.Prelude.{◌≡◌, false, is_some};
 
 mod fault;
+mod looking;
 mod opening;
 mod patient;
 mod quoting;
+mod tail;
 mod telling;
 
 use fault::Fault;
@@ -16,11 +18,12 @@ use gs_journal::MemoryDisk;
 use gs_keep::{Answers, keep_on};
 use gs_keep_desk::KeptDesk;
 use gs_keep_file::{FileLog, LogFile, fill_standard};
-use gs_keep_options::{Asked, Shown, explanation, read_words, what_to_show};
+use gs_keep_options::{Asked, Shown, Task, explanation, read_words, what_to_show};
 use gs_nodes::empty_disks;
 use gs_shell_desk::Desk;
 use gs_shell_line::EndedLines;
-use opening::{Kept, opened};
+use looking::{check, look};
+use opening::{Held, Kept, opened};
 use patient::Patient;
 use quoting::line_text;
 use std::alloc::{AllocError, Global};
@@ -29,6 +32,7 @@ use std::fs::File;
 use std::io::{self, BufReader, BufWriter};
 use std::process::ExitCode;
 use std::rt::{Clock, Env, Files};
+use tail::Tail;
 use telling::Teller;
 
 /// The most bytes of the input that are held beside a line: so much comes together at most.
@@ -92,9 +96,9 @@ fn asked_for(rt: &(impl Print + Eprint + Env + AllocGlobal)) -> Result<Asked, Ex
 }
 
 /// A new store's desk, whose journal is in memory.
-fn new_desk(alloc: Global, config: Config) -> Result<KeptDesk<MemoryDisk>, Fault> {
+fn new_desk(alloc: Global, config: Config, is_lab: bool) -> Result<KeptDesk<MemoryDisk>, Fault> {
     match Desk::new(alloc, config, empty_disks(alloc)) {
-        Ok(desk) => Ok(KeptDesk::new(desk)),
+        Ok(desk) => Ok(KeptDesk::new(desk, is_lab)),
         Err(_) => Err(Fault::Memory),
     }
 }
@@ -115,19 +119,22 @@ fn give_up<F: LogFile>(rt: &(impl Eprint), path: &str, log: &mut FileLog<F>) {
 /// Runs the file's lines again, and then answers standard input on standard output.
 fn serve<'a, R: Files<File = File> + Input + Print + Eprint + Clock + AllocGlobal>(
     rt: &'a R,
-    path: &str,
+    asked: &'a Asked,
     kept: Kept<'a, R>,
 ) -> Result<(), Fault>
     requires { is_some kept.log.fault ≡ false }
 {
     let alloc = rt.alloc();
-    let Kept {
-        mut log,
+    let path = asked.path.as_str();
+    let Kept { mut log, held } = kept;
+    let Held {
+        form: _,
         config,
         head,
         extent,
         mut lines,
-    } = kept;
+        tail,
+    } = held;
     let input = Patient::new(rt, rt.reader());
     let Ok(reader) = BufReader::with_capacity(alloc, INPUT_BYTES, input) else {
         return Err(Fault::Memory);
@@ -135,7 +142,8 @@ fn serve<'a, R: Files<File = File> + Input + Print + Eprint + Clock + AllocGloba
     let Ok(writer) = BufWriter::new(alloc, io::writer(rt)) else {
         return Err(Fault::Memory);
     };
-    let mut desk = new_desk(alloc, config)?;
+    let mut desk = new_desk(alloc, config, asked.mode.is_lab)?;
+    let mut rest = Tail::new(rt, path, tail);
     let mut teller = Teller::new(rt, path, extent);
     match keep_on(
         alloc,
@@ -144,6 +152,7 @@ fn serve<'a, R: Files<File = File> + Input + Print + Eprint + Clock + AllocGloba
         &head,
         extent.whole,
         &mut lines,
+        &mut rest,
         &mut teller,
         &mut EndedLines::new(reader),
         &mut Answers::new(writer),
@@ -151,18 +160,24 @@ fn serve<'a, R: Files<File = File> + Input + Print + Eprint + Clock + AllocGloba
         Ok(()) => Ok(()),
         Err(fault) => {
             give_up(rt, path, &mut log);
-            Err(Fault::of_run(fault, log))
+            Err(Fault::of_run(fault, log, rest.into_fault()))
         }
     }
 }
 
-/// Opens the file, or makes it, and goes on with what it keeps.
+/// Opens the file, or makes it, and goes on with what it keeps; or looks at it.
 fn run(
     rt: &(impl Files<File = File> + Input + Print + Eprint + Clock + AllocGlobal),
     asked: &Asked,
 ) -> Result<(), Fault> {
-    let kept = opened(rt, asked)?;
-    serve(rt, &asked.path, kept)
+    match asked.mode.task() {
+        Task::Serve => {
+            let kept = opened(rt, asked)?;
+            serve(rt, asked, kept)
+        }
+        Task::Check => check(rt, asked),
+        Task::Look(upto) => look(rt, asked, upto),
+    }
 }
 
 /// Says on standard error why a run ends, and what stands in the line that it ends for, if it ends for one.

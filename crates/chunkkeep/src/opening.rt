@@ -1,15 +1,17 @@
-ghost use Rattle.std.specs.Prelude.{◌≡◌, true, false, IfOk, is_some};
+ghost use Rattle.std.specs.Prelude.{◌≡◌, false, IfOk, is_some};
 
 use crate::fault::Fault;
 use gs_base::Config;
-use gs_keep_file::{FileLog, NamedFile, OpenFault, Opened, Standing, make, open, what_stands};
+use gs_keep_file::{FileLog, NamedFile, Opened, Standing, make, open, open_to_read, what_stands};
 use gs_keep_head::{Form, HeadFault, HeadLine, head, read_head};
-use gs_keep_measure::{Measure, MeasureFault, is_nearly_mark, measure_all};
+use gs_keep_measure::{
+    Extent, ExtentFault, Measure, MeasureFault, TailFault, extent_of, measure_all, tail_fault,
+};
 use gs_keep_options::{Asked, Sizes};
 use gs_shell_line::{EndedLine, EndedLines, Line, content_of, next_line};
 use std::alloc::{AllocError, Global};
 use std::fs::File;
-use std::io::{self, BufReader, Read, Seek, SeekFrom, Take};
+use std::io::{self, BufReader, ErrorKind, Read, Seek, SeekFrom, Take};
 use std::rt::Files;
 
 /// The bytes of the file that are read at a time.
@@ -18,32 +20,25 @@ const FILE_BYTES: usize = 65_536;
 /// What the beginning of each first line is.
 const HEAD_WORD: &[u8] = b"chunkkeep ";
 
-/// The bytes of a mark.
-const MARK_BYTES: u64 = 153;
-
-/// The most bytes that a crash may leave behind the last mark: above those of a batch with its mark, which has at most one line behind a
-/// mebibyte of lines.
-const MOST_BEHIND: u64 = 4_194_304;
-
-/// How much of a file is run again.
-#[derive(Clone, Copy)]
-pub(crate) struct Extent {
-    /// The bytes that are run again, and those of the first line.
-    pub(crate) whole: u64,
-    /// The bytes behind them.
-    pub(crate) rest: u64,
-}
-
-/// A file that a store is kept in.
+/// What the file of a store holds.
 #[derive(Drop)]
-pub(crate) struct Kept<'a, R> {
-    pub(crate) log: FileLog<NamedFile<'a, R>>,
+pub(crate) struct Held {
+    pub(crate) form: Form,
     pub(crate) config: Config,
     /// The first line, with its end.
     pub(crate) head: Vec<u8>,
     pub(crate) extent: Extent,
     /// What is run again.
     pub(crate) lines: EndedLines<BufReader<Take<File>>>,
+    /// What stands after it.
+    pub(crate) tail: Vec<u8>,
+}
+
+/// A file that a store is kept in.
+#[derive(Drop)]
+pub(crate) struct Kept<'a, R> {
+    pub(crate) log: FileLog<NamedFile<'a, R>>,
+    pub(crate) held: Held,
 }
 
 /// The first bytes of a file.
@@ -59,49 +54,55 @@ fn measured(alloc: Global, file: File) -> Result<(File, Measure), Fault> {
         Ok(measure) => Ok((reader.into_inner(), measure)),
         Err(MeasureFault::Read(error)) => Err(Fault::Read(error)),
         Err(MeasureFault::Memory) => Err(Fault::Memory),
-        Err(MeasureFault::Damaged) => Err(Fault::Damaged),
+        Err(MeasureFault::Damaged) => Err(Fault::LateMark),
     }
 }
 
-/// Whether a file of so many bytes ends with what is a mark but for one byte.
-fn ends_with_nearly_mark(alloc: Global, file: &mut File, len: u64) -> io::Result<bool> {
-    let mut bytes = Vec::new(alloc);
-    file.seek(SeekFrom::Start(len.saturating_sub(MARK_BYTES)))?;
-    file.read_to_end(&mut bytes)?;
-    Ok(is_nearly_mark(&bytes))
-}
-
-/// The bytes of a file that are run again, and those of its first line. In a log of form 1 without a mark they are all whole lines, else
-/// all up to the last mark.
-fn whole_of(form: Form, measure: Measure, head_len: u64) -> Result<u64, Fault> {
-    if form == Form::Two || measure.marked > 0 {
-        return Ok(measure.marked.max(head_len));
-    }
-    if measure.is_lost {
-        return Err(Fault::Damaged);
-    }
-    Ok(measure.whole)
-}
-
-/// How much of a file is run again. A file that ends with what is a mark but for one byte is refused: a bit of it may have flipped. So is
-/// one with more behind its last mark than a crash may leave.
-fn extent_of(
-    alloc: Global,
+/// How much of a file is run again.
+fn extent_in(
     file: &mut File,
     form: Form,
     measure: Measure,
-    head_len: u64,
+    head_len: usize,
 ) -> Result<Extent, Fault> {
-    let whole = whole_of(form, measure, head_len)?;
     let len = file.seek(SeekFrom::End(0)).map_err(Fault::Read)?;
-    let rest = len.saturating_sub(whole);
-    if rest > MOST_BEHIND {
-        return Err(Fault::Unmarked(rest));
+    match extent_of(form == Form::Two, measure, head_len as u64, len) {
+        Ok(extent) => Ok(extent),
+        Err(ExtentFault::Shorter) => Err(Fault::Shorter),
+        Err(ExtentFault::Unmarked(rest)) => Err(Fault::Unmarked(rest)),
     }
-    if rest > 0 && ends_with_nearly_mark(alloc, file, len).map_err(Fault::Read)? {
-        return Err(Fault::Damaged);
+}
+
+/// What stands in a file after what is run again. It is held, since a crash leaves little of it.
+fn tail_in(alloc: Global, file: &mut File, extent: Extent) -> Result<Vec<u8>, Fault> {
+    let mut tail = Vec::new(alloc);
+    file.seek(SeekFrom::Start(extent.whole))
+        .map_err(Fault::Read)?;
+    let read = file.by_ref().take(extent.rest).read_to_end(&mut tail);
+    match read {
+        Ok(count) if count as u64 == extent.rest => Ok(tail),
+        Ok(_) => Err(Fault::Shorter),
+        Err(error) if error.kind() == ErrorKind::OutOfMemory => Err(Fault::Memory),
+        Err(error) => Err(Fault::Read(error)),
     }
-    Ok(Extent { whole, rest })
+}
+
+/// Refuses what no crash leaves after what is run again.
+fn check_tail(
+    form: Form,
+    measure: Measure,
+    extent: Extent,
+    head: &[u8],
+    tail: &[u8],
+) -> Result<(), Fault> {
+    let next = extent.lines.saturating_add(1);
+    match tail_fault(form == Form::Two, measure, head, tail) {
+        None => Ok(()),
+        Some(TailFault::Returns) => Err(Fault::Returns),
+        Some(TailFault::Mark(count)) => Err(Fault::EarlyMark(next.saturating_add(count))),
+        Some(TailFault::Damaged) => Err(Fault::Damaged),
+        Some(TailFault::Long) => Err(Fault::Long(next)),
+    }
 }
 
 /// Refuses sizes that are asked for and aren't the store's.
@@ -156,38 +157,78 @@ fn unfinished(alloc: Global, lines: &mut BufReader<Take<File>>) -> Fault {
     }
 }
 
-/// Takes up the store of a file.
-fn taken_up<'a, R: Files<File = File> + AllocGlobal>(
-    rt: &R,
-    opened: Opened<'a, R>,
-    sizes: &Sizes,
-) -> Result<Kept<'a, R>, Fault>
-    requires { is_some opened.log.fault ≡ false }
-    ensures { IfOk result (λ kept. is_some kept.log.fault ≡ false) }
-{
-    let alloc = rt.alloc();
-    let Opened { log, reader } = opened;
-    let (file, measure) = measured(alloc, reader)?;
-    let mut first = front(alloc, file, u64::MAX).map_err(Fault::Read)?;
-    if measure.whole == 0 {
-        return Err(unfinished(alloc, &mut first));
+/// The file, and how many bytes its first lines have, so many.
+fn first_lines(
+    alloc: Global,
+    file: File,
+    extent: Extent,
+    count: u64,
+) -> Result<(File, u64), Fault> {
+    if count == 0 || count > extent.lines {
+        return Err(Fault::NoLine(extent.lines, count));
     }
+    let mut reader = front(alloc, file, extent.whole).map_err(Fault::Read)?;
+    let mut lines = EndedLines::new(&mut reader);
+    let mut len: u64 = 0;
+    for _ in 0..count {
+        match lines.next(alloc).map_err(Fault::Read)?.line {
+            EndedLine::Text(line) => len = len.saturating_add(line.len() as u64),
+            EndedLine::NoMemory => return Err(Fault::Memory),
+            _ => return Err(Fault::Shorter),
+        }
+    }
+    drop(lines);
+    Ok((reader.into_inner().into_inner(), len))
+}
+
+/// What is run again of a file: all of its extent, or what stands there up to a line.
+fn lines_upto(
+    alloc: Global,
+    file: File,
+    extent: Extent,
+    upto: Option<u64>,
+) -> Result<EndedLines<BufReader<Take<File>>>, Fault> {
+    let (file, len) = match upto {
+        Some(count) => first_lines(alloc, file, extent, count)?,
+        None => (file, extent.whole),
+    };
+    let mut lines = EndedLines::new(front(alloc, file, len).map_err(Fault::Read)?);
+    lines.next(alloc).map_err(Fault::Read)?;
+    Ok(lines)
+}
+
+/// The first line of a file, with its end, and the file.
+fn head_in(alloc: Global, file: File) -> Result<(File, Vec<u8>), Fault> {
+    let mut first = front(alloc, file, u64::MAX).map_err(Fault::Read)?;
     let next = EndedLines::new(&mut first)
         .next(alloc)
         .map_err(Fault::Read)?;
-    let line = first_line(next.line)?;
-    let HeadLine { form, config } = head_of(alloc, &line)?;
+    let head = first_line(next.line)?;
+    Ok((first.into_inner().into_inner(), head))
+}
+
+/// Reads what a file holds: it is measured, its first line has to be that of a store of the sizes that are asked for, and what stands after what
+/// is run again has to be what a crash leaves. With `upto` it is read up to that line alone.
+fn held(alloc: Global, reader: File, sizes: &Sizes, upto: Option<u64>) -> Result<Held, Fault> {
+    let (file, measure) = measured(alloc, reader)?;
+    if measure.whole == 0 {
+        let mut first = front(alloc, file, u64::MAX).map_err(Fault::Read)?;
+        return Err(unfinished(alloc, &mut first));
+    }
+    let (mut file, head) = head_in(alloc, file)?;
+    let HeadLine { form, config } = head_of(alloc, &head)?;
     compare(sizes, &config)?;
-    let mut file = first.into_inner().into_inner();
-    let extent = extent_of(alloc, &mut file, form, measure, line.len() as u64)?;
-    let mut lines = EndedLines::new(front(alloc, file, extent.whole).map_err(Fault::Read)?);
-    lines.next(alloc).map_err(Fault::Read)?;
-    Ok(Kept {
-        log,
+    let extent = extent_in(&mut file, form, measure, head.len())?;
+    let tail = tail_in(alloc, &mut file, extent)?;
+    check_tail(form, measure, extent, &head, &tail)?;
+    let lines = lines_upto(alloc, file, extent, upto)?;
+    Ok(Held {
+        form,
         config,
-        head: line,
+        head,
         extent,
         lines,
+        tail,
     })
 }
 
@@ -253,13 +294,33 @@ fn opened_file<'a, R: Files<File = File> + AllocGlobal>(
     }
 }
 
-/// Opens the file that is asked for, or makes it, and reads its first line.
+/// Opens the file that is asked for, or makes it, and reads what it holds.
 pub(crate) fn opened<'a, R: Files<File = File> + AllocGlobal>(
     rt: &'a R,
     asked: &'a Asked,
 ) -> Result<Kept<'a, R>, Fault>
     ensures { IfOk result (λ kept. is_some kept.log.fault ≡ false) }
 {
-    let opened = opened_file(rt, asked)?;
-    taken_up(rt, opened, &asked.sizes)
+    let Opened { log, reader } = opened_file(rt, asked)?;
+    let held = held(rt.alloc(), reader, &asked.sizes, None)?;
+    Ok(Kept { log, held })
+}
+
+/// Opens the file that is asked for to read it alone, locked for that or not, and reads what it holds, or what it holds up to a line.
+pub(crate) fn looked_at<R: Files<File = File> + AllocGlobal>(
+    rt: &R,
+    asked: &Asked,
+    is_shared: bool,
+    upto: Option<u64>,
+) -> Result<Held, Fault> {
+    match what_stands(rt, &asked.path) {
+        Ok(Standing::Nothing) => return Err(Fault::Absent),
+        Ok(Standing::Dangling) => return Err(Fault::Dangling),
+        Ok(Standing::Something) => {}
+        Err(error) => return Err(Fault::Open(error)),
+    }
+    match open_to_read(rt, &asked.path, is_shared) {
+        Ok(reader) => held(rt.alloc(), reader, &asked.sizes, upto),
+        Err(fault) => Err(Fault::Opening(fault)),
+    }
 }

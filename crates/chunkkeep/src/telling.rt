@@ -1,5 +1,5 @@
-use crate::opening::Extent;
 use gs_keep::{Progress, Replayed};
+use gs_keep_measure::Extent;
 use std::rt::Clock;
 use std::time::Instant;
 
@@ -68,7 +68,7 @@ impl<R: Eprint + Clock> Progress for Teller<'_, R> {
         let rest = self.extent.rest;
         if rest > 0 {
             let _ = eprintln!(self.rt;
-                "chunkkeep: {path}: {rest} bytes behind what was answered are cut off"
+                "chunkkeep: {path}: {rest} bytes after what was answered are cut off"
             );
         }
     }

@@ -49,7 +49,7 @@ module _ {S : Type 0} (A : S → List ℕ → List ℕ → S → Type 0) (is_kep
 
   pub begins : (head script : List ℕ) (len : ℕ) (done : Replayed) (log log' log'' : Option Held) (first ledger ledger' : Ledger) (start mid : S) → ReadsLog head len log (Some script) → IsLedger first (beginning head)
       → Replays A is_kept start script done first ledger mid → LogDoes (shortened len) log log' → Closes done.is_open ledger ledger' log' log'' → Begins A is_kept start head script len log log'' ledger' mid
-  begins head script len done log log' log'' first ledger ledger' start mid reads told (number, p) cut closes =
+  begins head script len done log log' log'' first ledger ledger' start mid reads told p cut closes =
       let t = totals_behind (beginning head) p.batches in
       let (is, told') = p.is (beginning head) told in
       let text : script ≡ marked (beginning head) p.batches ++ text_of p.last = is ∙ ap (λ (l : List ℕ). marked (beginning head) p.batches ++ l) (append-nil (text_of p.last)) in
@@ -130,7 +130,7 @@ module _ {S : Type 0} (A : S → List ℕ → List ℕ → S → Type 0) (is_kep
 
   pub unbegun : (f : KeepFault) (head script : List ℕ) (len : ℕ) (done : Replayed) (log log' log'' : Option Held) (first ledger : Ledger) (start mid : S) → ReadsLog head len log (Some script) → IsLedger first (beginning head)
       → Replays A is_kept start script done first ledger mid → LogDoes (shortened len) log log' → SealFails f ledger log' log'' [] → IfSome log (λ h. LeavesAll (head ++ script) log'')
-  unbegun f head script len done log log' log'' first ledger start mid reads told (number, p) cut fails =
+  unbegun f head script len done log log' log'' first ledger start mid reads told p cut fails =
       if_some log _ _ (λ h rests. seal_leaves f ledger log' log'' (with_batch (totals_behind (beginning head) p.batches) p.last) (head ++ script) fails (p.is (beginning head) told).1 rests)
       (cut_rests head script len log log' reads cut)
 

@@ -174,16 +174,15 @@ module _ {S : Type 0} (A : S → List ℕ → List ℕ → S → Type 0) (is_kep
         },
       )
 
-  pub replays_all : (number lines : ℕ) (is_open : Bool) (xs : List ℕ) (left left' : Option (List ℕ)) (ledger ledger' ledger'' : Ledger) (start now new : S)
+  pub replays_all : (number lines marks : ℕ) (is_open : Bool) (xs : List ℕ) (left left' : Option (List ℕ)) (ledger ledger' ledger'' : Ledger) (start now new : S) → lines + marks ≡ number
       → ReplaysSoFar A is_kept start xs left number lines is_open ledger ledger' now → IfSome left (λ ys. ReplaysOne A is_kept replaying.End ys left' ledger' ledger'' now new)
-      → Replays A is_kept start xs (record { lines = lines; is_open = is_open }) ledger ledger'' new
-  replays_all number lines is_open xs left left' ledger ledger' ledger'' start now new (rest, is, p) one =
-      let (none, told, same) = subst (λ (o : Option (List ℕ)). IfSome o (λ ys. ReplaysOne A is_kept replaying.End ys left' ledger' ledger'' now new)) is one in (
-        number,
-        subst (λ (l : Ledger). ReplaysPart A is_kept start xs [] number lines is_open ledger l new) (sym told)
-            (subst (λ (s : S). ReplaysPart A is_kept start xs [] number lines is_open ledger ledger' s) (sym same)
-            (subst (λ (r : List ℕ). ReplaysPart A is_kept start xs r number lines is_open ledger ledger' now) none p)),
-      )
+      → Replays A is_kept start xs (record { lines = lines; marks = marks; is_open = is_open }) ledger ledger'' new
+  replays_all number lines marks is_open xs left left' ledger ledger' ledger'' start now new sum (rest, is, p) one =
+      let (none, told, same) = subst (λ (o : Option (List ℕ)). IfSome o (λ ys. ReplaysOne A is_kept replaying.End ys left' ledger' ledger'' now new)) is one in
+      subst (λ (l : Ledger). ReplaysPart A is_kept start xs [] (lines + marks) lines is_open ledger l new) (sym told)
+      (subst (λ (s : S). ReplaysPart A is_kept start xs [] (lines + marks) lines is_open ledger ledger' s) (sym same)
+      (subst (λ (n : ℕ). ReplaysPart A is_kept start xs [] n lines is_open ledger ledger' now) (sym sum)
+      (subst (λ (r : List ℕ). ReplaysPart A is_kept start xs r number lines is_open ledger ledger' now) none p)))
 
   pub replay_fails : (f : ReplayFault) (number lines : ℕ) (is_open : Bool) (xs : List ℕ) (left : Option (List ℕ)) (ledger ledger' : Ledger) (start now : S)
       → ReplaysSoFar A is_kept start xs left number lines is_open ledger ledger' now → IfSome left (λ ys. RefusesOne is_kept number f ys ledger') → ReplayFails A is_kept f start xs ledger

@@ -12,7 +12,7 @@ use Rattle.gs_keep_mark.specs.Ledgers.{IsLedger, is_full}
 use Rattle.gs_keep_mark.specs.Marks.{Totals, noted, starts_mark, text_of, with_batch}
 use Rattle.gs_keep_mark.specs.Started.{IsBatch, IsPlain}
 use Rattle.gs_keep_mark.specs.declared.Ledger.{Ledger}
-use Rattle.gs_keep.specs.Lines.{Turn, entries, lines_asked, texts_of}
+use Rattle.gs_keep.specs.Lines.{Turn, entries, lines_asked, texts_of, turned_away_text}
 use Rattle.gs_keep.specs.Running.{Gathers, LoggedAs, RunsOne, RunsSome}
 use Rattle.gs_keep.specs.declared.batch.Gathered.TheVariants as gathered
 use Rattle.gs_keep.proofs.Batches.{all_join, answers_join, entries_join, lines_join, text_join, unlines_join, with_join}
@@ -71,9 +71,22 @@ module _ {S : Type 0} (A : S → List ℕ → List ℕ → S → Type 0) (is_kep
     turn = record { line = line; text = memory_text; logged = false };
     line_is = refl;
     ended = λ logged. absurd (true≢false (sym logged));
-    runs = record { answers = inl (refl, refl); logged = (refl, inr refl) };
+    runs = record { answers = inl (refl, refl); logged = (refl, inr (inl refl)) };
     logged = kept ∙ sym (append-nil bytes);
     answered = told ∙ ap (λ (l : List ℕ). answers ++ (l ++ 10 ∷ [])) memory_is;
+    noted = λ t is. is;
+  }
+
+  -- a line is turned away
+  pub turned : (line : List ℕ) (s : S) (bytes answers answers' : List ℕ) (ledger : Ledger) → length (content line) ≤ longest_line → A s (content line) turned_away_text s
+      → answers' ≡ answers ++ (codes "refused 39 NeedsLab" ++ 10 ∷ []) → RunsOne A is_kept line s s bytes bytes answers answers' ledger ledger
+  turned line s bytes answers answers' ledger short answered told = record {
+    turn = record { line = line; text = turned_away_text; logged = false };
+    line_is = refl;
+    ended = λ logged. absurd (true≢false (sym logged));
+    runs = record { answers = answers_short line turned_away_text s s short answered; logged = (refl, inr (inr refl)) };
+    logged = sym (append-nil bytes);
+    answered = told;
     noted = λ t is. is;
   }
 

@@ -1,5 +1,5 @@
 -- What a run over a log does.
-use Rattle.std.specs.Prelude.{◌≡◌, ◌++◌, ℕ, Bool, true, false, List, [], take, map, Option, Some, IfSome, Result, Ok, Err}
+use Rattle.std.specs.Prelude.{◌≡◌, ◌++◌, ℕ, Bool, true, false, List, [], take, drop, map, Option, Some, IfSome, Result, Ok, Err}
 use Rattle.gs_keep_log.specs.Log.{Held, MayLeave, whole}
 use Rattle.gs_shell_script.specs.Run.{Runs, lines_of}
 use Rattle.gs_keep_mark.specs.Marks.{Entry, beginning, marked, text_of, totals_behind}
@@ -33,12 +33,17 @@ HasHead len h script head = take len (whole h) ≡ head ++ script
 abbrev pub ReadsLog : List ℕ → ℕ → Option Held → Option (List ℕ) → Type 0
 ReadsLog head len log logged = IfSome log (λ h. IfSome logged (λ script. HasHead len h script head))
 
+-- The rest of a log is what stands after its first `len` bytes.
+abbrev pub LeavesRest : ℕ → Option Held → List ℕ → Type 0
+LeavesRest len log rest = IfSome log (λ h. drop len (whole h) ≡ rest)
+
 -- ---- the fault
 
 -- a run has ended for a call of the log
 abbrev pub blames_log : {T : Type 0} → Result T StoreFault → Bool
 blames_log (Ok value) = false
 blames_log (Err (fault.Replay f)) = false
+blames_log (Err fault.Aside) = false
 blames_log (Err fault.Cut) = true
 blames_log (Err (fault.Begin keep.Memory)) = false
 blames_log (Err (fault.Begin keep.Read)) = false
@@ -60,6 +65,7 @@ IsTold (fault.Replay again.Memory) unlogged unread unsent = Unit {0}
 IsTold (fault.Replay (again.BadLine n)) unlogged unread unsent = Unit {0}
 IsTold (fault.Replay (again.Mark n wrong)) unlogged unread unsent = Unit {0}
 IsTold (fault.Replay again.TooMany) unlogged unread unsent = Unit {0}
+IsTold fault.Aside unlogged unread unsent = Unit {0}
 IsTold fault.Cut unlogged unread unsent = Unit {0}
 IsTold (fault.Begin f) unlogged unread unsent = Unit {0}
 IsTold (fault.Serve keep.Read) unlogged unread unsent = unread
@@ -68,6 +74,15 @@ IsTold (fault.Serve keep.Memory) unlogged unread unsent = Unit {0}
 IsTold (fault.Serve keep.Unended) unlogged unread unsent = Unit {0}
 IsTold (fault.Serve keep.TooMany) unlogged unread unsent = Unit {0}
 IsTold (fault.Serve keep.Log) unlogged unread unsent = Unit {0}
+
+-- The log is only cut, and the input only answered, once the rest doesn't stand in the log alone.
+abbrev pub AsideAs : {T : Type 0} → Result T StoreFault → Bool → Type 0
+AsideAs (Ok value) is_alone = is_alone ≡ false
+AsideAs (Err (fault.Replay f)) is_alone = Unit {0}
+AsideAs (Err fault.Aside) is_alone = Unit {0}
+AsideAs (Err fault.Cut) is_alone = is_alone ≡ false
+AsideAs (Err (fault.Begin f)) is_alone = is_alone ≡ false
+AsideAs (Err (fault.Serve f)) is_alone = is_alone ≡ false
 
 -- For a relation that says what may be answered to a line, and a test that says which lines a machine acts on.
 module _ {S : Type 0} (A : S → List ℕ → List ℕ → S → Type 0) (is_kept : List ℕ → Bool) where
@@ -110,6 +125,7 @@ module _ {S : Type 0} (A : S → List ℕ → List ℕ → S → Type 0) (is_kep
   abbrev pub StoreFails : StoreFault → S → List ℕ → List ℕ → List ℕ → Option (List ℕ) → ℕ → Option Held → Option Held → Option (List ℕ) → Option (List ℕ) → Type 0
   StoreFails (fault.Replay f) start head script input left len log log' out out' =
       (ledger : Ledger) × IsLedger ledger (beginning head) × ReplayFails A is_kept f start script ledger × (left ≡ Some input) × (log' ≡ log) × (out' ≡ out)
+  StoreFails fault.Aside start head script input left len log log' out out' = (log' ≡ log) × (left ≡ Some input) × (out' ≡ out)
   StoreFails fault.Cut start head script input left len log log' out out' = LeavesFront len log log' × (left ≡ Some input) × (out' ≡ out)
   StoreFails (fault.Begin f) start head script input left len log log' out out' = IfSome log (λ h. LeavesAll (head ++ script) log') × (left ≡ Some input) × (out' ≡ out)
   StoreFails (fault.Serve f) start head script input left len log log' out out' = StopsOn f start head script input left len log log' out out'

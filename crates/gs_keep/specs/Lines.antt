@@ -31,6 +31,10 @@ abbrev pub kept_behind : Totals → List Entry → Totals
 kept_behind t [] = t
 kept_behind t (e ∷ batch) = behind t (e ∷ batch)
 
+-- the answer to a line that isn't taken from the input, though it may stand in a log
+abbrev pub turned_away_text : List ℕ
+turned_away_text = codes "refused 39 NeedsLab"
+
 -- For a test that says which lines, without their ends, a machine acts on.
 module _ (is_kept : List ℕ → Bool) where
   -- a line with its end has to be logged

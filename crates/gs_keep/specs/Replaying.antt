@@ -1,9 +1,9 @@
 -- What it is to run the lines of a log again.
-use Rattle.std.specs.Prelude.{◌≡◌, ◌++◌, ◌∷◌, ◌+◌, ◌<◌, ◌≤◌, ◌≢◌, ◌⊎◌, ℕ, Bool, true, false, List, [], length, Option, Some}
+use Rattle.std.specs.Prelude.{◌≡◌, ◌++◌, ◌∷◌, ◌+◌, ◌<◌, ◌≤◌, ◌≢◌, ◌⊎◌, ℕ, Bool, true, false, List, [], length, take, codes, Option, Some, refl}
 use Rattle.std.specs.Io.BufRead.{ends_with_byte, take_through, drop_through}
 use Rattle.gs_shell_script.specs.Run.{AnswersLine}
 use Rattle.gs_keep_mark.specs.Ledgers.{IsLedger, is_full}
-use Rattle.gs_keep_mark.specs.Marks.{Entry, Totals, mark_of, marked, noted, passed, starts_mark, text_of, totals_behind, with_batch}
+use Rattle.gs_keep_mark.specs.Marks.{Entry, Totals, digits_of, mark_of, mark_text, marked, noted, passed, starts_mark, text_of, totals_behind, with_batch}
 use Rattle.gs_keep_mark.specs.Started.{AreBatches, IsBatch}
 use Rattle.gs_keep_mark.specs.declared.Ledger.{Ledger}
 use Rattle.gs_keep.specs.Lines.{MayStand, is_logged, joined}
@@ -12,15 +12,23 @@ use Rattle.gs_keep.specs.declared.again.Replaying.{Replaying}
 use Rattle.gs_keep.specs.declared.again.Replaying.TheVariants as replaying
 use Rattle.gs_keep.specs.declared.again.ReplayFault.{ReplayFault}
 use Rattle.gs_keep.specs.declared.again.ReplayFault.TheVariants as fault
+use Rattle.gs_keep.specs.declared.again.Wrong.{Wrong}
+use Rattle.gs_keep.specs.declared.again.Wrong.TheVariants as wrongs
 
 -- ---- why it ends
+
+-- The first part of a line that isn't as in a mark: what it says of the count of the lines before it, of their text, or of their answers.
+abbrev pub Differs : Wrong → List ℕ → List ℕ → Type 0
+Differs wrongs.Count line mark = take 22 line ≢ take 22 mark
+Differs wrongs.Text line mark = (take 22 line ≡ take 22 mark) × (take 87 line ≢ take 87 mark)
+Differs wrongs.Answers line mark = (take 87 line ≡ take 87 mark) × (line ≢ mark)
 
 -- a line isn't the mark that it has to be
 abbrev pub RefusesMark : ℕ → ReplayFault → List ℕ → Ledger → Type 0
 RefusesMark number fault.Read line ledger = ⊥
 RefusesMark number fault.Memory line ledger = Unit {0}
 RefusesMark number (fault.BadLine n) line ledger = ⊥
-RefusesMark number (fault.Mark n wrong) line ledger = (n ≡ number) × ((t : Totals) → IsLedger ledger t → line ≢ mark_of t)
+RefusesMark number (fault.Mark n wrong) line ledger = (n ≡ number) × ((t : Totals) → IsLedger ledger t → Differs wrong line (mark_of t))
 RefusesMark number fault.TooMany line ledger = ⊥
 
 -- For a test that says which lines a machine acts on.
@@ -38,7 +46,7 @@ module _ (is_kept : List ℕ → Bool) where
   RefusesText number fault.Read line ledger = ⊥
   RefusesText number fault.Memory line ledger = Unit {0}
   RefusesText number (fault.BadLine n) line ledger = (n ≡ number) × (is_logged is_kept line ≡ false)
-  RefusesText number (fault.Mark n wrong) line ledger = (n ≡ number) × (starts_mark line ≡ true) × ((t : Totals) → IsLedger ledger t → line ≢ mark_of t)
+  RefusesText number (fault.Mark n wrong) line ledger = (n ≡ number) × (starts_mark line ≡ true) × ((t : Totals) → IsLedger ledger t → Differs wrong line (mark_of t))
   RefusesText number fault.TooMany line ledger = ⊥
 
   -- The next line is none, or not the mark that it has to be, or no more can be counted.
@@ -48,7 +56,7 @@ module _ (is_kept : List ℕ → Bool) where
   RefusesOne number (fault.BadLine n) xs ledger =
       (n ≡ number) × (0 < length xs) × ((is_logged is_kept (take_through 10 xs) ≡ false) ⊎ (ends_with_byte 10 (take_through 10 xs) ≡ false))
   RefusesOne number (fault.Mark n wrong) xs ledger =
-      (n ≡ number) × (starts_mark (take_through 10 xs) ≡ true) × ((t : Totals) → IsLedger ledger t → take_through 10 xs ≢ mark_of t)
+      (n ≡ number) × (starts_mark (take_through 10 xs) ≡ true) × ((t : Totals) → IsLedger ledger t → Differs wrong (take_through 10 xs) (mark_of t))
   RefusesOne number fault.TooMany xs ledger = (18446744073709551615 ≤ number) ⊎ (is_full ledger ≡ true)
 
 -- For a relation that says what may be answered to a line, and a test that says which lines a machine acts on.
@@ -73,7 +81,7 @@ module _ {S : Type 0} (A : S → List ℕ → List ℕ → S → Type 0) (is_kep
 
   -- Each line of a script is run again, and each mark of it is what it has to be.
   abbrev pub Replays : S → List ℕ → Replayed → Ledger → Ledger → S → Type 0
-  Replays start script done ledger ledger' end = (number : ℕ) × ReplaysPart start script [] number done.lines done.is_open ledger ledger' end
+  Replays start script done ledger ledger' end = ReplaysPart start script [] (done.lines + done.marks) done.lines done.is_open ledger ledger' end
 
   abbrev pub ReplaysSoFar : S → List ℕ → Option (List ℕ) → ℕ → ℕ → Bool → Ledger → Ledger → S → Type 0
   ReplaysSoFar start xs left number lines is_open ledger ledger' now =
@@ -112,3 +120,16 @@ module _ {S : Type 0} (A : S → List ℕ → List ℕ → S → Type 0) (is_kep
     pub now : S
     pub part : ReplaysPart start script rest number lines is_open ledger told now
     pub refused : RefusesOne is_kept number fault rest told
+
+-- ---- an example
+
+digest_of_64 : List ℕ
+digest_of_64 = codes "0123456789abcdef0123456789abcdef0123456789abcdef0123456789abcdef"
+
+a_count_stands_first : take 22 (mark_text 3 digest_of_64 digest_of_64) ≡ codes "# 00000000000000000003"
+unfolding digits_of mark_text digest_of_64
+a_count_stands_first = refl
+
+then_a_text : take 87 (mark_text 3 digest_of_64 digest_of_64) ≡ codes "# 00000000000000000003 0123456789abcdef0123456789abcdef0123456789abcdef0123456789abcdef"
+unfolding digits_of mark_text digest_of_64
+then_a_text = refl

@@ -7,7 +7,7 @@ use Rattle.gs_keep_mark.specs.Ledgers.{IsLedger, is_full}
 use Rattle.gs_keep_mark.specs.Marks.{Totals, text_of, with_batch}
 use Rattle.gs_keep_mark.specs.Started.{IsBatch}
 use Rattle.gs_keep_mark.specs.declared.Ledger.{Ledger}
-use Rattle.gs_keep.specs.Lines.{MayStand, Turn, entries, is_logged, lines_asked, texts_of}
+use Rattle.gs_keep.specs.Lines.{MayStand, Turn, entries, is_logged, lines_asked, texts_of, turned_away_text}
 use Rattle.gs_keep.specs.declared.batch.Gathered.{Gathered}
 use Rattle.gs_keep.specs.declared.batch.Gathered.TheVariants as gathered
 
@@ -25,10 +25,10 @@ LeftBy gathered.Full rest left = left ≡ Some rest
 
 -- For a relation that says what may be answered to a line, and a test that says which lines a machine acts on.
 module _ {S : Type 0} (A : S → List ℕ → List ℕ → S → Type 0) (is_kept : List ℕ → Bool) where
-  -- What is logged may stand there. What isn't changes nothing, and is none of the grammar, or memory is lacking for it.
+  -- What is logged may stand there. What isn't changes nothing, and is none of the grammar, or memory is lacking for it, or it is turned away.
   abbrev pub LoggedAs : Bool → S → Turn → S → Type 0
   LoggedAs true old turn new = MayStand is_kept turn.line turn.text
-  LoggedAs false old turn new = (new ≡ old) × ((is_logged is_kept turn.line ≡ false) ⊎ (turn.text ≡ memory_text))
+  LoggedAs false old turn new = (new ≡ old) × ((is_logged is_kept turn.line ≡ false) ⊎ ((turn.text ≡ memory_text) ⊎ (turn.text ≡ turned_away_text)))
 
   pub record AnswersTurn (old : S) (turn : Turn) (new : S) : Type 0 where
     pub answers : AnswersLine A old turn.line turn.text new

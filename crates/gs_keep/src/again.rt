@@ -1,12 +1,12 @@
 // The lines of a log are run again.
-ghost use Rattle.std.specs.Prelude.{◌≡◌, ◌≢◌, ◌≤◌, ◌∷◌, true, false, List, ℕ, length, IfOk, IfErr, IfSome, OnOk, OnErr, string_bytes};
+ghost use Rattle.std.specs.Prelude.{◌≡◌, ◌≢◌, ◌≤◌, ◌∷◌, true, false, List, ℕ, length, take, IfOk, IfErr, IfSome, OnOk, OnErr, string_bytes};
 ghost use Rattle.std.specs.Io.BufRead.{ends_with_byte};
 ghost use Rattle.gs_shell_line.specs.Line.{content, longest_line};
 ghost use Rattle.gs_shell_script.specs.Run.{bad_line_text, memory_text};
 ghost use Rattle.gs_shell_line.specs.Ended.{HasNoMore, remaining};
 ghost use Rattle.gs_keep_mark.specs.Ledgers.{IsLedger, is_full};
 ghost use Rattle.gs_keep_mark.specs.Marks.{Totals, mark_of, passed, starts_mark};
-ghost use Rattle.gs_keep.specs.Replaying.{RefusesLine, RefusesMark, RefusesOne, RefusesText, ReplayFails, Replays, ReplaysOne, ReplaysText, RunsLine};
+ghost use Rattle.gs_keep.specs.Replaying.{Differs, RefusesLine, RefusesMark, RefusesOne, RefusesText, ReplayFails, Replays, ReplaysOne, ReplaysText, RunsLine};
 
 use crate::batch::{BAD_LINE, text_of};
 use crate::keeping::Keeping;
@@ -50,6 +50,8 @@ pub enum ReplayFault {
 pub struct Replayed {
     /// How many lines, without the marks.
     pub lines: u64,
+    /// How many marks.
+    pub marks: u64,
     /// Whether no mark stands behind the last of them.
     pub is_open: bool,
 }
@@ -136,12 +138,25 @@ fn run_logged<M: Keeping>(
     Ok(())
 }
 
-/// The part of a mark that differs from that of another.
-fn wrong_of(line: &[u8], mark: &[u8]) -> Wrong {
-    if line.get(..22) != mark.get(..22) {
+/// At most so many of the first bytes.
+fn front(bytes: &[u8], most: usize) -> &[u8]
+    ensures { result.now ≡ take most bytes.now }
+{
+    match bytes.get(..most) {
+        Some(front) => front,
+        None => bytes,
+    }
+}
+
+/// The first part of a line that isn't as in the mark that it has to be.
+fn wrong_of(line: &[u8], mark: &[u8]) -> Wrong
+    requires { line.now ≢ mark.now }
+    ensures { Differs result line.now mark.now }
+{
+    if front(line, 22) != front(mark, 22) {
         return Wrong::Count;
     }
-    if line.get(..87) != mark.get(..87) {
+    if front(line, 87) != front(mark, 87) {
         return Wrong::Text;
     }
     Wrong::Answers
@@ -234,16 +249,26 @@ pub fn replay<M: Keeping, B: BufRead, P: Progress>(
     ensures unread { IfErr result (λ e. e ≡ ReplayFault.Read → HasNoMore logged.new) }
 {
     let mut lines = 0;
+    let mut marks = 0;
     let mut is_open = false;
     for number in 0..u64::MAX {
         match replay_one(alloc, machine, ledger, logged, number)? {
-            Replaying::End => return Ok(Replayed { lines, is_open }),
+            Replaying::End => {
+                return Ok(Replayed {
+                    lines,
+                    marks,
+                    is_open,
+                });
+            }
             Replaying::Line => {
                 lines += 1;
                 is_open = true;
                 progress.passed(lines);
             }
-            Replaying::Mark => is_open = false,
+            Replaying::Mark => {
+                marks += 1;
+                is_open = false;
+            }
         }
     }
     Err(ReplayFault::TooMany)

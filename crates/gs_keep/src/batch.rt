@@ -30,6 +30,9 @@ pub(crate) struct Batch {
     pub(crate) answers: Vec<u8>,
 }
 
+/// The answer to a line of the input that is turned away.
+const TURNED_AWAY: &str = "refused 39 NeedsLab";
+
 /// What is known of the reader behind the lines that were run.
 #[derive(Clone, Copy, Debug, PartialEq, Eq)]
 pub(crate) enum Gathered {
@@ -117,6 +120,12 @@ fn run_text<M: Keeping>(
     ensures { OnOk result (length (content line.now) ≤ longest_line → ends_with_byte 10 line.now ≡ true → RunsOne M.Answers M.is_kept line.now machine.old machine.new batch.old.bytes.items batch.new.bytes.items
         batch.old.answers.items batch.new.answers.items ledger.old ledger.new) }
 {
+    let Ok(is_turned_away) = machine.turns_away(alloc, content_of(line)) else {
+        return put_answer(&mut batch.answers, MEMORY);
+    };
+    if is_turned_away {
+        return put_answer(&mut batch.answers, TURNED_AWAY);
+    }
     match machine.keeps(alloc, content_of(line)) {
         Ok(true) => run_kept(alloc, machine, ledger, line, batch),
         Ok(false) => run_other(alloc, machine, line, &mut batch.answers),

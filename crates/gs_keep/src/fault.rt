@@ -26,6 +26,9 @@ pub enum StoreFault {
     /// The lines of the log can't be run again. Nothing is read of the input, and the log isn't changed.
     #[error("{0}")]
     Replay(ReplayFault),
+    /// What stands in the log after what is run again can't be put aside. Nothing is read of the input, and the log isn't changed.
+    #[error("what stands after the lines that were answered can't be put aside")]
+    Aside,
     /// The log can't be cut behind what is run again. Nothing is read of the input.
     #[error("the log can't be written")]
     Cut,

@@ -3,11 +3,12 @@ ghost use Rattle.std.specs.Prelude.{◌≡◌, ◌≤◌, false, length, IfErr, 
 ghost use Rattle.gs_keep_log.specs.Log.{LogDoes, shortened, whole};
 ghost use Rattle.gs_shell_line.specs.Ended.{HasNoMore, remaining};
 ghost use Rattle.gs_keep.specs.Sending.{HasStopped, sent};
-ghost use Rattle.gs_keep.specs.Keeping.{IsTold, KeepsOn, LeavesFront, ReadsLog, StoreFails, blames_log};
+ghost use Rattle.gs_keep.specs.Keeping.{AsideAs, IsTold, KeepsOn, LeavesFront, LeavesRest, ReadsLog, StoreFails, blames_log};
 
 use crate::again::{Progress, replay};
 use crate::fault::StoreFault;
 use crate::keeping::Keeping;
+use crate::rest::Rest;
 use crate::sending::Answers;
 use crate::turns::{close, serve};
 use gs_keep_log::{Failed, Log};
@@ -29,23 +30,25 @@ fn cut<L: Log>(log: &mut L, len: u64) -> Result<(), Failed>
 
 /// Goes on with the store that a log has kept. `head` is the first line of the log with its end, and `logged` gives what stands behind it
 /// up to the log's first `len` bytes. The lines are run again, on a machine that begins new, and each mark has to be what it is by the lines
-/// and by what they are answered now. Then the log is cut behind its first `len` bytes, which is where the last mark ends. Of a log of
-/// form 1, which has no mark, it is where the last whole line ends, and then a mark is put there and synced. Then the input is answered as
-/// [`serve`] says, each line logged before it is answered.
+/// and by what they are answered now. Then `rest` is put aside, which is all that stands after the first `len` bytes, and only then the log is
+/// cut there. That is where the last mark ends. Of a log of form 1, which has no mark, it is where the last whole line ends, and then a mark
+/// is put there and synced. Then the input is answered as [`serve`] says, each line logged before it is answered.
 ///
 /// So what is answered is the end of what the machine answers to the log's lines and the input's, one behind the other; and what the
 /// log holds at the end stands for the store: run again from the beginning it leads there. Where a call fails, whatever a crash leaves has
 /// all that was answered, for good, and any bytes behind it: what a start makes of these says `a_start_runs_what_was_answered` of
 /// `gs_keep_mark`.
 ///
-/// Where the lines can't be run again, or the log not be cut, nothing of the input is read.
-pub fn keep_on<M: Keeping, L: Log, B: BufRead, R: BufRead, W: Write, P: Progress>(
+/// Where the lines can't be run again, or what stands after them not be put aside, the log isn't changed. Then, and where it can't be cut,
+/// nothing of the input is read.
+pub fn keep_on<M: Keeping, L: Log, B: BufRead, A: Rest, R: BufRead, W: Write, P: Progress>(
     alloc: Global,
     machine: &mut M,
     log: &mut L,
     head: &[u8],
     len: u64,
     logged: &mut EndedLines<B>,
+    rest: &mut A,
     progress: &mut P,
     reader: &mut EndedLines<R>,
     writer: &mut Answers<W>,
@@ -53,10 +56,13 @@ pub fn keep_on<M: Keeping, L: Log, B: BufRead, R: BufRead, W: Write, P: Progress
     requires goes_on { L.has_failed log.old ≡ false }
     requires within { IfSome (L.holds log.old) (λ h. len ≤ length (whole h)) }
     requires logged { ReadsLog head.now len (L.holds log.old) (remaining B.remaining logged.old) }
+    requires rest { LeavesRest len (L.holds log.old) (A.bytes rest.old) }
     ensures ok { OnOk result (IfSome (remaining B.remaining logged.old) (λ script. IfSome (remaining R.remaining reader.old) (λ input.
         KeepsOn M.Answers M.is_kept machine.old head.now script input len (L.holds log.old) (L.holds log.new) (sent W.contents writer.old) (sent W.contents writer.new) machine.new))) }
     ensures err { IfErr result (λ e. IfSome (remaining B.remaining logged.old) (λ script. IfSome (remaining R.remaining reader.old) (λ input.
         StoreFails M.Answers M.is_kept e machine.old head.now script input (remaining R.remaining reader.new) len (L.holds log.old) (L.holds log.new) (sent W.contents writer.old) (sent W.contents writer.new)))) }
+    ensures aside { AsideAs result (A.is_alone rest.new) }
+    ensures same { A.bytes rest.new ≡ A.bytes rest.old }
     ensures failed { L.has_failed log.new ≡ blames_log result }
     ensures told { IfErr result (λ e. IsTold e (HasNoMore logged.new) (HasNoMore reader.new) (HasStopped writer.new)) }
 {
@@ -66,6 +72,9 @@ pub fn keep_on<M: Keeping, L: Log, B: BufRead, R: BufRead, W: Write, P: Progress
         Err(fault) => return Err(StoreFault::Replay(fault)),
     };
     progress.ended(replayed);
+    if rest.put_aside().is_err() {
+        return Err(StoreFault::Aside);
+    }
     if cut(log, len).is_err() {
         return Err(StoreFault::Cut);
     }

@@ -1,7 +1,8 @@
 //! A client's desk, as a run over a log keeps it: lines of the grammar alone change anything.
 #![tactic(auto)]
 
-ghost use Rattle.std.specs.Prelude.{◌≡◌, IfOk};
+ghost use Rattle.std.specs.Prelude.{◌≡◌, ◌&&◌, not, IfOk};
+ghost use Rattle.gs_keep_desk.specs.Looks.{harms_line};
 
 use gs_journal::Disk;
 use gs_keep::Keeping;
@@ -10,41 +11,68 @@ use gs_shell_grammar::LineError;
 use gs_shell_script::Answering;
 use std::alloc::{AllocError, Global};
 
-/// A client's desk. Each line of the grammar is kept, also one that only reads.
+mod lines;
+mod looking;
+
+pub use lines::{harms, only_looks};
+pub use looking::LookingDesk;
+
+/// A client's desk. Each line of the grammar is kept, also one that only reads. A line that harms the store is turned away where the desk
+/// isn't one of a lab.
 pub struct KeptDesk<D: Disk> {
     desk: Desk<D>,
+    is_lab: bool,
 }
 
 impl<D: Disk + Drop> Drop for KeptDesk<D> {
     fn drop(self) {
-        let Self { desk: _ } = self;
+        let Self { desk: _, is_lab: _ } = self;
     }
 }
 
 impl<D: Disk + Drop> KeptDesk<D> {
-    pub fn new(desk: Desk<D>) -> KeptDesk<D>
-        ensures { result.desk ≡ desk }
+    pub fn new(desk: Desk<D>, is_lab: bool) -> KeptDesk<D>
+        ensures desk { result.desk ≡ desk }
+        ensures lab { result.is_lab ≡ is_lab }
     {
-        KeptDesk { desk }
+        KeptDesk { desk, is_lab }
+    }
+
+    /// What it has come to is only looked at from now on.
+    pub fn looking(self) -> LookingDesk<D>
+        ensures { result.desk ≡ self.desk }
+    {
+        let Self { desk, is_lab: _ } = self;
+        LookingDesk::new(desk)
     }
 }
 
 impl<D: Disk + Drop> Answering for KeptDesk<D> {
-    ghost use Rattle.gs_shell_desk.specs.Answering.{AnswersText};
+    ghost use Rattle.gs_keep_desk.specs.Keeps.{MayAnswer};
 
-    ghost Answers = { λ old line text new. AnswersText D.seen D.failures old.desk line text new.desk };
+    ghost Answers = { λ old line text new. MayAnswer D.seen D.failures old line text new };
 
+    /// Where a node of the store lacks memory, that is the answer, whatever the store would say.
     fn answer(&mut self, alloc: Global, line: &[u8]) -> Result<String, AllocError> {
-        self.desk.answer(alloc, line)
+        let answer = self.desk.answer(alloc, line);
+        if self.desk.wire.is_short {
+            return Err(AllocError);
+        }
+        answer
     }
 }
 
 impl<D: Disk + Drop> Keeping for KeptDesk<D> {
     ghost use Rattle.std.specs.Prelude.{is_some};
     ghost use Rattle.gs_shell_grammar.specs.Grammar.{line_request};
-    ghost use Rattle.gs_keep_desk.specs.Keeps.{marks_are_none, other_lines_are_refused, other_lines_change_nothing};
+    ghost use Rattle.gs_keep_desk.specs.Keeps.{harming_lines_are_turned_away, marks_are_none, other_lines_are_refused, other_lines_change_nothing};
+    ghost use Rattle.gs_keep_desk.specs.Looks.{harms_line};
 
     ghost is_kept = { λ line. is_some (line_request line) };
+
+    ghost may_turn_away = { harms_line };
+
+    ghost turned_away = { λ old line harming. harming_lines_are_turned_away D.seen D.failures old line harming };
 
     ghost changes_nothing = { λ old new line text. other_lines_change_nothing D.seen D.failures old new line text };
 
@@ -57,6 +85,17 @@ impl<D: Disk + Drop> Keeping for KeptDesk<D> {
             Ok(_) => Ok(true),
             Err(LineError::BadLine) => Ok(false),
             Err(LineError::Memory) => Err(AllocError),
+        }
+    }
+
+    /// A line that harms the store is turned away exactly where the desk isn't one of a lab.
+    fn turns_away(&self, alloc: Global, line: &[u8]) -> Result<bool, AllocError>
+        ensures { IfOk result (λ away. away ≡ not self.now.is_lab && harms_line line.now) }
+    {
+        match gs_shell_grammar::parse(alloc, line) {
+            Ok(command) => Ok(!self.is_lab && harms(&command)),
+            Err(LineError::Memory) => Err(AllocError),
+            Err(_) => Ok(false),
         }
     }
 }

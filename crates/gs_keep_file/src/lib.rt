@@ -5,6 +5,7 @@
 //! the file's name and length. Nothing is claimed of them but that they are safe and end. That the lock keeps others out is trusted too.
 #![tactic(auto)]
 
+mod aside;
 mod file;
 mod log;
 mod making;
@@ -12,6 +13,7 @@ mod named;
 mod opening;
 mod standard;
 
+pub use aside::{open_to_read, put_aside};
 pub use file::{FileFault, LogFile};
 pub use log::FileLog;
 pub use making::make;

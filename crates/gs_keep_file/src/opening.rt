@@ -115,7 +115,7 @@ pub(crate) fn beyond_standard(file: File) -> Result<File, OpenFault>
 }
 
 /// Refuses what is no ordinary file, and what is one of standard input, output and error too.
-fn check_kind<R: Files>(rt: &R, found: &Metadata) -> Result<(), OpenFault> {
+pub(crate) fn check_kind<R: Files>(rt: &R, found: &Metadata) -> Result<(), OpenFault> {
     if !found.is_file() {
         return Err(OpenFault::NotOrdinary);
     }

@@ -1,2 +1,4 @@
 pub mod Measure
 pub mod Steps
+pub mod Extent
+pub mod Tail

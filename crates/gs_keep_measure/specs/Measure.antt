@@ -1,7 +1,8 @@
 -- How far a log has whole lines, and marks.
-use Rattle.std.specs.Prelude.{◌≡◌, ◌==◌, ◌+◌, ◌++◌, ◌∷◌, ◌⊎◌, ◌&&◌, ◌||◌, ℕ, zero, suc, Bool, true, false, List, [], length, flat_map, nat_le, slice_index, codes, if◌then◌else◌, refl}
+use Rattle.std.specs.Prelude.{◌≡◌, ◌==◌, ◌<◌, ◌≤◌, ◌+◌, ◌++◌, ◌∷◌, ◌⊎◌, ◌&&◌, ◌||◌, ℕ, zero, suc, Bool, true, false, List, [], length, flat_map, nat_le, slice_index, codes, if◌then◌else◌, refl}
 use Rattle.std.specs.List.{AllByRecursion}
 use Rattle.std.specs.Io.BufRead.{ends_with_byte}
+use Rattle.gs_shell_line.specs.Line.{content, longest_line}
 use Rattle.gs_shell_script.specs.Run.{lines_of}
 use Rattle.gs_keep_mark.specs.Marks.{is_whole_mark}
 use Rattle.gs_keep_measure.specs.declared.Measure.{Measure}
@@ -20,8 +21,19 @@ NoneMark lines = AllByRecursion (λ line. is_whole_mark line ≡ false) lines
 abbrev pub LastIsMark : List (List ℕ) → Type 0
 LastIsMark lines = (lines ≡ []) ⊎ ((before : List (List ℕ)) × (mark : List ℕ) × (lines ≡ before ++ mark ∷ []) × (is_whole_mark mark ≡ true))
 
--- The first lines of a text end with its last mark, and so many bytes are theirs. So many more are those of the whole lines behind it, if none
--- is longer than a line may be: then comes at most one line without an end.
+-- it has its end, and is no longer than a line may be
+abbrev pub IsWhole : List ℕ → Type 0
+IsWhole line = (ends_with_byte 10 line ≡ true) × (length (content line) ≤ longest_line)
+
+-- At most one line without its end stands there; or, where a line is too long, these begin with it.
+abbrev pub StopsFirst : Bool → List (List ℕ) → Type 0
+StopsFirst false [] = Unit {0}
+StopsFirst false (line ∷ more) = (ends_with_byte 10 line ≡ false) × (more ≡ [])
+StopsFirst true [] = ⊥
+StopsFirst true (line ∷ more) = longest_line < length (content line)
+
+-- The first lines of a text end with its last mark, and so many bytes and lines are theirs. So many more are those of the whole lines after it.
+-- Then comes at most one line without an end, or one that is longer than a line may be and all after it.
 pub record Measures (text : List ℕ) (m : Measure) : Type 0 where
   pub front : List (List ℕ)
   pub back : List (List ℕ)
@@ -29,9 +41,33 @@ pub record Measures (text : List ℕ) (m : Measure) : Type 0 where
   pub parts : lines_of text ≡ front ++ (back ++ torn)
   pub last : LastIsMark front
   pub none : NoneMark (back ++ torn)
-  pub unended : AllByRecursion (λ line. ends_with_byte 10 line ≡ false) torn
+  pub are_whole : AllByRecursion IsWhole (front ++ back)
+  pub stops : StopsFirst m.is_lost torn
   pub marked_long : bytes_in front ≡ m.marked
-  pub whole_long : m.is_lost ≡ false → bytes_in front + bytes_in back ≡ m.whole
+  pub marked_many : length front ≡ m.marked_lines
+  pub whole_long : bytes_in (front ++ back) ≡ m.whole
+  pub whole_many : length (front ++ back) ≡ m.whole_lines
+
+-- a mark stands after a line that is longer than a line may be
+pub record HasLateMark (lines : List (List ℕ)) : Type 0 where
+  pub before : List (List ℕ)
+  pub long : List ℕ
+  pub between : List (List ℕ)
+  pub mark : List ℕ
+  pub after : List (List ℕ)
+  pub parts : lines ≡ before ++ (long ∷ (between ++ mark ∷ after))
+  pub is_long : longest_line < length (content long)
+  pub is_mark : is_whole_mark mark ≡ true
+
+-- there are more lines, or more bytes of them, than can be counted
+abbrev pub AreTooMany : List (List ℕ) → Type 0
+AreTooMany lines = (18446744073709551615 ≤ length lines) ⊎ (18446744073709551615 ≤ bytes_in lines)
+
+-- A text isn't measured where a mark stands after a line that is too long, or no more can be counted. Memory can only be lacking where there is a line.
+abbrev pub Refuses : MeasureFault → List ℕ → Type 0
+Refuses (fault.Read e) text = Unit {0}
+Refuses fault.Memory text = 0 < length (lines_of text)
+Refuses fault.Damaged text = HasLateMark (lines_of text) ⊎ AreTooMany (lines_of text)
 
 -- A measure that blames the reader is told so by it.
 abbrev pub IsTold : MeasureFault → Type 0 → Type 0

@@ -5,21 +5,30 @@ ghost use Rattle.std.specs.Prelude.{◌≡◌, ◌≤◌, ◌+◌, ◌<◌, List
 ghost use Rattle.std.specs.Io.BufRead.{drop_through, take_through};
 ghost use Rattle.gs_shell_line.specs.Ended.{HasNoMore, remaining};
 ghost use Rattle.gs_keep_mark.specs.Marks.{is_whole_mark};
-ghost use Rattle.gs_keep_measure.specs.Measure.{IsTold, Measures, is_nearly_mark, may_stand};
-ghost use Rattle.gs_keep_measure.specs.Steps.{Grows, TakesOne};
+ghost use Rattle.gs_keep_measure.specs.Measure.{IsTold, Measures, Refuses, is_nearly_mark, may_stand};
+ghost use Rattle.gs_keep_measure.specs.Steps.{CantTake, RefusesNext, Takes, TakesOne};
 
+mod extent;
+mod tail;
+
+pub use extent::{Extent, ExtentFault, MOST_BEHIND, extent_of};
 use gs_keep_mark::is_whole_mark;
 use gs_shell_line::{EndedLine, EndedLines};
 use std::alloc::Global;
 use std::io::{self, BufRead};
+pub use tail::{TailFault, tail_fault};
 
-/// How far a log has whole lines, and marks.
+/// How far a log has whole lines, and marks. A line that is longer than a line may be isn't whole, and none counts that stands after it.
 #[derive(Clone, Copy, Debug, PartialEq, Eq)]
 pub struct Measure {
     /// The bytes up to and with the last mark, or 0 where there is none.
     pub marked: u64,
-    /// The bytes up to and with the last whole line, unless one is longer than a line may be.
+    /// How many lines these are.
+    pub marked_lines: u64,
+    /// The bytes up to and with the last whole line.
     pub whole: u64,
+    /// How many lines these are.
+    pub whole_lines: u64,
     /// Whether a line is longer than a line may be.
     pub is_lost: bool,
 }
@@ -30,28 +39,34 @@ pub enum MeasureFault {
     Read(io::Error),
     /// Memory is lacking for a line.
     Memory,
-    /// A mark stands behind a line that is longer than a line may be, or there are more bytes than can be counted.
+    /// A mark stands after a line that is longer than a line may be, or there are more bytes than can be counted.
     Damaged,
 }
 
-/// The measure of a text with a whole line more.
+/// The measure of a text with a whole line more. Nothing where a mark stands after a line that is too long, or no more can be counted.
 fn with_line(now: Measure, line: &[u8]) -> Option<Measure>
-    ensures { IfSome result (λ more. Grows now more line.now) }
+    ensures { MatchOption result (CantTake now line.now) (λ more. Takes now more line.now) }
 {
+    let is_mark = is_whole_mark(line);
+    if now.is_lost {
+        return if is_mark { None } else { Some(now) };
+    }
     let whole = now.whole.checked_add(line.len() as u64)?;
-    if !is_whole_mark(line) {
+    let whole_lines = now.whole_lines.checked_add(1)?;
+    if is_mark {
         return Some(Measure {
-            marked: now.marked,
+            marked: whole,
+            marked_lines: whole_lines,
             whole,
-            is_lost: now.is_lost,
+            whole_lines,
+            is_lost: false,
         });
     }
-    if now.is_lost {
-        return None;
-    }
     Some(Measure {
-        marked: whole,
+        marked: now.marked,
+        marked_lines: now.marked_lines,
         whole,
+        whole_lines,
         is_lost: false,
     })
 }
@@ -63,6 +78,7 @@ fn measure_one<B: BufRead>(
     now: Measure,
 ) -> Result<Option<Measure>, MeasureFault>
     ensures more { IfOk result (λ more. IfSome (remaining B.remaining reader.old) (λ xs. TakesOne more xs (remaining B.remaining reader.new) now)) }
+    ensures refused { IfErr result (λ e. IfSome (remaining B.remaining reader.old) (λ xs. RefusesNext e xs now)) }
     ensures unread { IfErr result (λ e. IsTold e (HasNoMore reader.new)) }
 {
     let next = match reader.next(alloc) {
@@ -74,7 +90,9 @@ fn measure_one<B: BufRead>(
         EndedLine::NoMemory => Err(MeasureFault::Memory),
         EndedLine::TooLong => Ok(Some(Measure {
             marked: now.marked,
+            marked_lines: now.marked_lines,
             whole: now.whole,
+            whole_lines: now.whole_lines,
             is_lost: true,
         })),
         EndedLine::Text(line) => match with_line(now, &line) {
@@ -90,14 +108,17 @@ pub fn measure_all<B: BufRead>(
     reader: &mut EndedLines<B>,
 ) -> Result<Measure, MeasureFault>
     ensures measure { IfOk result (λ m. IfSome (remaining B.remaining reader.old) (λ text. Measures text m)) }
+    ensures refused { IfErr result (λ e. IfSome (remaining B.remaining reader.old) (λ text. Refuses e text)) }
     ensures unread { IfErr result (λ e. IsTold e (HasNoMore reader.new)) }
 {
     let mut now = Measure {
         marked: 0,
+        marked_lines: 0,
         whole: 0,
+        whole_lines: 0,
         is_lost: false,
     };
-    for _ in 0..u64::MAX {
+    for count in 0..u64::MAX {
         match measure_one(alloc, reader, now)? {
             Some(more) => now = more,
             None => return Ok(now),

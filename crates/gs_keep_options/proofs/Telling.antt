@@ -6,14 +6,14 @@ use Rattle.clap.specs.Kinds.{IsAmong, Kinds}
 use Rattle.clap.specs.declared.error.kind.ErrorKind.{ErrorKind}
 use Rattle.clap.specs.declared.error.kind.ErrorKind.TheVariants as kind
 use Rattle.clap.proofs.OnLiterals.{clap_on_literals}
-use Rattle.gs_keep_options.specs.Words.{app, sized_app}
+use Rattle.gs_keep_options.specs.Words.{app, mode_app, sized_app}
 
 pub simple : is_simple app ≡ true
-unfolding app sized_app clap_on_literals
+unfolding app mode_app sized_app clap_on_literals
 simple = refl
 
 pub free : is_simple_and_free app ≡ true
-unfolding app sized_app clap_on_literals
+unfolding app mode_app sized_app clap_on_literals
 free = refl
 
 pub none_alone : (fault : Kinds) (one : ErrorKind) → fault ≡ [] → fault ≡ one ∷ [] → ⊥

@@ -1,5 +1,5 @@
 -- What the words of a command line ask for.
-use Rattle.std.specs.Prelude.{◌≡◌, ◌≢◌, ◌∷◌, [], Bool, true, List, codes, string_bytes, if◌then◌else◌, Option, Some, None, Result, Ok, Err}
+use Rattle.std.specs.Prelude.{◌≡◌, ◌≢◌, ◌∷◌, ◌||◌, [], Bool, true, is_some, List, codes, string_bytes, if◌then◌else◌, Option, Some, None, Result, Ok, Err}
 use Rattle.std.specs.Option.{option_map}
 use Rattle.clap.specs.Faults.{fault_of}
 use Rattle.clap.specs.Walk.{is_empty}
@@ -12,6 +12,9 @@ use Rattle.gs_base.specs.declared.refusal.Refusal.{Refusal}
 use Rattle.gs_base.specs.declared.refusal.Refusal.TheVariants as refusal
 use Rattle.gs_shell_options.specs.Options.{flag_in, named_rule, number_in}
 use Rattle.gs_keep_options.specs.declared.Asked.{Asked}
+use Rattle.gs_keep_options.specs.declared.Mode.{Mode}
+use Rattle.gs_keep_options.specs.declared.Task.{Task}
+use Rattle.gs_keep_options.specs.declared.Task.TheVariants as task
 use Rattle.gs_keep_options.specs.declared.Shown.{Shown}
 use Rattle.gs_keep_options.specs.declared.Shown.TheVariants as shown
 use Rattle.gs_keep_options.specs.declared.Sizes.{Sizes}
@@ -34,8 +37,16 @@ sized_app = with_rule (with_rule (with_rule (with_rule (with_rule (with_rule (ne
     (number_rule (codes "chunk")))
     (number_rule (codes "block"))
 
+-- and what is to be done
+unfoldable pub mode_app : App
+mode_app = with_rule (with_rule (with_rule (with_rule sized_app
+    (named_rule (codes "check") SetTrue))
+    (named_rule (codes "read-only") SetTrue))
+    (named_rule (codes "lab") SetTrue))
+    (number_rule (codes "upto"))
+
 unfoldable pub app : App
-app = with_rule (with_rule sized_app (named_rule (codes "existing") SetTrue)) (named_rule (codes "version") Version)
+app = with_rule (with_rule mode_app (named_rule (codes "existing") SetTrue)) (named_rule (codes "version") Version)
 
 abbrev pub sizes_in : List Row → Sizes
 sizes_in rows = record {
@@ -46,14 +57,30 @@ sizes_in rows = record {
   block = number_in (codes "block") rows;
 }
 
--- a file, the sizes that are given, and whether the store has to be there already
+abbrev pub mode_in : List Row → Mode
+mode_in rows = record {
+  is_check = flag_in (codes "check") rows;
+  is_read_only = flag_in (codes "read-only") rows;
+  is_lab = flag_in (codes "lab") rows;
+  upto = number_in (codes "upto") rows;
+}
+
+-- what is to be done: a check goes before all else
+abbrev pub task_of : Mode → Task
+task_of m =
+    if m.is_check then task.Check
+    else if m.is_read_only || is_some m.upto then task.Look m.upto
+    else task.Serve
+
+-- a file, the sizes that are given, whether the store has to be there already, and what is to be done
 pub record Asks : Type 0 where
   pub path : Text
   pub sizes : Sizes
   pub is_existing : Bool
+  pub mode : Mode
 
 abbrev pub rows_asked : List Row → Option Asks
-rows_asked rows = option_map (λ path. record { path = path; sizes = sizes_in rows; is_existing = flag_in (codes "existing") rows }) (first_of (codes "FILE") rows)
+rows_asked rows = option_map (λ path. record { path = path; sizes = sizes_in rows; is_existing = flag_in (codes "existing") rows; mode = mode_in rows }) (first_of (codes "FILE") rows)
 
 -- what the words of a command line ask for, of which the first is the program's own
 abbrev pub words_asked : List Text → Option Asks
@@ -61,7 +88,7 @@ words_asked words = if is_empty (fault_of app words) then rows_asked (matches_of
 
 -- what is asked for, and Config exactly where nothing is, unless memory ran out
 abbrev pub AskedAs : Result Asked Refusal → Option Asks → Type 0
-AskedAs (Ok asked) asks = asks ≡ Some (record { path = string_bytes asked.path; sizes = asked.sizes; is_existing = asked.is_existing })
+AskedAs (Ok asked) asks = asks ≡ Some (record { path = string_bytes asked.path; sizes = asked.sizes; is_existing = asked.is_existing; mode = asked.mode })
 AskedAs (Err refusal.Config) asks = asks ≡ None
 AskedAs (Err refusal.Memory) asks = Unit {0}
 AskedAs (Err _) asks = ⊥

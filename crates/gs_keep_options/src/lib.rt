@@ -1,4 +1,5 @@
-//! The command line of a store that is kept: its file, the sizes that are asked for, and whether it has to be there already.
+//! The command line of a store that is kept: its file, the sizes that are asked for, whether it has to be there already, and what is to be
+//! done with it.
 #![tactic(auto)]
 
 ghost use Rattle.std.specs.Prelude.{◌≡◌, [], map, false, is_some, not, MatchResult, IfOk, string_bytes};
@@ -7,7 +8,7 @@ ghost use Rattle.clap.specs.Faults.{fault_of};
 ghost use Rattle.gs_base.specs.Configured.{Configured};
 ghost use Rattle.gs_shell_options.specs.Options.{RefusesWords, flag_in, named_rule};
 ghost use Rattle.gs_keep_options.specs.Sizes.{Tells, difference, fits, given_or, is_given_as};
-ghost use Rattle.gs_keep_options.specs.Words.{AskedAs, ShownAs, app, file_rule, number_rule, sized_app, sizes_in, words_asked};
+ghost use Rattle.gs_keep_options.specs.Words.{AskedAs, ShownAs, app, file_rule, mode_app, mode_in, number_rule, sized_app, sizes_in, task_of, words_asked};
 
 use clap::error::ErrorKind;
 use clap::{Arg, ArgAction, ArgMatches, Command};
@@ -34,6 +35,45 @@ pub struct Difference {
     pub size: u64,
 }
 
+/// What is to be done with a store, as the options say it.
+#[derive(Clone, Copy, Debug, PartialEq, Eq)]
+pub struct Mode {
+    /// The file is looked at, and nothing is answered.
+    pub is_check: bool,
+    /// Only lines that look are answered.
+    pub is_read_only: bool,
+    /// Lines that harm a store are answered too.
+    pub is_lab: bool,
+    /// The line of the file after which the store is looked at as it stood.
+    pub upto: Option<u64>,
+}
+
+/// What is to be done with a store.
+#[derive(Clone, Copy, Debug, PartialEq, Eq)]
+pub enum Task {
+    /// Lines are answered, and kept.
+    Serve,
+    /// The file is looked at.
+    Check,
+    /// Lines that look are answered, and nothing is kept: of the whole store, or of that which stood after a line of the file.
+    Look(Option<u64>),
+}
+
+impl Mode {
+    /// What is to be done: a check, if it is asked for, whatever else is.
+    pub fn task(&self) -> Task
+        ensures { result ≡ task_of self.now }
+    {
+        if self.is_check {
+            return Task::Check;
+        }
+        if self.is_read_only || self.upto.is_some() {
+            return Task::Look(self.upto);
+        }
+        Task::Serve
+    }
+}
+
 /// What a command line asks for.
 #[derive(Debug, Drop)]
 pub struct Asked {
@@ -42,6 +82,7 @@ pub struct Asked {
     pub sizes: Sizes,
     /// No new store is made.
     pub is_existing: bool,
+    pub mode: Mode,
 }
 
 /// What is to be shown for words that ask for no store.
@@ -196,6 +237,20 @@ const FILE_HELP: &str =
 
 const EXISTING_HELP: &str = "Makes no store where none is";
 
+const CHECK_HELP: &str =
+    "Looks whether FILE is whole and says what a start would do; nothing is locked or changed";
+
+const READ_ONLY_HELP: &str = "Answers lines that only look, and neither keeps nor changes anything";
+
+const LAB_HELP: &str =
+    "Answers lines that harm the store too: lose, damage, hold, deliver and restart";
+
+const UPTO: NumberOption<'static> = NumberOption {
+    name: "upto",
+    value_name: "LINE",
+    help: "Answers lines that only look, of the store as it stood after this line of FILE",
+};
+
 const VERSION_HELP: &str = "Shows the program's name and the form of the file";
 
 /// The word that isn't an option's.
@@ -222,12 +277,30 @@ fn sized_command<'a>(alloc: Global) -> Result<Command<'a>, AllocError>
     with_number(alloc, command, BLOCK)
 }
 
+/// The command with its file, its sizes, and what is to be done.
+#[tactic(auto, unfolding(crate::specs::Words::mode_app))]
+fn mode_command<'a>(alloc: Global) -> Result<Command<'a>, AllocError>
+    ensures { IfOk result (λ c. app_of c ≡ mode_app) }
+{
+    let command = sized_command(alloc)?;
+    let command = with_flag(alloc, command, "check", CHECK_HELP, ArgAction::SetTrue)?;
+    let command = with_flag(
+        alloc,
+        command,
+        "read-only",
+        READ_ONLY_HELP,
+        ArgAction::SetTrue,
+    )?;
+    let command = with_flag(alloc, command, "lab", LAB_HELP, ArgAction::SetTrue)?;
+    with_number(alloc, command, UPTO)
+}
+
 /// The command of which clap reads the words.
 #[tactic(auto, unfolding(crate::specs::Words::app))]
 fn command<'a>(alloc: Global) -> Result<Command<'a>, AllocError>
     ensures { IfOk result (λ c. app_of c ≡ app) }
 {
-    let command = sized_command(alloc)?;
+    let command = mode_command(alloc)?;
     let command = with_flag(
         alloc,
         command,
@@ -276,6 +349,18 @@ fn flag_in(matches: &ArgMatches<'_>, id: &str) -> bool
     }
 }
 
+/// What is to be done, as clap has read it.
+fn mode_in(matches: &ArgMatches<'_>) -> Mode
+    ensures { result ≡ mode_in (rows_of (found_of matches.now)) }
+{
+    Mode {
+        is_check: flag_in(matches, "check"),
+        is_read_only: flag_in(matches, "read-only"),
+        is_lab: flag_in(matches, "lab"),
+        upto: number_in(matches, "upto"),
+    }
+}
+
 /// What the words of the command line ask for, of which the first is the program's own. `Config` refuses words without a file or with two,
 /// an option that isn't there, one that is given twice, a value that is no whole number or lacks, `--help`, and `--version`.
 pub fn read_words(alloc: Global, words: &[String]) -> Result<Asked, Refusal>
@@ -289,6 +374,7 @@ pub fn read_words(alloc: Global, words: &[String]) -> Result<Asked, Refusal>
         path: String::from_str(alloc, path)?,
         sizes: sizes_in(&matches),
         is_existing: flag_in(&matches, "existing"),
+        mode: mode_in(&matches),
     })
 }
 

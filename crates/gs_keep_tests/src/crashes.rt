@@ -1,7 +1,7 @@
 use gs_base::{Config, Refusal};
-use gs_keep::{Answers, Progress, Replayed, keep_on};
+use gs_keep::{Answers, Progress, Replayed, Rest, keep_on};
 use gs_keep_desk::KeptDesk;
-use gs_keep_log::{Fault, MemoryLog};
+use gs_keep_log::{Failed, Fault, MemoryLog};
 use gs_keep_mark::is_mark;
 use gs_keep_measure::measure_all;
 use gs_nodes::empty_disks;
@@ -56,6 +56,22 @@ impl Progress for Nobody {
     fn cut(&mut self) {}
 }
 
+/// Nothing stands after what is run again.
+#[derive(Drop)]
+struct NoRest;
+
+impl Rest for NoRest {
+    ghost use Rattle.std.specs.Prelude.{[], false};
+
+    ghost bytes = { λ rest. [] };
+
+    ghost is_alone = { λ rest. false };
+
+    fn put_aside(&mut self) -> Result<(), Failed> {
+        Ok(())
+    }
+}
+
 /// What a run answered, and its log.
 #[derive(Drop)]
 struct Ran {
@@ -73,7 +89,7 @@ fn kept_on(
 ) -> Result<Ran, Fail> {
     let config = Config::new(3, 1, 3, 4, 16)?;
     let mut desk = match Desk::new(alloc, config, empty_disks(alloc)) {
-        Ok(desk) => KeptDesk::new(desk),
+        Ok(desk) => KeptDesk::new(desk, false),
         Err(unopened) => return Err(Fail::from(unopened.refusal)),
     };
     let mut log = MemoryLog::new(alloc, Vec::from_slice(alloc, logged)?, fault);
@@ -88,6 +104,7 @@ fn kept_on(
         b"",
         len,
         &mut lines,
+        &mut NoRest,
         &mut Nobody,
         &mut EndedLines::new(reader),
         &mut Answers::new(&mut answers),
@@ -193,6 +210,16 @@ fn each_crash_is_gone_on_from(rt: HostRuntime) -> Result<(), Fail> {
             }
         }
     }
+    Ok(())
+}
+
+// A line that harms the store isn't taken, and isn't logged.
+#[test]
+fn a_line_that_harms_is_turned_away(rt: HostRuntime) -> Result<(), Fail> {
+    let ran = kept_on(rt.alloc(), b"", b"restart master\nmkdir /a\n", 64, NO_FAULT)?;
+    assert!(rt; ran.answers.starts_with(b"refused 39 NeedsLab\nok\n"));
+    let log = ran.log.left(0)?;
+    assert!(rt; unmarked(rt.alloc(), &log)?.starts_with(b"mkdir /a\n"));
     Ok(())
 }
 
