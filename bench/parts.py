@@ -53,7 +53,7 @@ SERVER = [("server-store", "digest", 1.2), ("server-write", "digest", 2.4), ("se
 # A part of the master's journal and of its names, and the part whose time is taken off it.
 MASTER = [("calls", None), ("files", None), ("recover", "calls"), ("renew", "calls"), ("recover-renewed", "renew")]
 # Parts behind 100 files of one chunk each, and behind 100,000.
-SIZED = ["calls", "ticks"]
+SIZED = ["calls", "ticks", "leased-ticks"]
 
 
 def row(name, times, more=()):

@@ -184,10 +184,36 @@ def moves_rolled_back(n):
     return Kind("mv, rolled back", files(n), lines, n)
 
 
+def short_files(n):
+    """Files of one chunk each, of which a server has lost its replicas and told that."""
+    each = itertools.chain.from_iterable((f"create /f{i}", f"write /f{i} 0 61") for i in range(n))
+    return itertools.chain(each, (f"lose 0 {i}" for i in range(1, n + 1)), ["beat 0"])
+
+
+def replicas(n):
+    n = part(n, 5)
+    return Kind("replicate", short_files(n), itertools.repeat("replicate", n), n, TINY)
+
+
+def replicas_among_edits(n):
+    """Twenty edits come between them."""
+    n = part(n, 5)
+    lines = itertools.chain.from_iterable((["replicate"] if i % part(n, 20) else [f"mkdir /d{i}", "replicate"]) for i in range(n))
+    return Kind("replicate, edits", short_files(n), lines, n, TINY)
+
+
+def reports(n):
+    """A report from each of sixteen servers."""
+    n = part(n, 5)
+    each = itertools.chain.from_iterable((f"create /f{i}", f"write /f{i} 0 61") for i in range(n))
+    return Kind("beat, its chunks", each, [f"beat {i}" for i in range(16)] * 4, n, [*TINY, "--servers", "16"])
+
+
 KINDS = [
     mkdirs, creates, moves, deletes, look_ups, stats, lists,
     new_blocks, old_blocks, appends, short_appends, reads,
     snapshots, snapshot_of_files, upgrades, upgrade_of_files, moves_rolled_back,
+    replicas, replicas_among_edits, reports,
 ]  # fmt: skip
 
 

@@ -175,6 +175,19 @@ def upgrades(n):
     return Size("upgrades one after the other", lines, [f"ok ordinary {2 * n}"], options=SMALL)
 
 
+def healed(n):
+    """Files of which one server loses its replicas, made anew one after the other."""
+    files = names("f", n)
+    lines = itertools.chain(
+        itertools.chain.from_iterable((f"create /{f}", f"write /{f} 0 61") for f in files),
+        (f"lose 0 {i}" for i in range(1, n + 1)),
+        ["beat 0"],
+        itertools.repeat("replicate", n),
+        ["replicate", f"read /{files[0]} 0 9", f"read /{files[-1]} 0 9"],
+    )
+    return Size("files of which replicas are lost, healed", lines, ["ok none", "ok 61", "ok 61"], options=SMALL)
+
+
 def requests(n):
     """Requests of one client, after which nothing of them is kept."""
     lines = itertools.chain(["create /f", "write /f 0 61"], itertools.repeat("read /f 0 1", n))
@@ -200,6 +213,7 @@ SIZES = [
     (snapshots, 1_000),
     (writes_since_prepare, 100_000),
     (upgrades, 1_000),
+    (healed, 100_000),
     (requests, MILLION),
     (held_messages, MILLION),
 ]

@@ -69,7 +69,7 @@ pub tracked : IsSend (Tracked.the_field).row
 tracked = search (sendable, crosses, memory, slot, calls, handle) depth 200 fits 100000
 
 pub held_names : IsSend (HeldNames.the_field).row
-held_names = search (sendable, crosses, names, path) depth 200 fits 100000
+held_names = search (sendable, crosses, names, path, table, handle) depth 200 fits 100000
 
 pub recorded : IsSend (Recorded.the_field).row
 recorded = search (sendable, crosses, held_names, lease_table, epoch_end, table, handle, kept_reply, listed_inverse, prepared) depth 200 fits 100000

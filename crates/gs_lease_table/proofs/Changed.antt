@@ -12,8 +12,9 @@ use Rattle.std.proofs.lemmas.Cmp.{nat_cmp_total}
 use Rattle.gs_base.specs.Members.{is_member}
 use Rattle.gs_lease.specs.declared.lease.Lease.{Lease}
 use Rattle.gs_lease_table.specs.Settlings.{EachTellsSettled, MayTellSettled, tells_settled}
+use Rattle.gs_lease_table.specs.declared.tally.Brief.{Brief}
 use Rattle.gs_lease_table.specs.declared.tally.Tally.{Tally}
-use Rattle.gs_lease_table.specs.Tallies.{Adds, CanCount, HasCounted, IsTallyOf, has_primary, one_on, one_primary, replicas, settled_members, tally}
+use Rattle.gs_lease_table.specs.Tallies.{Adds, CanCount, Exchanges, HasCounted, IsTallyOf, brief_of, briefs_of, counts_leased, counts_on, has_primary, one_on, one_primary, replicas, settled_members, tally}
 
 abbrev Leases : Type 0
 Leases = fin.FinMap nat_cmp Lease
@@ -45,7 +46,7 @@ is_equal Less h = absurd (false≢true h)
 is_equal Equal h = refl
 is_equal Greater h = absurd (false≢true h)
 
-same_chunk : (q chunk : ℕ) → eq_by_cmp nat_cmp q chunk ≡ true → q ≡ chunk
+pub same_chunk : (q chunk : ℕ) → eq_by_cmp nat_cmp q chunk ≡ true → q ≡ chunk
 same_chunk q chunk is = fin.nat_cmp-IsAntisymmetric q chunk (is_equal (nat_cmp q chunk) is)
 
 pub none_removed : (m : Leases) (chunk : ℕ) → fin.get (fin.remove m chunk) chunk ≡ None
@@ -67,7 +68,7 @@ insert_found m chunk lease found = fin.same_map nat_cmp_total fin.nat_cmp-IsAnti
     there q true is = sym found ∙ ap (fin.get m) (sym (same_chunk q chunk is))
     there q false is = refl
 
-remove_absent : (m : Leases) (chunk : ℕ) → fin.get m chunk ≡ None → fin.remove m chunk ≡ m
+pub remove_absent : (m : Leases) (chunk : ℕ) → fin.get m chunk ≡ None → fin.remove m chunk ≡ m
 remove_absent m chunk none = fin.same_map nat_cmp_total fin.nat_cmp-IsAntisymmetric _ _ (λ q. fin.get-remove nat_cmp_total m chunk q ∙ there q (eq_by_cmp nat_cmp q chunk) refl)
   where
     there : (q : ℕ) (b : Bool) → eq_by_cmp nat_cmp q chunk ≡ b → cond b None (fin.get m q) ≡ fin.get m q
@@ -101,39 +102,82 @@ still_tally m n t chunk none is = same_tally m n t (is ∙ remove_absent m chunk
 fewer : (c n a b : ℕ) → c ≡ n → n ≡ a + b → a ≤ c
 fewer c n a b counted is = omega arith
 
-pub has_counted : (m : Leases) (t : Tally) (chunk : ℕ) (lease : Lease) → Some lease ≡ fin.get m chunk → IsTallyOf (fin.entries m) t → HasCounted lease t
-has_counted m t chunk lease found are = record {
-  replicas = record {
-    each = λ server low. fewer (slice_index t.replicas server) _ (one_on server lease) (replicas server (fin.entries (fin.remove m chunk))) (are.replicas.each server low) (tally_found (one_on server) chunk lease m (sym found));
-  };
+counted_before : (m : Leases) (t : Tally) (chunk : ℕ) (before : Option Lease) → before ≡ fin.get m chunk → IsTallyOf (fin.entries m) t → HasCounted (briefs_of before) t
+counted_before m t chunk None found are = record { replicas = λ server low. omega arith; primaries = omega arith }
+counted_before m t chunk (Some lease) found are = record {
+  replicas = λ server low. fewer (slice_index t.replicas server) _ (one_on server lease) (replicas server (fin.entries (fin.remove m chunk))) (are.replicas.each server low) (tally_found (one_on server) chunk lease m (sym found));
   primaries = fewer t.primaries _ (one_primary lease) (tally one_primary (fin.entries (fin.remove m chunk))) are.primaries (tally_found one_primary chunk lease m (sym found));
 }
+
+pub has_counted : (m : Leases) (t : Tally) (chunk : ℕ) (before : Option Lease) (brief : Option Brief) → brief ≡ briefs_of before → before ≡ fin.get m chunk → IsTallyOf (fin.entries m) t → HasCounted brief t
+has_counted m t chunk before brief told found are = subst (λ b. HasCounted b t) (sym told) (counted_before m t chunk before found are)
+
+pub some_brief : (brief : Brief) (lease : Lease) → brief ≡ brief_of lease → Some brief ≡ briefs_of (Some lease)
+some_brief brief lease is = ap Some is
 
 rest : (new old n a b : ℕ) → old ≡ new + a → old ≡ n → n ≡ a + b → new ≡ b
 rest new old n a b less counted is = omega arith
 
-pub without_one : (m n : Leases) (old new : Tally) (chunk : ℕ) (lease : Lease) → Some lease ≡ fin.get m chunk → n ≡ fin.remove m chunk → Adds lease new old → IsTallyOf (fin.entries m) old → IsTallyOf (fin.entries n) new
-without_one m n old new chunk lease found is less are = record {
+one_less : (m n : Leases) (old new : Tally) (chunk : ℕ) (lease : Lease) → Some lease ≡ fin.get m chunk → n ≡ fin.remove m chunk → Adds (Some (brief_of lease)) new old → IsTallyOf (fin.entries m) old → IsTallyOf (fin.entries n) new
+one_less m n old new chunk lease found is less are = record {
   replicas = record {
     each = λ server low.
-        rest (slice_index new.replicas server) (slice_index old.replicas server) _ (one_on server lease) _ (less.replicas.each server low) (are.replicas.each server low) (tally_found (one_on server) chunk lease m (sym found))
+        rest (slice_index new.replicas server) (slice_index old.replicas server) _ (one_on server lease) _ (less.replicas server low) (are.replicas.each server low) (tally_found (one_on server) chunk lease m (sym found))
         ∙ ap (λ m. replicas server (fin.entries m)) (sym is);
   };
   primaries = rest new.primaries old.primaries _ (one_primary lease) _ less.primaries are.primaries (tally_found one_primary chunk lease m (sym found)) ∙ ap (λ m. tally one_primary (fin.entries m)) (sym is);
 }
 
-more : (new old n a : ℕ) → new ≡ old + a → old ≡ n → new ≡ a + n
-more new old n a adds counted = omega arith
+pub without_one : (m n : Leases) (old new : Tally) (chunk : ℕ) (lease : Lease) (brief : Brief) → brief ≡ brief_of lease → Some lease ≡ fin.get m chunk → n ≡ fin.remove m chunk → Adds (Some brief) new old → IsTallyOf (fin.entries m) old → IsTallyOf (fin.entries n) new
+without_one m n old new chunk lease brief told found is less = one_less m n old new chunk lease found is (subst (λ b. Adds (Some b) new old) told less)
 
-pub with_one : (m n : Leases) (old new : Tally) (chunk : ℕ) (lease : Lease) → fin.get m chunk ≡ None → n ≡ fin.insert m chunk lease → Adds lease old new → IsTallyOf (fin.entries m) old → IsTallyOf (fin.entries n) new
-with_one m n old new chunk lease none is adds are = record {
+-- what a lease that is perhaps there weighs
+abbrev weighs : (Lease → ℕ) → Option Lease → ℕ
+weighs weight None = 0
+weighs weight (Some lease) = weight lease
+
+in_its_place : (n m rest a b : ℕ) → n ≡ a + rest → m ≡ b + rest → n + b ≡ m + a
+in_its_place n m rest a b with_it before = omega arith
+
+alone : (n m a : ℕ) → n ≡ a + m → n + 0 ≡ m + a
+alone n m a with_it = omega arith
+
+tally_exchanged : (weight : Lease → ℕ) (chunk : ℕ) (lease : Lease) (m : Leases) (before : Option Lease) → before ≡ fin.get m chunk →
+    tally weight (fin.entries (fin.insert m chunk lease)) + weighs weight before ≡ tally weight (fin.entries m) + weight lease
+tally_exchanged weight chunk lease m None found = alone _ _ (weight lease) (tally_insert weight chunk lease m (sym found))
+tally_exchanged weight chunk lease m (Some old) found =
+    in_its_place _ _ (tally weight (fin.entries (fin.remove m chunk))) (weight lease) (weight old)
+    (ap (λ n. tally weight (fin.entries n)) (sym (insert_removed m chunk lease)) ∙ tally_insert weight chunk lease (fin.remove m chunk) (none_removed m chunk))
+    (tally_found weight chunk old m (sym found))
+
+on_server : (server : ℕ) (before : Option Lease) → counts_on server (briefs_of before) ≡ weighs (one_on server) before
+on_server server None = refl
+on_server server (Some lease) = refl
+
+leased : (before : Option Lease) → counts_leased (briefs_of before) ≡ weighs one_primary before
+leased None = refl
+leased (Some lease) = refl
+
+told_anew : (new old b a w n m : ℕ) → new + b ≡ old + a → b ≡ w → n + w ≡ m + a → old ≡ m → new ≡ n
+told_anew new old b a w n m exchanges is anew counted = omega arith
+
+in_place : (m n : Leases) (old new : Tally) (chunk : ℕ) (before : Option Lease) (lease : Lease) → before ≡ fin.get m chunk → n ≡ fin.insert m chunk lease →
+    Exchanges (briefs_of before) (Some (brief_of lease)) old new → IsTallyOf (fin.entries m) old → IsTallyOf (fin.entries n) new
+in_place m n old new chunk before lease found is exchanges are = record {
   replicas = record {
     each = λ server low.
-        more (slice_index new.replicas server) (slice_index old.replicas server) _ (one_on server lease) (adds.replicas.each server low) (are.replicas.each server low)
-        ∙ sym (tally_insert (one_on server) chunk lease m none) ∙ ap (λ m. replicas server (fin.entries m)) (sym is);
+        told_anew (slice_index new.replicas server) (slice_index old.replicas server) _ (one_on server lease) _ _ _ (exchanges.replicas server low) (on_server server before) (tally_exchanged (one_on server) chunk lease m before found) (are.replicas.each server low)
+        ∙ ap (λ m. replicas server (fin.entries m)) (sym is);
   };
-  primaries = more new.primaries old.primaries _ (one_primary lease) adds.primaries are.primaries ∙ sym (tally_insert one_primary chunk lease m none) ∙ ap (λ m. tally one_primary (fin.entries m)) (sym is);
+  primaries =
+      told_anew new.primaries old.primaries _ (one_primary lease) _ _ _ exchanges.primaries (leased before) (tally_exchanged one_primary chunk lease m before found) are.primaries
+      ∙ ap (λ m. tally one_primary (fin.entries m)) (sym is);
 }
+
+pub exchanged_one : (m n : Leases) (old new : Tally) (chunk : ℕ) (before : Option Lease) (lease : Lease) (was : Option Brief) (brief : Brief) → was ≡ briefs_of before → brief ≡ brief_of lease → before ≡ fin.get m chunk → n ≡ fin.insert m chunk lease →
+    Exchanges was (Some brief) old new → IsTallyOf (fin.entries m) old → IsTallyOf (fin.entries n) new
+exchanged_one m n old new chunk before lease was brief stood told found is exchanges =
+    in_place m n old new chunk before lease found is (subst (λ w. Exchanges w (Some (brief_of lease)) old new) stood (subst (λ b. Exchanges was (Some b) old new) told exchanges))
 
 one_at_most : (b : Bool) (n k : ℕ) → n ≤ k → (if b then 1 else 0) + n ≤ suc k
 one_at_most true n k h = omega arith

@@ -1,1 +1,3 @@
 mod Changed
+pub mod Filtered
+mod Grouped

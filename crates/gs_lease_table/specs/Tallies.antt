@@ -1,11 +1,12 @@
 -- Of how many settled views each server is a member, and how many have a primary.
-use Rattle.std.specs.Prelude.{◌≡◌, ◌+◌, ◌<◌, ◌≤◌, ◌^◌, ℕ, Bool, List, [], ◌∷◌, slice_index, Option, Some, None, option_and_then, is_some, if◌then◌else◌, refl}
+use Rattle.std.specs.Prelude.{◌≡◌, ◌+◌, ◌<◌, ◌≤◌, ◌^◌, ℕ, Bool, List, [], ◌∷◌, length, slice_index, Option, Some, None, option_and_then, is_some, if◌then◌else◌, refl}
 use Rattle.gs_base.specs.Members.{is_member}
 use Rattle.gs_lease.specs.Told.{told_of}
 use Rattle.gs_lease.specs.declared.lease.Lease.{Lease}
 use Rattle.gs_lease.specs.declared.lease.Lease.TheVariants.{Quiet, Moving}
 use Rattle.gs_lease.specs.declared.view.Purpose.TheVariants as purposes
 use Rattle.gs_lease.specs.declared.view.View.{View}
+use Rattle.gs_lease_table.specs.declared.tally.Brief.{Brief}
 use Rattle.gs_lease_table.specs.declared.tally.Tally.{Tally}
 
 -- the members of a view, if there is one
@@ -46,14 +47,35 @@ pub record IsTallyOf (leases : List (ℕ × Lease)) (t : Tally) : Type 0 where
   pub replicas : AreReplicas leases t.replicas
   pub primaries : t.primaries ≡ tally one_primary leases
 
+-- ---- what decides where a lease counts
+
+abbrev pub brief_of : Lease → Brief
+brief_of lease = record { members = settled_members lease; many = length (settled_members lease); is_leased = has_primary lease }
+
+abbrev pub briefs_of : Option Lease → Option Brief
+briefs_of None = None
+briefs_of (Some lease) = Some (brief_of lease)
+
+abbrev pub primaries_of : Brief → ℕ
+primaries_of brief = if brief.is_leased then 1 else 0
+
+-- once on each server that is a member
+abbrev pub counts_on : ℕ → Option Brief → ℕ
+counts_on server None = 0
+counts_on server (Some brief) = if is_member brief.members server then 1 else 0
+
+abbrev pub counts_leased : Option Brief → ℕ
+counts_leased None = 0
+counts_leased (Some brief) = primaries_of brief
+
 -- ---- a lease more
 
 pub record AddsMembers (members old new : List ℕ) : Type 0 where
   pub each : (server : ℕ) → server < 16 → slice_index new server ≡ slice_index old server + (if is_member members server then 1 else 0)
 
-pub record Adds (lease : Lease) (old new : Tally) : Type 0 where
-  pub replicas : AddsMembers (settled_members lease) old.replicas new.replicas
-  pub primaries : new.primaries ≡ old.primaries + one_primary lease
+pub record Adds (brief : Option Brief) (old new : Tally) : Type 0 where
+  pub replicas : (server : ℕ) → server < 16 → slice_index new.replicas server ≡ slice_index old.replicas server + counts_on server brief
+  pub primaries : new.primaries ≡ old.primaries + counts_leased brief
 
 pub record CanCount (t : Tally) : Type 0 where
   pub replicas : (server : ℕ) → server < 16 → slice_index t.replicas server < 2 ^ 63
@@ -64,19 +86,25 @@ pub record CanCount (t : Tally) : Type 0 where
 pub record HasMembers (members counts : List ℕ) : Type 0 where
   pub each : (server : ℕ) → server < 16 → (if is_member members server then 1 else 0) ≤ slice_index counts server
 
-pub record HasCounted (lease : Lease) (t : Tally) : Type 0 where
-  pub replicas : HasMembers (settled_members lease) t.replicas
-  pub primaries : one_primary lease ≤ t.primaries
+pub record HasCounted (brief : Option Brief) (t : Tally) : Type 0 where
+  pub replicas : (server : ℕ) → server < 16 → counts_on server brief ≤ slice_index t.replicas server
+  pub primaries : counts_leased brief ≤ t.primaries
+
+-- ---- a lease in the place of another one
+
+pub record Exchanges (before after : Option Brief) (old new : Tally) : Type 0 where
+  pub replicas : (server : ℕ) → server < 16 → slice_index new.replicas server + counts_on server before ≡ slice_index old.replicas server + counts_on server after
+  pub primaries : new.primaries + counts_leased before ≡ old.primaries + counts_leased after
 
 -- ---- examples: chunk 1 stands on servers 0 and 2, chunk 2 on server 2 and moves, chunk 3 is new
 
-abbrev on_two : Lease
+abbrev pub on_two : Lease
 on_two = Quiet (record { stamp = record { epoch = 0; version = 1 }; count = 4; members = 0 ∷ 2 ∷ [] })
 
-abbrev moves : Lease
+abbrev pub moves : Lease
 moves = Moving (record { settled = Some (record { stamp = record { epoch = 0; version = 2 }; count = 0; members = 2 ∷ []; term = None }); stamp = record { epoch = 0; version = 3 }; purpose = purposes.Quiet; asked = 2 ∷ [] })
 
-abbrev is_new : Lease
+abbrev pub is_new : Lease
 is_new = Moving (record { settled = None; stamp = record { epoch = 0; version = 4 }; purpose = purposes.Quiet; asked = 0 ∷ 1 ∷ [] })
 
 on_server_2 : replicas 2 ((1, on_two) ∷ (2, moves) ∷ (3, is_new) ∷ []) ≡ 2

@@ -1,4 +1,4 @@
-ghost use Rattle.std.specs.Prelude.{◌≡◌, ◌<◌, ◌^◌, IfOk, MatchResult, OnOk, OnSome, None, true, ℕ, length, map};
+ghost use Rattle.std.specs.Prelude.{◌≡◌, ◌<◌, ◌^◌, ◌==◌, IfOk, IfSome, MatchResult, OnOk, OnSome, None, true, ℕ, length, map};
 ghost use Rattle.std.specs.Option.{option_copied};
 ghost use Rattle.std.specs.FinMap as fin;
 ghost use Rattle.std.specs.List.{list_any};
@@ -8,21 +8,26 @@ ghost use Rattle.gs_lease.specs.Chunks.{IsAllQuiet, RefusedFor};
 ghost use Rattle.gs_lease.specs.declared.lease.Lease.{Lease as AnyLease};
 ghost use Rattle.gs_base_table.specs.Slots.{GivesUpRoom, HasRoom, KeepsRoom, live};
 ghost use Rattle.gs_lease_table.specs.Settlings.{EachTellsSettled, MayTellSettled, tells_settled};
-ghost use Rattle.gs_lease_table.specs.Tallies.{AreReplicas, has_primary};
+ghost use Rattle.gs_base.specs.Members.{is_member};
+ghost use Rattle.gs_lease_table.specs.Groups.{AreThose};
+ghost use Rattle.gs_lease_table.specs.Tallies.{AreReplicas, has_primary, settled_members};
 
-use crate::tally::{Tally, are_few};
-use gs_base::{Handle, Refusal};
+use crate::groups::{Groups, MEMBERLESS, PRIMARIES};
+use crate::tally::{Brief, Tally, are_few, told_briefly};
+use gs_base::{Handle, Refusal, ServerId};
 use gs_base_table::{Entries, Table};
 use gs_lease::{AllQuiet, Lease};
 use std::alloc::{AllocError, Global};
 use std::marker::Model;
 
 /// The leases of a master's chunks, each of which tells a settled view: a [`Table`] that keeps count of the settled views of which
-/// each server is a member, and of those that have a primary. A change costs what a table's costs and a look at each server; none
-/// looks at another chunk.
+/// each server is a member, and of those that have a primary. Beside it stand sets of the chunks that each server has, of those that have
+/// a primary, and of those that have so many members. A change costs what a table's costs and a look at each of these; none looks at
+/// another chunk. Where memory is wanting for a set they all go, and nothing else comes of that.
 pub struct LeaseTable {
     leases: Table<Handle, Lease>,
     tally: Tally,
+    groups: Groups,
 }
 
 impl Drop for LeaseTable {
@@ -30,6 +35,7 @@ impl Drop for LeaseTable {
         let Self {
             leases: _,
             tally: _,
+            groups: _,
         } = self;
     }
 }
@@ -42,12 +48,13 @@ impl Model for LeaseTable {
     ghost use Rattle.gs_base_table.specs.Slots.{live};
     ghost use Rattle.gs_lease_table.specs.Settlings.{EachTellsSettled};
     ghost use Rattle.gs_lease_table.specs.Tallies.{IsTallyOf};
+    ghost use Rattle.gs_lease_table.specs.Groups.{AreGroupsOf};
 
     ghost Value = { List (ℕ × Option Lease) };
 
     ghost view = { λ t. t.leases };
 
-    ghost invariant = { λ t. IsTallyOf (fin.entries (live nat_cmp t.leases)) t.tally × EachTellsSettled (live nat_cmp t.leases) };
+    ghost invariant = { λ t. IsTallyOf (fin.entries (live nat_cmp t.leases)) t.tally × EachTellsSettled (live nat_cmp t.leases) × AreGroupsOf (live nat_cmp t.leases) t.groups.sets.items };
 }
 
 impl LeaseTable {
@@ -60,6 +67,7 @@ impl LeaseTable {
                 replicas: [0; 16],
                 primaries: 0,
             },
+            groups: Groups::new(alloc),
         }
     }
 
@@ -75,6 +83,27 @@ impl LeaseTable {
         ensures { result ≡ list_any (λ (e : ℕ × AnyLease). has_primary e.1) (fin.entries (live nat_cmp self.now)) }
     {
         0 < self.tally.primaries
+    }
+
+    /// The chunks of whose settled views a server is a member. There are none of any group where memory was wanting for one.
+    pub fn on_server(&self, server: ServerId) -> Option<&Table<Handle, bool>>
+        ensures { IfSome result (λ chunks. AreThose (λ lease. is_member (settled_members lease) server) (live nat_cmp self.now) (live nat_cmp chunks.now)) }
+    {
+        self.groups.get(server.number() as usize)
+    }
+
+    /// The chunks whose settled views have a primary.
+    pub fn with_primary(&self) -> Option<&Table<Handle, bool>>
+        ensures { IfSome result (λ chunks. AreThose has_primary (live nat_cmp self.now) (live nat_cmp chunks.now)) }
+    {
+        self.groups.get(PRIMARIES)
+    }
+
+    /// The chunks whose settled views have so many members, which are at most 16.
+    pub fn with_members(&self, many: usize) -> Option<&Table<Handle, bool>>
+        ensures { IfSome result (λ chunks. AreThose (λ lease. length (settled_members lease) == many) (live nat_cmp self.now) (live nat_cmp chunks.now)) }
+    {
+        self.groups.get(many.checked_add(MEMBERLESS)?)
     }
 
     /// This table, if every chunk of it is quiet. `NotQuiet` with the lowest that isn't. It takes no memory.
@@ -121,11 +150,13 @@ impl LeaseTable {
         ensures put { live nat_cmp self.new ≡ fin.insert (live nat_cmp self.old) chunk lease }
         ensures keeps { KeepsRoom nat_cmp self.old self.new }
     {
-        let before = self.take(chunk);
         are_few(&self.leases);
-        self.tally.add(&lease);
-        self.leases.put(chunk, lease);
-        before
+        let after = Some(Brief::of(&lease));
+        let stood = self.leases.replace(chunk, lease);
+        let before = told_briefly(&stood);
+        self.tally.exchange(&before, &after);
+        self.groups.exchange(chunk, &before, &after);
+        stood
     }
 
     /// The same, where what stood there isn't wanted any more.
@@ -146,7 +177,9 @@ impl LeaseTable {
         ensures keeps { KeepsRoom nat_cmp self.old self.new }
     {
         let lease = self.leases.take(chunk)?;
-        self.tally.subtract(&lease);
+        let before = Some(Brief::of(&lease));
+        self.tally.subtract(&before);
+        self.groups.exchange(chunk, &before, &None);
         Some(lease)
     }
 
@@ -157,7 +190,9 @@ impl LeaseTable {
         ensures room { GivesUpRoom nat_cmp self.old self.new chunk }
     {
         let lease = self.leases.remove(chunk)?;
-        self.tally.subtract(&lease);
+        let before = Some(Brief::of(&lease));
+        self.tally.subtract(&before);
+        self.groups.exchange(chunk, &before, &None);
         Some(lease)
     }
 

@@ -246,8 +246,15 @@ impl Event {
         self.replicate_to(req, chunk, targets)
     }
 
+    /// The chunks of visible paths are found, and kept until the names change.
+    fn see_visible(&mut self)
+        ensures { self.new ≡ self.old }
+    {
+        self.recorded.see_visible();
+    }
+
     /// The chunk that needs a replica most gets one.
-    pub fn replicate(&mut self, config: &Config, req: ReqId) -> Result<(), Refusal>
+    fn replicate_most_needed(&mut self, config: &Config, req: ReqId) -> Result<(), Refusal>
         requires { IsUnderWay self.old }
         ensures steps { EventSteps (replicates config.now (state_at self.old) req) self.old result self.new }
         ensures back { GoesBack self.old self.new }
@@ -256,6 +263,16 @@ impl Event {
             Some(chunk) => self.replicate_chunk(config, req, chunk),
             None => self.answer(req, Answer::Copied(None)),
         }
+    }
+
+    /// The same. Which chunks are visible is known for the next time too.
+    pub fn replicate(&mut self, config: &Config, req: ReqId) -> Result<(), Refusal>
+        requires { IsUnderWay self.old }
+        ensures steps { EventSteps (replicates config.now (state_at self.old) req) self.old result self.new }
+        ensures back { GoesBack self.old self.new }
+    {
+        self.see_visible();
+        self.replicate_most_needed(config, req)
     }
 }
 

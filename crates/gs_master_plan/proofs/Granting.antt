@@ -1,5 +1,5 @@
 -- Where no settled view has a primary, no lease is granted.
-use Rattle.std.proofs.Common.{◌≡◌, ◌∙◌, ◌&&◌, ◌||◌, ℕ, Bool, true, false, not, cond, List, [], ◌∷◌, Option, Some, None, refl, ap, sym}
+use Rattle.std.proofs.Common.{◌≡◌, ◌∙◌, ◌&&◌, ◌||◌, ◌++◌, ℕ, Bool, true, false, not, cond, List, [], ◌∷◌, filter, Option, Some, None, refl, ap, sym}
 use Rattle.std.specs.Prelude.{flat_map, option_and_then, option_map, is_some}
 use Rattle.std.specs.FinMap as fin
 use Rattle.std.specs.List.{list_any}
@@ -7,6 +7,8 @@ use Rattle.std.specs.Ordering.{nat_cmp, eq_by_cmp}
 use Rattle.gs_lease.specs.Told.{told_of}
 use Rattle.gs_lease.specs.declared.lease.Lease.{Lease}
 use Rattle.gs_lease.specs.declared.view.View.{View}
+use Rattle.gs_lease_table.proofs.Filtered.{filter_same}
+use Rattle.gs_lease_table.specs.Groups.{AreThose, passes}
 use Rattle.gs_lease_table.specs.Tallies.{has_primary}
 use Rattle.gs_msg.specs.declared.message.Message.{Message}
 use Rattle.gs_base_table.specs.Slots.{live}
@@ -62,3 +64,32 @@ none_granted s r chunks same none = nothing_sent (λ chunk. granted_at chunk (ch
     granted_none chunk s
     (ap (λ m. has_term (fin.get m chunk)) same ∙ ap has_term (get_chunks (live nat_cmp r.leases) chunk)
     ∙ ap (λ o. has_term (option_and_then settled_by o)) (fin.get-entries (live nat_cmp r.leases) chunk) ∙ has_none chunk (fin.entries (live nat_cmp r.leases)) none))
+
+-- ---- where the chunks that have a primary are kept
+
+only_passing : (f : ℕ → List Message) (test : ℕ → Bool) → ((q : ℕ) → test q ≡ false → f q ≡ []) → (xs : List ℕ) → flat_map f xs ≡ flat_map f (filter test xs)
+only_passing f test none [] = refl
+only_passing f test none (x ∷ xs) = at (only_passing f test none xs) (test x) refl
+  where
+    at : flat_map f xs ≡ flat_map f (filter test xs) → (b : Bool) → test x ≡ b → f x ++ flat_map f xs ≡ flat_map f (cond b (x ∷ filter test xs) (filter test xs))
+    at behind true is = ap (λ l. f x ++ l) behind
+    at behind false is = rw (none x is) behind
+
+passing_term : (l : Option Lease) → passes has_primary l ≡ has_term (option_and_then settled_by l)
+passing_term None = refl
+passing_term (Some lease) = sym (told_term lease)
+
+termed : (x : Option Settled) → has_term x ≡ true → is_some x ≡ true
+termed None h = absurd (cc)
+termed (Some settled) h = refl
+
+pub granted_in : (s : State) (r : Recorded) (set : fin.FinMap nat_cmp Bool) → s.durable.chunks ≡ (durable_of r).chunks → AreThose has_primary (live nat_cmp r.leases) set →
+    flat_map (λ chunk. granted_at chunk (chunk_at s chunk)) (fin.keys set) ≡ flat_map (λ chunk. granted_at chunk (chunk_at s chunk)) (fin.keys s.durable.chunks)
+granted_in s r set same are =
+    let sends : ℕ → List Message = λ chunk. granted_at chunk (chunk_at s chunk) in
+    let test : ℕ → Bool = λ chunk. has_term (fin.get s.durable.chunks chunk) in
+    let kept : (q : ℕ) → is_some (fin.get set q) ≡ has_term (fin.get s.durable.chunks q) = λ q.
+    are.each q ∙ passing_term (fin.get (live nat_cmp r.leases) q) ∙ ap has_term (sym (ap (λ m. fin.get m q) same ∙ get_chunks (live nat_cmp r.leases) q)) in
+    only_passing sends test (λ q none. granted_none q s none) (fin.keys set)
+    ∙ ap (flat_map sends) (filter_same set s.durable.chunks test (λ q h. kept q ∙ h ∙ sym (termed (fin.get s.durable.chunks q) h)))
+    ∙ sym (only_passing sends test (λ q none. granted_none q s none) (fin.keys s.durable.chunks))

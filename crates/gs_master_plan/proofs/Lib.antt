@@ -1,7 +1,9 @@
 mod Counting
 mod Deep
 pub mod Granting
+mod Healing
 mod HeldUp
+mod Losing
 mod Quieting
 pub mod Renewals
 pub mod Still

@@ -2,6 +2,8 @@
 ghost use Rattle.std.specs.Prelude.{◌≡◌, flat_map, IfOk};
 ghost use Rattle.std.specs.FinMap as fin;
 ghost use Rattle.std.specs.Option.{option_to_list};
+ghost use Rattle.std.specs.Ordering.{nat_cmp};
+ghost use Rattle.gs_base_table.specs.Slots.{live};
 ghost use Rattle.gs_msg.specs.declared.node.NodeId.TheVariants as nodes;
 ghost use Rattle.gs_master_plan.specs.inner.Planning.{state_of};
 ghost use Rattle.gs_master_spec.specs.Chunks.{chunk_at};
@@ -12,6 +14,7 @@ ghost use Rattle.gs_master_spec.specs.State.{about, post, reply_to, to_each};
 use crate::standing::Standing;
 use crate::view::grant;
 use gs_base::{Handle, Members, Refusal, ReqId, ServerId, Stamp};
+use gs_base_table::Table;
 use gs_master_state::known::is_settled;
 use gs_master_state::message::post;
 use gs_msg::{Answer, Body, Chunk, Message, NodeId};
@@ -97,14 +100,24 @@ impl<'a> Standing<'a> {
         Ok(sent)
     }
 
-    /// The grants of all leases that stand, ascending. Where no chunk has a primary, no chunk is looked at.
+    /// The chunks that have a primary, ascending, where the table of leases keeps them. Else the settled ones.
+    fn perhaps_granted(&self) -> Result<Vec<Handle>, AllocError>
+        ensures { IfOk result (λ chunks. flat_map (λ chunk. granted_at chunk (chunk_at (state_of self.entry.now) chunk)) chunks.items ≡ flat_map (λ chunk. granted_at chunk (chunk_at (state_of self.entry.now) chunk)) (fin.keys (state_of self.entry.now).durable.chunks)) }
+    {
+        match self.recorded.leases.with_primary() {
+            Some(chunks) => keys_of(self.recorded.alloc, chunks),
+            None => self.settled_chunks(),
+        }
+    }
+
+    /// The grants of all leases that stand, ascending. Only chunks that have a primary are looked at.
     pub fn grants(&self) -> Result<Vec<Message>, AllocError>
         ensures { IfOk result (λ sent. sent.items ≡ flat_map (λ chunk. granted_at chunk (chunk_at (state_of self.entry.now) chunk)) (fin.keys (state_of self.entry.now).durable.chunks)) }
     {
         if !self.recorded.leases.has_primary() {
             return Ok(Vec::new(self.recorded.alloc));
         }
-        let chunks = self.settled_chunks()?;
+        let chunks = self.perhaps_granted()?;
         self.granted_of(&chunks)
     }
 
@@ -120,4 +133,15 @@ impl<'a> Standing<'a> {
             None => false,
         }
     }
+}
+
+/// The chunks of a set, ascending.
+fn keys_of(alloc: Global, chunks: &Table<Handle, bool>) -> Result<Vec<Handle>, AllocError>
+    ensures { IfOk result (λ keys. keys.items ≡ fin.keys (live nat_cmp chunks.now)) }
+{
+    let mut keys = Vec::new(alloc);
+    for (chunk, _) in chunks.iter() {
+        keys.push(chunk)?;
+    }
+    Ok(keys)
 }

@@ -1,8 +1,9 @@
 // Which chunk needs a replica most, and on which servers replicas are put.
-ghost use Rattle.std.specs.Prelude.{◌<◌, ◌^◌, ◌≡◌, IfOk, slice_index, ℕ};
+ghost use Rattle.std.specs.Prelude.{◌<◌, ◌^◌, ◌≡◌, IfOk, None, slice_index, ℕ};
 ghost use Rattle.std.specs.FinMap as fin;
 ghost use Rattle.std.specs.Ordering.{nat_cmp};
 ghost use Rattle.gs_place.specs.Needs.{most_needed_of};
+ghost use Rattle.gs_master_plan.specs.inner.Healing.{first_in_use, is_in_use};
 ghost use Rattle.gs_master_plan.specs.inner.Planning.{state_of};
 ghost use Rattle.gs_master_spec.specs.Beginning.{counted_views, is_counted, targets_for};
 ghost use Rattle.gs_master_spec.specs.Chunks.{has_entry};
@@ -42,19 +43,74 @@ impl<'a> Standing<'a> {
         }
     }
 
-    /// The chunk that needs a replica most.
-    pub fn most_needed(&self, config: &Config) -> Result<Option<Handle>, AllocError>
-        ensures { IfOk result (λ most. most ≡ most_needed_of config.now.replicas (needs_of (state_of self.entry.now))) }
+    /// The chunk that needs a replica most, found chunk by chunk.
+    fn most_of_all(&self, config: &Config, visible: &Table<Handle, bool>) -> Option<Handle>
+        requires { AreVisible (fin.entries (state_of self.now).durable.names.tree) (live nat_cmp visible.now) }
+        ensures { result ≡ most_needed_of config.now.replicas (needs_of (state_of self.entry.now)) }
     {
-        let visible = self.recorded.visible_chunks()?;
         let mut needed = Needed::new(config);
         for (chunk, lease) in self.recorded.leases.iter() {
             if let Some(view) = self.known_view(chunk, lease) {
                 let members = view.members.len() as u64;
-                needed.offer(self.need_of(chunk, members, &visible));
+                needed.offer(self.need_of(chunk, members, visible));
             }
         }
-        Ok(needed.handle())
+        needed.handle()
+    }
+
+    /// Whether the master knows a chunk and a file has it.
+    fn is_in_use(&self, chunk: Handle) -> bool
+        ensures { result ≡ is_in_use (state_of self.entry.now) chunk }
+    {
+        self.has_entry(chunk) && 0 < self.recorded.references(chunk)
+    }
+
+    /// The first of some chunks that is in use and stands at a visible path. If there is none, the first that is in use.
+    fn first_in_use(
+        &self,
+        chunks: &Table<Handle, bool>,
+        visible: &Table<Handle, bool>,
+    ) -> Option<Handle>
+        requires { AreVisible (fin.entries (state_of self.now).durable.names.tree) (live nat_cmp visible.now) }
+        ensures { result ≡ first_in_use (state_of self.entry.now) None (fin.keys (live nat_cmp chunks.now)) }
+    {
+        let mut hidden = None;
+        for (chunk, _) in chunks.iter() {
+            if self.is_in_use(chunk) {
+                if visible.get(chunk).is_some() {
+                    return Some(chunk);
+                }
+                hidden = hidden.or(Some(chunk));
+            }
+        }
+        hidden
+    }
+
+    /// The chunk that needs a replica most. Those with the fewest members are looked at first, where the table of leases keeps them.
+    fn most_by_members(&self, config: &Config, visible: &Table<Handle, bool>) -> Option<Handle>
+        requires { AreVisible (fin.entries (state_of self.now).durable.names.tree) (live nat_cmp visible.now) }
+        ensures { result ≡ most_needed_of config.now.replicas (needs_of (state_of self.entry.now)) }
+    {
+        for members in 1..config.replicas {
+            let Some(chunks) = self.recorded.leases.with_members(members as usize) else {
+                return self.most_of_all(config, visible);
+            };
+            if let Some(chunk) = self.first_in_use(chunks, visible) {
+                return Some(chunk);
+            }
+        }
+        None
+    }
+
+    /// The chunk that needs a replica most.
+    pub fn most_needed(&self, config: &Config) -> Result<Option<Handle>, AllocError>
+        ensures { IfOk result (λ most. most ≡ most_needed_of config.now.replicas (needs_of (state_of self.entry.now))) }
+    {
+        if let Some(visible) = self.recorded.names.visible() {
+            return Ok(self.most_by_members(config, visible));
+        }
+        let visible = self.recorded.visible_chunks()?;
+        Ok(self.most_by_members(config, &visible))
     }
 }
 

@@ -1,5 +1,6 @@
 // What follows of a report.
-ghost use Rattle.std.specs.Prelude.{◌&&◌, ◌≡◌, IfOk, List};
+ghost use Rattle.std.specs.Prelude.{◌&&◌, ◌≡◌, filter, IfOk, List};
+ghost use Rattle.std.specs.FinMap as fin;
 ghost use Rattle.std.specs.Ordering.{nat_cmp};
 ghost use Rattle.gs_msg.specs.declared.body.Reported.{Reported as AnyReported};
 ghost use Rattle.gs_master_plan.specs.inner.Planning.{state_of};
@@ -82,18 +83,55 @@ impl<'a> Standing<'a> {
         self.is_lost_at(server, chunk) && sound.get(chunk).is_none()
     }
 
-    /// The settled chunks of which the server is a member and doesn't tell that they are sound, ascending.
-    pub fn lost(&self, server: ServerId, reported: &[Reported]) -> Result<Vec<Handle>, AllocError>
-        ensures { IfOk result (λ chunks. chunks.items ≡ lost (state_of self.entry.now) server reported.now) }
+    /// Those of some chunks that the server has lost.
+    fn lost_of(
+        &self,
+        server: ServerId,
+        reported: &[Reported],
+        chunks: &Table<Handle, bool>,
+        sound: &Table<Handle, bool>,
+    ) -> Result<Vec<Handle>, AllocError>
+        requires { AreSound reported.now (live nat_cmp sound.now) }
+        ensures { IfOk result (λ lost. lost.items ≡ filter (is_lost (state_of self.entry.now) server reported.now) (fin.keys (live nat_cmp chunks.now))) }
     {
-        let alloc = self.recorded.alloc;
-        let sound = sound_chunks(alloc, reported)?;
-        let mut lost = Vec::new(alloc);
-        for (chunk, lease) in self.recorded.leases.iter() {
-            if is_settled(lease) && self.is_lost(server, chunk, &sound) {
+        let mut lost = Vec::new(self.recorded.alloc);
+        for (chunk, _) in chunks.iter() {
+            if self.is_lost(server, chunk, sound) {
                 lost.push(chunk)?;
             }
         }
         Ok(lost)
+    }
+
+    /// Those of all chunks.
+    fn lost_of_all(
+        &self,
+        server: ServerId,
+        reported: &[Reported],
+        sound: &Table<Handle, bool>,
+    ) -> Result<Vec<Handle>, AllocError>
+        requires { AreSound reported.now (live nat_cmp sound.now) }
+        ensures { IfOk result (λ chunks. chunks.items ≡ lost (state_of self.entry.now) server reported.now) }
+    {
+        let mut lost = Vec::new(self.recorded.alloc);
+        for (chunk, lease) in self.recorded.leases.iter() {
+            if is_settled(lease) && self.is_lost(server, chunk, sound) {
+                lost.push(chunk)?;
+            }
+        }
+        Ok(lost)
+    }
+
+    /// The settled chunks of which the server is a member and doesn't tell that they are sound, ascending. Only those of which it is a
+    /// member are looked at, where the table of leases keeps them.
+    #[tactic(auto, using(crate::proofs::Losing::lost_in))]
+    pub fn lost(&self, server: ServerId, reported: &[Reported]) -> Result<Vec<Handle>, AllocError>
+        ensures { IfOk result (λ chunks. chunks.items ≡ lost (state_of self.entry.now) server reported.now) }
+    {
+        let sound = sound_chunks(self.recorded.alloc, reported)?;
+        match self.recorded.leases.on_server(server) {
+            Some(chunks) => self.lost_of(server, reported, chunks, &sound),
+            None => self.lost_of_all(server, reported, &sound),
+        }
     }
 }

@@ -175,6 +175,18 @@ impl Recorded {
         chunk_set(self.alloc, &chunks)
     }
 
+    /// The chunks of files that no hidden name is above are found, and kept until the names change. Where memory is wanting they aren't.
+    pub fn see_visible(&mut self)
+        ensures { self.new ≡ self.old }
+    {
+        if self.names.visible().is_some() {
+            return;
+        }
+        if let Ok(chunks) = self.visible_chunks() {
+            self.names.keep_visible(chunks);
+        }
+    }
+
     /// What a scan at a moment takes out. It fails where a chunk stands more often in what goes than its count says, which no
     /// edit leads to.
     pub fn scan(&self, moment: Moment) -> Result<Scan, AllocError>

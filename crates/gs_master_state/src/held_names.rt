@@ -1,5 +1,5 @@
 // The names, of which an edit is made so that it can be taken back without memory: in place, or on a copy that stands by.
-ghost use Rattle.std.specs.Prelude.{◌≡◌, ◌≢◌, None, Some, IfOk, IfErr, MatchBool, false, not, true};
+ghost use Rattle.std.specs.Prelude.{◌≡◌, ◌≢◌, None, Some, IfOk, IfErr, IfSome, MatchBool, false, not, true};
 ghost use Rattle.std.specs.List.{list_all};
 ghost use Rattle.gs_edit.specs.Edits.{Applies};
 ghost use Rattle.gs_edit.specs.Listed.{is_of_kind, kind_of};
@@ -10,7 +10,7 @@ ghost use Rattle.gs_edit.specs.declared.edit.Inverse.{Inverse};
 ghost use Rattle.gs_master_record.specs.Plain.{plain_edit};
 ghost use Rattle.std.specs.FinMap as fin_map;
 ghost use Rattle.gs_edit.specs.Places.{is_move};
-ghost use Rattle.gs_master_state.specs.inner.Held.{IsLedBy, IsPlace, StandsBy, is_at, still, without_kept};
+ghost use Rattle.gs_master_state.specs.inner.Held.{AreSeen, IsLedBy, IsPlace, StandsBy, is_at, still, without_kept};
 ghost use Rattle.gs_master_state.specs.inner.TakingBack.{AreNamesBefore, HasPlaceBack, IsPlaceBefore, is_kept, is_made_in_place, place_before, wants_copy};
 ghost use Rattle.gs_tree.specs.Build.{is_short, is_tree, rooted_rows, rows_of_entries};
 ghost use Rattle.gs_tree.specs.Chunks.{rows_under, visible_chunks_under};
@@ -21,6 +21,7 @@ ghost use Rattle.gs_master_spec.specs.Undoing.{edited_names};
 
 use crate::undo::{Following, MovedNames, NamesBefore, StoodNames};
 use gs_base::{Handle, Moment, Refusal};
+use gs_base_table::Table;
 use gs_edit::{Edit, Inverse, Names, Scan};
 use gs_path::Path;
 use gs_refs::Refs;
@@ -241,6 +242,7 @@ pub struct HeldNames {
     names: Names,
     place: Option<Path>,
     spare: Option<Names>,
+    visible: Option<Table<Handle, bool>>,
 }
 
 impl Drop for HeldNames {
@@ -250,12 +252,13 @@ impl Drop for HeldNames {
             names: _,
             place: _,
             spare: _,
+            visible: _,
         } = self;
     }
 }
 
 impl Model for HeldNames {
-    ghost use Rattle.gs_master_state.specs.inner.Held.{HeldView, IsPlace, StandsBy, coded_held, without_kept};
+    ghost use Rattle.gs_master_state.specs.inner.Held.{HeldView, IsPlace, IsSeen, StandsBy, coded_held, without_kept};
 
     ghost Value = { HeldView };
 
@@ -263,7 +266,7 @@ impl Model for HeldNames {
 
     ghost view = { λ a. record { names = without_kept a.place a.names; place = a.place } };
 
-    ghost invariant = { λ a. IsPlace a.place a.names × StandsBy a.spare (without_kept a.place a.names) };
+    ghost invariant = { λ a. IsPlace a.place a.names × StandsBy a.spare (without_kept a.place a.names) × IsSeen a.visible (without_kept a.place a.names) };
 }
 
 impl HeldNames {
@@ -276,7 +279,23 @@ impl HeldNames {
             names,
             place: None,
             spare: None,
+            visible: None,
         }
+    }
+
+    /// The chunks of files that no hidden name is above, where they were kept since the names were as they are.
+    pub fn visible(&self) -> Option<&Table<Handle, bool>>
+        ensures { IfSome result (λ chunks. AreSeen self.now.names chunks.now) }
+    {
+        self.visible.as_ref()
+    }
+
+    /// These chunks are kept until an edit is made.
+    pub fn keep_visible(&mut self, chunks: Table<Handle, bool>)
+        requires { AreSeen self.old.names chunks }
+        ensures { self.new ≡ self.old }
+    {
+        self.visible = Some(chunks);
     }
 
     pub fn refs(&self) -> &Refs
@@ -398,6 +417,7 @@ impl HeldNames {
         ensures { self.new ≡ still self.old.names }
     {
         if let Some(place) = self.place.take() {
+            self.visible = None;
             self.names.give_up_place(&place);
         }
     }
@@ -421,6 +441,7 @@ impl HeldNames {
         ensures kind { IfOk result (λ i. is_of_kind (kind_of edit.now) i ≡ true) }
         ensures place { self.new.place ≡ None }
     {
+        self.visible = None;
         match self.names.apply(edit) {
             Ok(inverse) => {
                 self.spare = followed(self.spare.take(), edit);
@@ -449,6 +470,7 @@ impl HeldNames {
         ensures kept { is_kept result ≡ true }
     {
         self.spare = None;
+        self.visible = None;
         NamesBefore::Kept(StoodNames {
             names: mem::replace(&mut self.names, names),
             place: self.place.take(),
@@ -485,6 +507,8 @@ impl HeldNames {
         ensures refused { IfErr result (λ _. self.new ≡ self.old) }
         ensures kept { IfOk result (λ before. is_kept before ≡ false) }
     {
+        // What is moved may be hidden from here on.
+        self.visible = None;
         let inverse = match self.names.move_keeping_place(edit) {
             Ok(inverse) => inverse,
             Err(refusal) => return Err(refusal),
@@ -534,6 +558,7 @@ impl HeldNames {
         match before {
             NamesBefore::Undone(inverse) => {
                 self.spare = None;
+                self.visible = None;
                 undo(&mut self.names, &inverse);
             }
             NamesBefore::Moved(moved) => self.move_back(moved),
@@ -554,6 +579,7 @@ impl HeldNames {
         } = stood;
         drop(following);
         self.spare = None;
+        self.visible = None;
         self.names = names;
         self.place = place;
     }
@@ -567,6 +593,7 @@ impl HeldNames {
         let MovedNames { from, to, spare } = moved;
         drop(spare);
         self.spare = None;
+        self.visible = None;
         self.place = None;
         self.names.return_to_place(&from, &to);
     }
@@ -602,9 +629,11 @@ impl HeldNames {
         ensures stays { self.new ≡ self.old }
     {
         if self.place.is_none() && is_made_in_place(edit) {
+            self.visible = None;
             return judged_in_place(&mut self.names, edit);
         }
         if self.place.is_none() && is_move(edit) {
+            self.visible = None;
             return judged_move(&mut self.names, edit);
         }
         let spare = self.take_spare()?;

@@ -1,13 +1,16 @@
 -- Names with the place that a move keeps until it stands, and a copy of them that stands by.
-use Rattle.std.specs.Prelude.{◌≡◌, ◌≢◌, [], Bool, false, Option, Some, None, Ok, refl}
+use Rattle.std.specs.Prelude.{◌≡◌, ◌≢◌, ℕ, [], List, Bool, false, Option, Some, None, Ok, is_some, refl}
 use Rattle.std.specs.Coded.{Coded, code_by, coded×, coded_option}
 use Rattle.std.specs.FinMap as fin
+use Rattle.std.specs.Ordering.{nat_cmp}
+use Rattle.gs_base_table.specs.Slots.{live}
 use Rattle.gs_path.specs.Path.{Path, coded_path}
 use Rattle.gs_tree.specs.Edits.{moved, same_path}
 use Rattle.gs_tree.specs.Plain.{Same, part_at, rooted}
 use Rattle.gs_edit.specs.View.{NamesView, coded_names}
 use Rattle.gs_master_record.specs.Plain.{plain_edit}
 use Rattle.gs_master_spec.specs.Undoing.{edited_names}
+use Rattle.gs_master_spec.specs.Working.{is_visible}
 use Rattle.gs_master_state.specs.declared.undo.Following.{Following}
 use Rattle.gs_master_state.specs.declared.undo.Following.TheVariants.{Never, Edit, Move}
 
@@ -45,6 +48,15 @@ abbrev pub StandsBy : Option NamesView → NamesView → Type 0
 StandsBy None names = Unit {0}
 StandsBy (Some spare) names = spare ≡ names
 
+-- these are the chunks of files that no hidden name is above
+pub record AreSeen (names : NamesView) (chunks : List (ℕ × Option Bool)) : Type 0 where
+  pub each : (chunk : ℕ) → is_some (fin.get (live nat_cmp chunks) chunk) ≡ is_visible (fin.entries names.tree) chunk
+
+-- so are those that are kept, if they are
+abbrev pub IsSeen : Option (List (ℕ × Option Bool)) → NamesView → Type 0
+IsSeen None names = Unit {0}
+IsSeen (Some chunks) names = AreSeen names chunks
+
 -- the edit or the move that is told leads from the first names to the others
 abbrev pub IsLedBy : Following → NamesView → NamesView → Type 0
 IsLedBy Never before after = Unit {0}
@@ -62,3 +74,6 @@ no_path_is_kept_of_still_names names q = refl
 
 nothing_stands_by : (names : NamesView) → StandsBy None names
 nothing_stands_by names = tt
+
+no_chunks_are_kept : (names : NamesView) → IsSeen None names
+no_chunks_are_kept names = tt

@@ -9,4 +9,5 @@ invariant_of-self c =
     let none : c.self.inside.place ≡ None = ap (λ (v : HeldView). v.place) c.self.view_is ∙ c.requires in
     let stands : StandsBy c.take.result c.self.inside.names = subst (λ o. StandsBy o c.self.inside.names) (sym c.take.ensures.value) (subst (λ o. StandsBy c.self.inside.spare (without_kept o c.self.inside.names)) none c.self.invariant.1) in
     let led = c.followed.ensures c.self.inside.names c.apply.new.self stands (names_after c.args.edit.now c.self.inside.names c.apply.new.self c.in-Ok.ensures.edit) in
-    subst (λ o. IsPlace o c.apply.new.self × StandsBy c.followed.result (without_kept o c.apply.new.self)) (sym none) (tt, led)
+    let both = subst (λ o. IsPlace o c.apply.new.self × StandsBy c.followed.result (without_kept o c.apply.new.self)) (sym none) (tt, led) in
+    (both.0, both.1, tt)

@@ -8,18 +8,18 @@ use Rattle.gs_edit.specs.declared.edit.Inverse.TheVariants.{Tree}
 use Rattle.gs_path.specs.Path.{Path}
 use Rattle.gs_tree.specs.declared.inverse.TreeInverse.{TreeInverse}
 use Rattle.gs_tree.specs.declared.inverse.TreeInverse.TheVariants.{Moved}
-use Rattle.gs_master_state.specs.inner.Held.{HeldView, IsPlace, StandsBy, without_kept}
+use Rattle.gs_master_state.specs.inner.Held.{HeldView, IsPlace, IsSeen, StandsBy, without_kept}
 use Rattle.gs_master_state.proofs.Keeping.{closed_at, returned_home}
 use Rattle.gs_master_state.proofs.held_names.HeldNames.enter_move.Goals as goal
 
 -- names that stay the same stay so seen
-stays : (spare : Option NamesView) (place : Option Path) (n new : NamesView) → new ≡ n → IsPlace place n × StandsBy spare (without_kept place n) → IsPlace place new × StandsBy spare (without_kept place new)
-stays spare place n new same h = subst (λ v. IsPlace place v × StandsBy spare (without_kept place v)) (sym same) h
+stays : (spare : Option NamesView) (place : Option Path) (n new : NamesView) → new ≡ n → IsPlace place n → StandsBy spare (without_kept place n) → IsPlace place new × StandsBy spare (without_kept place new) × IsSeen None (without_kept place new)
+stays spare place n new same h stands = (subst (IsPlace place) (sym same) h, subst (λ v. StandsBy spare (without_kept place v)) (sym same) stands, tt)
 
 pub invariant_of-self : goal.invariant_of-self
 invariant_of-self c =
     let refused = c.in-Err.ensures.edit c.requires.edit c.move_keeping_place.new.self (λ q. refl, refl) in
-    stays c.self.inside.spare c.self.inside.place c.self.inside.names c.move_keeping_place.new.self refused.1 c.self.invariant
+    stays c.self.inside.spare c.self.inside.place c.self.inside.names c.move_keeping_place.new.self refused.1 c.self.invariant.0 c.self.invariant.1
 
 -- the names are those that are seen, where no place is kept
 seen_is : (place : Option Path) (n : NamesView) (now : HeldView) → record { names = without_kept place n; place = place } ≡ now → now.place ≡ None → n ≡ now.names
@@ -40,7 +40,7 @@ returns-in-Err-clause-refused c =
 pub invariant_of-self-in_default-copy : goal.invariant_of-self-in_default-copy
 invariant_of-self-in_default-copy c =
     let home = returned_home c.in-Ok.inverse c.in-Moved.from c.in-Moved.to c.self.inside.names c.move_keeping_place.new.self c.return_to_place.new.self c.in-Moved.is c.in-Ok.ensures.place c.in-Ok.ensures.undo c.return_to_place.ensures.tree c.return_to_place.ensures.refs in
-    stays c.self.inside.spare c.self.inside.place c.self.inside.names c.return_to_place.new.self home c.self.invariant
+    stays c.self.inside.spare c.self.inside.place c.self.inside.names c.return_to_place.new.self home c.self.invariant.0 c.self.invariant.1
 
 pub returns-in_default-copy-clause-edit : goal.returns-in_default-copy-clause-edit
 returns-in_default-copy-clause-edit c =

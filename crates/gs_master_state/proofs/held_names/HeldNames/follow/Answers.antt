@@ -11,4 +11,5 @@ invariant_of-self-in-Some-11 c =
     let before : AreNamesBefore (MovedTo c.in-Moved.moved) c.requires.0 c.args.self.now.names = subst (λ b. AreNamesBefore b c.requires.0 c.args.self.now.names) c.in-Moved.is c.requires.1 in (
       c.self.invariant.0,
       subst (StandsBy c.led.result) (sym now) (led_on c.in-Moved.moved c.in-Some.spare c.requires.0 c.args.self.now.names c.led.result c.in-Some.is before c.led.ensures),
+      c.self.invariant.2,
     )

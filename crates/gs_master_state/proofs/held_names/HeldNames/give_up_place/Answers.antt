@@ -7,7 +7,8 @@ use Rattle.gs_master_state.proofs.held_names.HeldNames.give_up_place.Goals as go
 pub invariant_of-self : goal.invariant_of-self
 invariant_of-self c =
     let same = settled c.self.inside.place c.take.new.self c.in-Some.place c.self.inside.names c.give_up_place.new.self c.self.invariant.0 c.take.ensures.after c.in-Some.ensures.value c.give_up_place.ensures.tree c.give_up_place.ensures.refs in
-    still_stands c.self.inside.spare c.take.new.self (without_kept c.self.inside.place c.self.inside.names) c.give_up_place.new.self c.take.ensures.after (sym same) c.self.invariant.1
+    let both = still_stands c.self.inside.spare c.take.new.self (without_kept c.self.inside.place c.self.inside.names) c.give_up_place.new.self c.take.ensures.after (sym same) c.self.invariant.1 in
+    (both.0, both.1, tt)
 
 pub returns-in-Some : goal.returns-in-Some
 returns-in-Some c =

@@ -2,7 +2,7 @@ use Rattle.std.proofs.Common.{◌≡◌, ◌++◌}
 use Rattle.std.specs.Prelude.{filter_map}
 use Rattle.gs_master_plan.specs.inner.Planning.{state_of}
 use Rattle.gs_master_state.specs.inner.Surveying.{is_lost, settled_where}
-use Rattle.gs_master_plan.proofs.standing.Standing.lost.Given as goal
+use Rattle.gs_master_plan.proofs.standing.Standing.lost_of_all.Given as goal
 
 abbrev pub invariant-loop-chunk : goal.invariant-loop-chunk
 invariant-loop-chunk l =

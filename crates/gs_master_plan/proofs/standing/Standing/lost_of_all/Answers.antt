@@ -4,7 +4,7 @@ use Rattle.std.proofs.lemmas.List.{append-nil}
 use Rattle.gs_master_plan.specs.inner.Planning.{state_of}
 use Rattle.gs_master_state.specs.inner.Surveying.{is_lost, settled_where}
 use Rattle.gs_master_state.proofs.Surveys.{settled_in}
-use Rattle.gs_master_plan.proofs.standing.Standing.lost.Goals as goal
+use Rattle.gs_master_plan.proofs.standing.Standing.lost_of_all.Goals as goal
 
 pub returns : goal.returns
 returns c =

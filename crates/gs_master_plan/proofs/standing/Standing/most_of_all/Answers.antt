@@ -5,7 +5,7 @@ use Rattle.gs_place.specs.Needs.{most_needed_of}
 use Rattle.gs_master_plan.specs.inner.Planning.{state_of}
 use Rattle.gs_master_state.specs.inner.Surveying.{need_by, need_where}
 use Rattle.gs_master_state.proofs.Surveys.{found_more, need_at, needs_in}
-use Rattle.gs_master_plan.proofs.standing.Standing.most_needed.Goals as goal
+use Rattle.gs_master_plan.proofs.standing.Standing.most_of_all.Goals as goal
 
 pub loop-chunk-preserved-in-Some-known_view : goal.loop-chunk-preserved-in-Some-known_view
 loop-chunk-preserved-in-Some-known_view c =

@@ -4,7 +4,7 @@ use Rattle.gs_place.specs.Offered.{IsNeeded}
 use Rattle.gs_place.specs.declared.need.Need.{Need}
 use Rattle.gs_master_plan.specs.inner.Planning.{state_of}
 use Rattle.gs_master_state.specs.inner.Surveying.{need_where}
-use Rattle.gs_master_plan.proofs.standing.Standing.most_needed.Given as goal
+use Rattle.gs_master_plan.proofs.standing.Standing.most_of_all.Given as goal
 
 abbrev pub invariant-loop-chunk : goal.invariant-loop-chunk
 invariant-loop-chunk l =
