@@ -24,7 +24,7 @@ struct Again {
 }
 
 /// Runs the lines of a file again.
-fn again<R: Eprint + Clock + AllocGlobal>(
+fn run_again<R: Eprint + Clock + AllocGlobal>(
     rt: &R,
     asked: &Asked,
     held: &mut Held,
@@ -60,7 +60,7 @@ pub(crate) fn look<R: Files<File = File> + Input + Print + Eprint + Clock + Allo
     let Ok(mut writer) = BufWriter::new(alloc, io::writer(rt)) else {
         return Err(Fault::Memory);
     };
-    let Again { desk, replayed } = again(rt, asked, &mut held)?;
+    let Again { desk, replayed } = run_again(rt, asked, &mut held)?;
     let path = &asked.path;
     let lines = replayed.lines;
     let _ = eprintln!(rt;
@@ -110,7 +110,7 @@ pub(crate) fn check<R: Files<File = File> + Print + Eprint + Clock + AllocGlobal
     asked: &Asked,
 ) -> Result<(), Fault> {
     let mut held = looked_at(rt, asked, false, None)?;
-    let Again { desk, replayed } = again(rt, asked, &mut held)?;
+    let Again { desk, replayed } = run_again(rt, asked, &mut held)?;
     drop(desk);
     let path = &asked.path;
     tell_head(rt, path, held.form, &held.config).map_err(Fault::Tell)?;

@@ -209,7 +209,7 @@ fn head_in(alloc: Global, file: File) -> Result<(File, Vec<u8>), Fault> {
 
 /// Reads what a file holds: it is measured, its first line has to be that of a store of the sizes that are asked for, and what stands after what
 /// is run again has to be what a crash leaves. With `upto` it is read up to that line alone.
-fn held(alloc: Global, reader: File, sizes: &Sizes, upto: Option<u64>) -> Result<Held, Fault> {
+fn held_by(alloc: Global, reader: File, sizes: &Sizes, upto: Option<u64>) -> Result<Held, Fault> {
     let (file, measure) = measured(alloc, reader)?;
     if measure.whole == 0 {
         let mut first = front(alloc, file, u64::MAX).map_err(Fault::Read)?;
@@ -302,7 +302,7 @@ pub(crate) fn opened<'a, R: Files<File = File> + AllocGlobal>(
     ensures { IfOk result (λ kept. is_some kept.log.fault ≡ false) }
 {
     let Opened { log, reader } = opened_file(rt, asked)?;
-    let held = held(rt.alloc(), reader, &asked.sizes, None)?;
+    let held = held_by(rt.alloc(), reader, &asked.sizes, None)?;
     Ok(Kept { log, held })
 }
 
@@ -320,7 +320,7 @@ pub(crate) fn looked_at<R: Files<File = File> + AllocGlobal>(
         Err(error) => return Err(Fault::Open(error)),
     }
     match open_to_read(rt, &asked.path, is_shared) {
-        Ok(reader) => held(rt.alloc(), reader, &asked.sizes, upto),
+        Ok(reader) => held_by(rt.alloc(), reader, &asked.sizes, upto),
         Err(fault) => Err(Fault::Opening(fault)),
     }
 }
