@@ -1,5 +1,5 @@
 -- Lines that leave what stands are explained in a script, right after a prepare or a rollback that is accepted.
-use Rattle.std.proofs.Common.{[], ap, inl, inr, subst, ◌++◌, ◌∷◌, ◌≡◌, ◌⊎◌, List, true, ℕ}
+use Rattle.std.proofs.Common.{[], ap, inl, inr, subst, ◌++◌, ◌∷◌, ◌∙◌, ◌≡◌, ◌⊎◌, List, true, ℕ}
 use Rattle.std.specs.Prelude.{codes, decimal}
 use Rattle.gs_base.specs.declared.config.Config.{Config}
 use Rattle.gs_journal.specs.Records.{fresh, standing}
@@ -15,7 +15,8 @@ use Rattle.gs_laws_scripts.proofs.lemmas.explained.Still.{lines_go}
 use Rattle.gs_laws_scripts.proofs.lemmas.lists.Scripts.{Epoch_at, Line_answered, Lines_run, one_more, prepared, reached, rolled, split}
 use Rattle.gs_laws_scripts.proofs.lemmas.reads.Clients.{lines_mine}
 use Rattle.gs_laws_scripts.specs.answers.Meeting.{IsClientOf}
-use Rattle.gs_laws_scripts.specs.explained.Commits.{AfterACommitUntilAReadFails, AfterACommitUntilAWriteFails, AreExplainedFromSome, HasStillLines, ScriptsAfterACommit, StillLinesAfter}
+use Rattle.gs_laws_scripts.specs.explained.Commits.{AfterACommitUntilAReadFails, AfterACommitUntilAWriteFails, AreExplainedFrom, HasStillLines, ScriptsAfterACommit, StillLinesAfter}
+use Rattle.gs_laws_scripts.specs.explained.Standing.{phase_after}
 use Rattle.gs_laws_scripts.specs.lists.Lines.{commits_prepare, commits_rollback}
 use Rattle.gs_laws_scripts.specs.lists.Scripts.{AsksFor}
 
@@ -27,18 +28,18 @@ module _ (sizes : HaveSizes) {D : Type 0} (seen : D → List ℕ) (failures : D 
 
   module _ (all texts : List (List ℕ)) (q : HasStillLines all texts) (ended : Desk D) where
     by_commit : (start mid : Desk D) → IsReachedWithin seen failures config disks start → IsClientOf config start.caller.client → Line_answered seen failures start q.commit (codes "ok " ++ decimal q.epoch) mid
-        → Lines_run seen failures mid (q.still ++ q.later) (q.texts_still ++ q.texts_later) ended → AreExplainedFromSome size block q.still q.texts_still
+        → Lines_run seen failures mid (q.still ++ q.later) (q.texts_still ++ q.texts_later) ended → AreExplainedFrom size block q.epoch (phase_after q.commits) q.still q.texts_still
     by_commit start mid there mine answered rest =
         let told = epoch_at q.by q.commits q.commit q.epoch start mid q.asks answered in
         let stands = commits_stand sizes seen failures config disks start mid q.by told.number empty there mine q.commits told.comes in
         let parts = split seen failures q.still q.texts_still q.later q.texts_later mid ended q.long_still rest in
-        let found = lines_go seen failures config size block q.still q.texts_still mid parts.0 stands.0 stands.1 q.are parts.1 in (stands.0, found.0, found.1)
+        let found = lines_go seen failures config size block q.still q.texts_still mid parts.0 stands.0 stands.1 q.are parts.1 in (stands.0, ap decimal stands.2 ∙ told.digits, stands.3, found.0, found.1)
 
     by_first : (start : Desk D) → IsReachedWithin seen failures config disks start → IsClientOf config start.caller.client
-        → Lines_run seen failures start (q.commit ∷ (q.still ++ q.later)) ((codes "ok " ++ decimal q.epoch) ∷ (q.texts_still ++ q.texts_later)) ended → AreExplainedFromSome size block q.still q.texts_still
+        → Lines_run seen failures start (q.commit ∷ (q.still ++ q.later)) ((codes "ok " ++ decimal q.epoch) ∷ (q.texts_still ++ q.texts_later)) ended → AreExplainedFrom size block q.epoch (phase_after q.commits) q.still q.texts_still
     by_first start there mine (mid, answered, rest) = by_commit start mid there mine answered rest
 
-    from_reached : (begun : Desk D) → IsReachedWithin seen failures config disks begun → IsClientOf config begun.caller.client → Lines_run seen failures begun all texts ended → AreExplainedFromSome size block q.still q.texts_still
+    from_reached : (begun : Desk D) → IsReachedWithin seen failures config disks begun → IsClientOf config begun.caller.client → Lines_run seen failures begun all texts ended → AreExplainedFrom size block q.epoch (phase_after q.commits) q.still q.texts_still
     from_reached begun there mine runs =
         let lined = subst (λ ls. Lines_run seen failures begun ls texts ended) q.lines_are runs in
         let told = subst (λ ts. Lines_run seen failures begun (q.before ++ q.commit ∷ (q.still ++ q.later)) ts ended) q.texts_are lined in
