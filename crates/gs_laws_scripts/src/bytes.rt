@@ -1,12 +1,14 @@
 //! Runs whose contracts speak of the bytes that are read and written alone.
 
 ghost use Rattle.gs_shell.specs.Answering.{Answers, IsUntroubled};
+ghost use Rattle.gs_laws_scripts.specs.explained.Commits.{StillLinesAfter};
 ghost use Rattle.gs_laws_scripts.specs.explained.Scripts.{BeginningsAreExplained};
 ghost use Rattle.gs_laws_scripts.specs.plain.Scripts.{ArePlain};
 ghost use Rattle.gs_laws_scripts.specs.stops.Given.{AreGiven, AreTheSame};
 ghost use Rattle.gs_laws_scripts.specs.lists.Scripts.{ListTheSame};
 
 use gs_base::Config;
+use gs_block::promises::configurations_have_sizes;
 use gs_journal::MemoryDisk;
 use gs_laws_looks::{
     epochs_that_are_answered_are_numbers,
@@ -31,16 +33,19 @@ pub fn run_plainly<R: BufRead, W: Write>(
 }
 
 /// Answers the lines of the reader as `run_telling` of `gs_shell` does. Where it tells that nothing went wrong within the store, and no answer is `refused 33 Memory`, the machine of trees and texts that explains answers
-/// explains what lines of the tree and of an upgrade are answered, so long as no answer is that there is no room (30) or that a counter has no value left (31). This is said of the bytes that are read and
-/// written, and of what is told, alone, however the run ends.
+/// explains what lines of the tree and of an upgrade are answered, so long as no answer is that there is no room (30) or that a counter has no value left (31).
+/// Whatever went wrong, it explains what is answered right after a prepare or a rollback that is answered by an epoch, while lines look at names or are about nodes (`lines_after_a_commit_are_explained`).
+/// This is said of the bytes that are read and written, and of what is told, alone, however the run ends.
 pub fn run_explained<R: BufRead, W: Write>(
     alloc: Global,
     config: Config,
     reader: &mut R,
     writer: &mut W,
 ) -> (Result<(), RunFault>, Trouble)
-    ensures { Answers (λ lines texts. IsUntroubled result.1 texts → BeginningsAreExplained config.chunk config.block lines texts) result.0 (R.remaining reader.old) (R.remaining reader.new) (W.contents writer.old) (W.contents writer.new) }
+    ensures tree { Answers (λ lines texts. IsUntroubled result.1 texts → BeginningsAreExplained config.chunk config.block lines texts) result.0 (R.remaining reader.old) (R.remaining reader.new) (W.contents writer.old) (W.contents writer.new) }
+    ensures after_a_commit { Answers (StillLinesAfter config.chunk config.block) result.0 (R.remaining reader.old) (R.remaining reader.new) (W.contents writer.old) (W.contents writer.new) }
 {
+    configurations_have_sizes();
     run_telling(alloc, config, reader, writer)
 }
 

@@ -52,6 +52,7 @@ fn still_lines_are_explained<D>()
 {}
 
 /// A desk stands so for a machine right after a prepare, or a rollback, that is accepted: whatever lines came before, whatever is held back, and whatever disks fail.
+/// The machine is in the epoch that is answered. An upgrade stands there after a prepare, and none after a rollback.
 fn a_desk_stands_after_a_commit<D>()
     ensures { CommitsStand D }
 {
@@ -59,7 +60,7 @@ fn a_desk_stands_after_a_commit<D>()
 }
 
 /// Right after a prepare or a rollback that is answered by an epoch, one machine explains what a script is answered: as long as its lines are `ls`, `rollingUpgrade query`, `at`, `hold`, `beat`, `lose`, `damage`, `deliver` and `restart` of a server, or bad, the store alone refuses a list or a query, and no query tells a prepare that is begun.
-/// So all lists of these lines are of the same names, and all queries tell the same phase and epoch. Whatever lines come before, with held messages, lost and damaged replicas, and disks that fail: of what they left nothing is known but the names.
+/// The machine is in that epoch, with an upgrade after a prepare and without one after a rollback. So all queries of these lines tell that, and all lists are of the same names. Whatever lines come before, with held messages, lost and damaged replicas, and disks that fail: of what they left nothing is known but the names.
 pub fn lines_after_a_commit_are_explained<D>()
     ensures ended { ScriptsAfterACommit D }
     ensures read_fails { AfterACommitUntilAReadFails D }

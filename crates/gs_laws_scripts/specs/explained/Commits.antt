@@ -6,6 +6,7 @@ use Rattle.std.specs.Fmt.{digits}
 use Rattle.std.specs.Str.{chars, is_utf8}
 use Rattle.gs_base.specs.declared.config.Config.{Config}
 use Rattle.gs_journal.specs.Records.{fresh, standing}
+use Rattle.gs_msg.specs.declared.answer.Phase.{Phase}
 use Rattle.gs_shell.specs.Serving.{Serves, StopsServing}
 use Rattle.gs_shell_grammar.specs.Grammar.{Request, lose_line, number_line, three_words, two_words, upgrade_line}
 use Rattle.gs_shell_grammar.specs.Grammar as lines
@@ -14,7 +15,7 @@ use Rattle.gs_shell_script.specs.Run.{Runs, lines_of}
 use Rattle.gs_shell_script.specs.declared.RunFault.TheVariants as fault
 use Rattle.gs_laws_scripts.specs.explained.Lines.{Explains}
 use Rattle.gs_laws_scripts.specs.explained.Machine.{Machine}
-use Rattle.gs_laws_scripts.specs.explained.Standing.{AreStillLines}
+use Rattle.gs_laws_scripts.specs.explained.Standing.{AreStillLines, phase_after}
 use Rattle.gs_laws_scripts.specs.lists.Lines.{commits_prepare, commits_rollback}
 use Rattle.gs_laws_scripts.specs.lists.Scripts.{AsksFor}
 
@@ -39,12 +40,12 @@ pub record HasStillLines (all texts : List (List ℕ)) : Type 0 where
 
 -- ---- what is to hold
 
--- such lines are explained, each with its answer, from some machine on
-abbrev pub AreExplainedFromSome : (size block : ℕ) → List (List ℕ) → List (List ℕ) → Type 0
-AreExplainedFromSome size block all texts = (m : Machine) × (end : Machine) × Runs (Explains size block) m all texts end
+-- such lines are explained, each with its answer, from some machine on in an epoch that is told so, and in this phase
+abbrev pub AreExplainedFrom : (size block epoch : ℕ) → Phase → List (List ℕ) → List (List ℕ) → Type 0
+AreExplainedFrom size block epoch phase all texts = (m : Machine) × (decimal m.epoch ≡ decimal epoch) × (m.phase ≡ phase) × (end : Machine) × Runs (Explains size block) m all texts end
 
 abbrev pub StillLinesAfter : (size block : ℕ) → List (List ℕ) → List (List ℕ) → Type 0
-StillLinesAfter size block all texts = (q : HasStillLines all texts) → AreExplainedFromSome size block q.still q.texts_still
+StillLinesAfter size block all texts = (q : HasStillLines all texts) → AreExplainedFrom size block q.epoch (phase_after q.commits) q.still q.texts_still
 
 -- So it is of each script over empty disks: whatever lines come before and later, whatever is held back, and whatever disks fail.
 abbrev pub ScriptsAfterACommit : Type 0 → Type 0

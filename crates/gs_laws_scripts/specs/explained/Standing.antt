@@ -14,6 +14,7 @@ use Rattle.gs_edit.specs.Mapped.{mapped_rows}
 use Rattle.gs_journal.specs.Records.{fresh, standing}
 use Rattle.gs_master_spec.specs.Durable.{Durable}
 use Rattle.gs_master_spec.specs.Calls.{told_phase}
+use Rattle.gs_msg.specs.declared.answer.Phase.{Phase}
 use Rattle.gs_msg.specs.declared.answer.Phase.TheVariants as phases
 use Rattle.gs_shell_calls.specs.Texts.{answer_text}
 use Rattle.gs_shell_calls.specs.declared.answer.Answer.TheVariants as answers
@@ -123,10 +124,15 @@ abbrev pub StillLinesAreExplained : Type 0 → Type 0
 StillLinesAreExplained D = (seen : D → List ℕ) (failures : D → ℕ) (config : Config) (size block : ℕ) (old new : Desk D) (all texts : List (List ℕ)) (m : Machine) → Stands seen config old m → AreStillLines all texts →
     Runs (AnswersText seen failures) old all texts new → (end : Machine) × Runs (Explains size block) m all texts end × Stands seen config new end
 
--- A desk stands for a machine after a prepare or a rollback that is accepted, whatever was answered before, and whatever is under way.
+-- an upgrade stands after a prepare, and none after a rollback
+abbrev pub phase_after : {A B : Type 0} → A ⊎ B → Phase
+phase_after (inl prepares) = phases.Upgrade
+phase_after (inr rolls) = phases.Ordinary
+
+-- A desk stands for a machine after a prepare or a rollback that is accepted, whatever was answered before, and whatever is under way. The machine is in the epoch that is told.
 abbrev pub CommitsStand : Type 0 → Type 0
 CommitsStand D = (seen : D → List ℕ) (failures : D → ℕ) (config : Config) (disks : D × D) (old new : Desk D) (by : Request) (epoch : ℕ) → standing (seen disks.0) (seen disks.1) ≡ fresh → IsReachedWithin seen failures config disks old → IsClientOf config old.caller.client →
-    (commits_prepare by ≡ true) ⊎ (commits_rollback by ≡ true) → Comes seen failures by old (Ok (answers.Number epoch)) new → (m : Machine) × Stands seen config new m
+    (commits : (commits_prepare by ≡ true) ⊎ (commits_rollback by ≡ true)) → Comes seen failures by old (Ok (answers.Number epoch)) new → (m : Machine) × Stands seen config new m × (m.epoch ≡ epoch) × (m.phase ≡ phase_after commits)
 
 -- ---- Worked
 a_change_is_none : is_still_line (asked_in (codes "create /f")) ≡ false

@@ -1,5 +1,5 @@
 -- After a prepare or a rollback that is accepted the names stand while nothing is asked but look-ups.
-use Rattle.std.proofs.Common.{[], ap, arith, inl, inr, refl, subst, sym, ◌++◌, ◌<◌, ◌∷◌, ◌∙◌, ◌≡◌, List, None, Ok, false, length, true, ℕ, ◌^◌}
+use Rattle.std.proofs.Common.{[], ap, arith, inl, inr, refl, subst, sym, ◌++◌, ◌<◌, ◌∷◌, ◌∙◌, ◌≡◌, List, None, Ok, Some, false, length, true, ℕ, ◌^◌}
 use Rattle.std.specs.FinMap as fin
 use Rattle.std.specs.List.{AllByRecursion}
 use Rattle.gs_base.specs.Told.{IsNumber}
@@ -11,13 +11,14 @@ use Rattle.gs_client.specs.declared.link.Reply.TheVariants as replies
 use Rattle.gs_edit.specs.Mapped.{mapped_rows}
 use Rattle.gs_journal.specs.Records.{fresh, standing}
 use Rattle.gs_laws_chunks.proofs.lemmas.answers.Asked.{begins_asked, stays_unarmed}
+use Rattle.gs_laws_chunks.proofs.lemmas.answers.Behind.{MadeThere, all_back, all_front, made_there}
 use Rattle.gs_laws_chunks.proofs.lemmas.desks.Ways.{joined}
 use Rattle.gs_laws_chunks.proofs.lemmas.desks.When.{StepsSo}
 use Rattle.gs_laws_chunks.specs.answers.Asked.{AreAsked}
 use Rattle.gs_laws_chunks.specs.answers.Behind.{IsOnly, asks_call, is_halt}
 use Rattle.gs_laws_chunks.specs.desks.Reached.{history}
 use Rattle.gs_laws_chunks.specs.desks.Within.{IsReachedWithin}
-use Rattle.gs_laws_looks.proofs.lemmas.halts.Commits.{commits_halt}
+use Rattle.gs_laws_looks.proofs.lemmas.halts.Commits.{commits_halt, fits}
 use Rattle.gs_laws_looks.specs.carrying.Carried.{IsCarried}
 use Rattle.gs_laws_looks.specs.halts.Unled.{HaltsBy}
 use Rattle.gs_laws_world.proofs.lemmas.steady.Keeping.{begins_keeping, run_keeps}
@@ -28,17 +29,24 @@ use Rattle.gs_laws_world.specs.steady.Through.{LastsThrough}
 use Rattle.gs_laws_world.specs.steady.Unarmed.{unarmed}
 use Rattle.gs_master_spec.specs.Calls.{told_phase}
 use Rattle.gs_master_spec.specs.Durable.{Durable}
+use Rattle.gs_master.specs.Masters.{MasterOf}
+use Rattle.gs_master_spec.specs.Applied.{replayed}
+use Rattle.gs_master_spec.specs.Handling.{new_call}
+use Rattle.gs_master_spec.specs.State.{State}
 use Rattle.gs_msg.specs.declared.answer.Answer.TheVariants as says
 use Rattle.gs_msg.specs.declared.call.Call.{Call}
 use Rattle.gs_msg.specs.declared.call.Call.TheVariants as calls
 use Rattle.gs_msg.specs.declared.event.Request.TheVariants as requests
 use Rattle.gs_nodes.specs.Nodes.{Nodes}
+use Rattle.gs_nodes.specs.declared.place.MasterPlace.{MasterPlace}
+use Rattle.gs_nodes.specs.declared.place.MasterPlace.TheVariants.{Standing}
 use Rattle.gs_shell_desk.specs.Ways.{way_of}
 use Rattle.gs_shell_desk.specs.declared.desk.Desk.{Desk}
 use Rattle.gs_shell_desk.specs.declared.wire.Wire.{Wire}
 use Rattle.gs_world.proofs.Staying.{run_same}
 use Rattle.gs_world.specs.Histories.{History}
-use Rattle.gs_world.specs.Runs.{RunsTo, Step, Takes}
+use Rattle.gs_world.specs.Runs.{Comes as StepComes, RunsTo, Step, Takes}
+use Rattle.gs_laws_scripts.proofs.lemmas.explained.Epochs.{IsTold, commit_told, phase_of}
 use Rattle.gs_laws_scripts.proofs.lemmas.explained.Listed.{undisturbed_on}
 use Rattle.gs_laws_scripts.proofs.lemmas.lists.Dialogues.{BeginsAndCommits}
 use Rattle.gs_laws_scripts.proofs.lemmas.lists.Lines.{Carries_at, all_join, answered_on, begun_leads, only_one, prepares_asks, rolls_asks}
@@ -121,7 +129,41 @@ module _ (sizes : HaveSizes) {D : Type 0} (seen : D → List ℕ) (failures : D 
     rests = undisturbed_on seen failures halts.durable done.has.req.number (Takes the_client ∷ []) done.mid (history done.after (way_of new.wire)) done.takes (tt, tt) ((refl, tt), tt)
         (record { still = halts.halted.still; asked = halts.halted.asked; types = halts.halted.types; lasts = halts.halted.lasts })
 
-    stands_then : (m : Machine) × Stands seen config new m
+    -- ---- the turn of the commit
+
+    abbrev s : State
+    s = halts.made.answers.master.state
+
+    within_parts : AllByRecursion IsStepWithin (halts.made.before ++ StepComes halts.made.event ∷ halts.made.after)
+    within_parts = subst (AllByRecursion IsStepWithin) halts.made.parts done.has.within.1
+
+    abbrev to_now : List Step
+    to_now = asks_call done.has.moment done.has.req commit ∷ halts.made.before
+
+    runs_now : RunsTo seen failures unarmed to_now before halts.made.now
+    runs_now = (done.has.asked, (Ok tt, done.has.asks.happens), halts.made.first)
+
+    within_now : AllByRecursion IsStepWithin to_now
+    within_now = (done.has.within.0, all_front IsStepWithin halts.made.before (StepComes halts.made.event ∷ halts.made.after) within_parts)
+
+    its_fits : replayed s.durable (new_call halts.made.answers.master.config s done.has.req halts.made.event.moment commit).records ≡ Some (new_call halts.made.answers.master.config s done.has.req halts.made.event.moment commit).after.durable
+    its_fits =
+        fits seen failures unarmed halts.made.now halts.made.next halts.made.event halts.made.said halts.made.happens done.has.req commit (says.Epoch epoch) halt (all_back IsStepWithin halts.made.before (StepComes halts.made.event ∷ halts.made.after) within_parts).0
+        (run_keeps seen failures unarmed to_now before halts.made.now runs_now within_now types) (run_through seen failures unarmed (λ disk call place lasts. lasts) (λ d disk call place told. told) to_now before halts.made.now runs_now within_now types lasts) halts.made.answers
+
+    its : MadeThere seen failures unarmed halts.made.now halts.made.event.moment halts.made.answers.master done.has.req commit (says.Epoch epoch) halts.made.next.nodes
+    its = made_there seen failures unarmed halts.made.now halts.made.event halts.made.said halts.made.next halts.made.happens done.has.req commit (says.Epoch epoch) halts.made.answers
+
+    standing_is : {p q : MasterOf D} → ◌≡◌ {A = MasterPlace D} (Standing p) (Standing q) → p ≡ q
+    standing_is e = cc
+
+    after_is : (new_call halts.made.answers.master.config s done.has.req halts.made.event.moment commit).after.durable ≡ halts.durable
+    after_is = ap (λ (u : State). u.durable) (sym its.is) ∙ ap (λ (n : MasterOf D). n.state.durable) (standing_is (sym its.stands ∙ halts.stands.stands)) ∙ halts.stands.keeps
+
+    told : IsTold halts.durable epoch (phase_of commit)
+    told = subst (λ d. IsTold d epoch (phase_of commit)) after_is (commit_told halts.made.answers.master.config s done.has.req halts.made.event.moment epoch commit halt its.says its_fits)
+
+    stands_then : (m : Machine) × Stands seen config new m × (m.epoch ≡ epoch) × (m.phase ≡ phase_of commit)
     stands_then = (
       shown halts.durable,
       record {
@@ -134,6 +176,8 @@ module _ (sizes : HaveSizes) {D : Type 0} (seen : D → List ℕ) (failures : D 
         rests = rests;
         shows = it_shows halts.durable;
       },
+      told.0,
+      told.1,
     )
 
 pub commits_stand : HaveSizes → {D : Type 0} → CommitsStand D

@@ -1,5 +1,5 @@
 -- A run of the shell lists the same.
-use Rattle.std.proofs.Common.{◌≡◌, ◌∙◌, ◌++◌, ℕ, List, [], Option, Result, ap}
+use Rattle.std.proofs.Common.{◌≡◌, ◌∙◌, ℕ, List, [], Option, Result, ap}
 use Rattle.gs_base.specs.declared.config.Config.{Config}
 use Rattle.gs_journal.specs.Memory.{bytes_of, times_failed}
 use Rattle.gs_journal.specs.Records.{fresh, standing}
@@ -16,7 +16,7 @@ use Rattle.gs_laws_scripts.proofs.lemmas.lists.Scripts.{from_start}
 use Rattle.gs_laws_scripts.specs.lists.Lines.{ListTheSame}
 use Rattle.gs_laws_scripts.specs.lists.Scripts as scripts
 
-empty_disks : (disks : MemoryDisk × MemoryDisk) → AreEmpty disks → standing (bytes_of disks.0) (bytes_of disks.1) ≡ fresh
+pub empty_disks : (disks : MemoryDisk × MemoryDisk) → AreEmpty disks → standing (bytes_of disks.0) (bytes_of disks.1) ≡ fresh
 empty_disks disks (first, second) = ap (λ (l : List ℕ). standing l (bytes_of disks.1)) first ∙ ap (standing []) second
 
 pub lists : ((seen : Watched MemoryDisk → List ℕ) (failures : Watched MemoryDisk → ℕ) (config : Config) (disks : Watched MemoryDisk × Watched MemoryDisk) → ListTheSame seen failures config disks)
