@@ -5,6 +5,7 @@
     bench/threads.py size [--writes N] [--callers N]
     bench/threads.py growths [--runs N] [--limit SECONDS] [--seed N]
     bench/threads.py soak [--runs N] [--limit SECONDS] [--seed N]
+    bench/threads.py rollbacks [--runs N] [--limit SECONDS]
     bench/threads.py held [--limit SECONDS]
     bench/threads.py faults [--limit SECONDS]
 
@@ -25,10 +26,12 @@ growths  A script of names, writes and an upgrade that is rolled back runs on `c
 soak     Many runs, on one processor and on all, with `nice` and without: by turns such a script with 3, 8 or 16 servers, whose answers have
          to be those of one thread, and four callers that write 50 blocks each at once, all of which have to be accepted. Wrong is a run that
          differs, ends badly or isn't over by its limit. The last line is 'N passed, M failed'.
+rollbacks  An upgrade is rolled back, with 3, 8 and 16 servers by turns. Of each number at least 19 rollbacks in 20 have to leave
+         each server as a member that was one at the prepare.
 held     A step of a node is held for longer than it takes until a clock ticks, in each run another one (gs_held). The answers have to be
          those of one thread: no server that is slow is taken for one that doesn't answer.
-faults   A program with wrong bodies, one of which a run has (as those of bench/simulated.py): each has to be found by a script with 16
-         servers, by steps that are held, or by growths that are refused, and without any of them nothing may be found."""
+faults   A program with wrong bodies, one of which a run has (as those of bench/simulated.py): each has to be found by one of the above, and
+         without any of them nothing may be found."""
 
 import argparse
 import os
@@ -281,9 +284,43 @@ def refused_growths(asked):
     return not failed
 
 
+# ---- upgrades that are rolled back
+
+ROLLED_BACK = b"create /f\nwrite /f 0 6162\nrollingUpgrade prepare\nwrite /f 0 63\nrollingUpgrade rollback\nread /f 0 3\nstat /f\n"
+# So many rollbacks in a hundred have to leave all members.
+WHOLE = 95
+
+
+def members_left(words, limit):
+    """How many members a rollback leaves, or why it is none."""
+    told, why = ended(words, limit, ROLLED_BACK)
+    if why:
+        return 0, why
+    read, stat = told.decode().splitlines()[-2:]
+    return (len(stat.split("/")[-1].split(",")), None) if read == "ok 6162" else (0, f"it reads {read}")
+
+
+def rolled_back(words, servers, runs, limit):
+    """In how many of some runs all members were left, and why one was none."""
+    left = [members_left(words, limit) for _ in range(runs)]
+    return sum(many == servers for many, _ in left), next((why for _, why in left if why), None)
+
+
+def rollbacks(asked):
+    program = program_of(asked, "chunkstore")
+    passed = 0
+    for servers in SERVERS:
+        words = [program, *sizes_of(servers), "--replicas", str(servers), "--threads"]
+        whole, why = rolled_back(words, servers, asked.runs, asked.limit)
+        print(f"{servers} servers: {whole} of {asked.runs} rollbacks left each as a member{f'; {why}' if why else ''}", flush=True)
+        passed += whole * 100 >= asked.runs * WHOLE and not why
+    print(f"{passed} passed, {len(SERVERS) - passed} failed", flush=True)
+    return passed == len(SERVERS)
+
+
 # ---- steps that are held
 
-SNAPSHOT = b"create /f\nwrite /f 0 61\nsnapshot /f /g\nwrite /f 0 62\nread /g 0 3\nread /f 0 3\nstat /f\n"
+SNAPSHOT = b"create /f\nwrite /f 0 61\nsnapshot /f /g\nwrite /f 0 62\nread /g 0 3\nread /f 0 3\nstat /f\n" + ROLLED_BACK.replace(b"/f", b"/h")
 # A step is held so long, and a clock ticks some two seconds behind the last step.
 HELD_MILLIS = 8_000
 # The servers of a store, which of its nodes is held, and how many of that one's first steps are, each in a run of its own.
@@ -343,19 +380,24 @@ WRONG = {
         "let may_tick = looks >= QUIET && watch.rounds.are_behind(since);",
         "let may_tick = looks >= QUIET;",
     ),
+    "a commit is asked for at once": ("gs_shell_threads", "src/desk.rt", "self.link.settle(SETTLING)", "self.link.pause(0)"),
 }
-# In how many runs a growth is refused.
-FEW_GROWTHS = 96
+# How many rollbacks are made with each number of servers, and in how many runs a growth is refused.
+FEW_ROLLBACKS, FEW_GROWTHS = 12, 96
 HUNG_SECONDS = 40
 
 
-def by_servers(asked, program, settings):
-    """A run with many servers that isn't over, or whose answers are others."""
-    servers = SERVERS[-1]
-    words = ["env", *(f"{name}={value}" for name, value in settings.items()), program, str(servers), "0", "0", "0"]
-    told, why = ended(words, HUNG_SECONDS, SNAPSHOT)
-    if why or told != answers_on_one_thread(asked, servers):
-        return f"{servers} servers: {why or told}"
+def by_rollbacks(asked, program, settings):
+    for servers in (SERVERS[0], SERVERS[-1]):
+        words = ["env", *(f"{name}={value}" for name, value in settings.items()), program, str(servers), "0", "0", "0"]
+        whole, why = 0, None
+        for _ in range(FEW_ROLLBACKS):
+            many, why = members_left(words, HUNG_SECONDS)
+            whole += many == servers
+            if why:
+                break
+        if why or whole * 100 < FEW_ROLLBACKS * WHOLE:
+            return f"{servers} servers: {why or f'{whole} of {FEW_ROLLBACKS} rollbacks left each as a member'}"
     return None
 
 
@@ -385,7 +427,7 @@ def by_growths(asked, program, settings):
     return f"hung where growth {hung[0]} of {many} is refused, of {len(hung)} that do" if hung else None
 
 
-FINDERS = [by_servers, by_held_steps, by_growths]
+FINDERS = [by_rollbacks, by_held_steps, by_growths]
 
 
 def faults(asked):
@@ -404,6 +446,7 @@ ASKED = {
     "size": (size, None),
     "growths": (refused_growths, 100),
     "soak": (soak, 1_000),
+    "rollbacks": (rollbacks, 20),
     "held": (held, None),
     "faults": (faults, None),
 }

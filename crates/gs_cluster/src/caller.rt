@@ -7,11 +7,11 @@ use gs_base::{Moment, Refusal, ReqId};
 use gs_client::{Link, Reply};
 use gs_cluster_core::Role;
 use gs_cluster_node::{Node, Open, Plan};
-use gs_cluster_threads::{LOOKS, rest};
+use gs_cluster_threads::{LOOKS, Rounds, rest};
 use gs_journal::Disk;
 use gs_msg::{Event, Happening, Request};
 use std::alloc::Global;
-use std::sync::Wait;
+use std::sync::{Arc, Wait};
 use std::thread;
 use std::time::{Clock, Duration};
 
@@ -23,6 +23,7 @@ pub struct Caller<N: Plan, D: Disk + Drop, R: Wait + Clock + Drop> {
     pub(crate) alloc: Global,
     pub(crate) node: Node<N, Role<D>>,
     pub(crate) moment: Moment,
+    pub(crate) rounds: Arc<Rounds, Global>,
 }
 
 /// A copy of what came back, if something did.
@@ -75,6 +76,18 @@ impl<N: Plan, D: Disk + Drop, R: Wait + Clock + Drop> Caller<N, D, R> {
         thread::sleep(&self.rt, Duration::from_millis(millis));
     }
 
+    /// Rests until what is under way among the master and the servers is done, so many milliseconds at most. Nothing happens to its node
+    /// meanwhile.
+    pub fn settle(&self, millis: u64) {
+        let begun = self.rounds.now();
+        for _ in 0..millis {
+            if self.rounds.are_behind(begun) {
+                return;
+            }
+            self.pause(1);
+        }
+    }
+
     /// Hears what comes, until there is a reply.
     fn wait(&mut self) -> Reply
         ensures hears { HearsAll D.seen D.failures self.old.node result self.new.node }
@@ -86,6 +99,7 @@ impl<N: Plan, D: Disk + Drop, R: Wait + Clock + Drop> Caller<N, D, R> {
             alloc,
             node,
             moment: _,
+            rounds: _,
         } = self;
         for _ in rt.forever() {
             if let Some(reply) = reply_at(*alloc, node.core()) {

@@ -16,11 +16,11 @@ use gs_cluster_core::Role;
 use gs_cluster_core::promises::matching_histories_are_a_run_of_the_store;
 use gs_cluster_history::Core;
 use gs_cluster_node::{Gate, Node, Plan};
-use gs_cluster_threads::{Gathered, Hosts, wire};
+use gs_cluster_threads::{Gathered, Hosts, Rounds, wire};
 use gs_journal::Disk;
 use gs_nodes::Nodes;
 use std::alloc::{AllocError, Global};
-use std::sync::Wait;
+use std::sync::{Arc, Wait};
 use std::thread::Threads;
 use std::time::Clock;
 
@@ -64,6 +64,7 @@ pub(crate) fn parted<T: Drop>(
 fn callers_of<N: Plan, D: Disk + Drop, R: Wait + Clock + Copy + Drop>(
     rt: &R,
     alloc: Global,
+    rounds: &Arc<Rounds, Global>,
     nodes: Vec<Node<N, Role<D>>>,
 ) -> Result<Vec<Caller<N, D, R>>, AllocError>
     ensures nodes { IfOk result (λ v. map (λ (c : ACaller N D R). c.node) v.items ≡ nodes.items) }
@@ -71,11 +72,13 @@ fn callers_of<N: Plan, D: Disk + Drop, R: Wait + Clock + Copy + Drop>(
 {
     let mut callers = Vec::new(alloc);
     for node in nodes {
+        let rounds = Arc::try_clone(rounds)?;
         callers.push(Caller {
             rt: *rt,
             alloc,
             node,
             moment: Moment(0),
+            rounds,
         })?;
     }
     Ok(callers)
@@ -95,6 +98,7 @@ fn nodes_of<N: Plan, D: Disk + Drop, R: Wait + Clock + Drop>(
             alloc: _,
             node,
             moment: _,
+            rounds: _,
         } = caller;
         nodes.push(node)?;
     }
@@ -144,8 +148,9 @@ impl<N: Plan + Send + Sync + 'static, D: Disk + Drop + Send + 'static> Cluster<N
         } = opened;
         let nodes = wire(rt, alloc, are_noted, seeds)?;
         let (keepers, clients) = parted(alloc, config.servers as usize + 1, nodes)?;
-        let callers = callers_of(rt, alloc, clients)?;
         let hosts = Hosts::start(rt, alloc, gate, keepers)?;
+        let rounds = hosts.rounds()?;
+        let callers = callers_of(rt, alloc, &rounds, clients)?;
         let cluster = Cluster {
             alloc,
             config,

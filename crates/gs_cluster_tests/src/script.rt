@@ -46,13 +46,14 @@ impl Write for Output {
     }
 }
 
-/// What a new store of three servers in two racks writes for a script, or how it ended otherwise.
+/// What a new store of so many servers in two racks, each of which is to have all chunks, writes for a script, or how it ended otherwise.
 fn output_of<T: Threads + Wait + Clock + Copy + Drop + Send + Sync + 'static>(
     rt: &T,
     alloc: Global,
+    servers: u64,
     script: &[u8],
 ) -> Result<String, Refusal> {
-    let config = Config::new(3, 2, 3, 4, 16)?;
+    let config = Config::new(servers, 2, servers, 4, 16)?;
     let mut input = Input { rest: script };
     let mut output = Output {
         written: Vec::new(alloc),
@@ -107,7 +108,33 @@ const SCRIPTS: [(&'static [u8], &'static str); 7] = [
 #[test]
 fn scripts_are_answered_as_on_one_thread(rt: HostRuntime) -> Result<(), Fail> {
     for (script, wanted) in SCRIPTS.iter() {
-        let output = output_of(&rt, rt.alloc(), script)?;
+        let output = output_of(&rt, rt.alloc(), 3, script)?;
+        assert_eq!(rt; output.as_str(), *wanted);
+    }
+    Ok(())
+}
+
+/// An upgrade in which a file is written to, and who has its chunk when it is rolled back.
+const ROLLED_BACK: &'static [u8] =
+    b"create /f\nwrite /f 0 61\nrollingUpgrade prepare\nwrite /f 0 62\nrollingUpgrade rollback\nread /f 0 2\nstat /f\n";
+
+/// By how many servers there are, who has the chunk: each of them.
+const MEMBERS: [(u64, &'static str); 3] = [
+    (3, "ok\nok\nok 1\nok\nok 2\nok 61\nok file 1 1/1/0,1,2\n"),
+    (
+        8,
+        "ok\nok\nok 1\nok\nok 2\nok 61\nok file 1 1/1/0,1,2,3,4,5,6,7\n",
+    ),
+    (
+        16,
+        "ok\nok\nok 1\nok\nok 2\nok 61\nok file 1 1/1/0,1,2,3,4,5,6,7,8,9,10,11,12,13,14,15\n",
+    ),
+];
+
+#[test]
+fn a_rollback_leaves_each_server_as_a_member(rt: HostRuntime) -> Result<(), Fail> {
+    for (servers, wanted) in MEMBERS.iter() {
+        let output = output_of(&rt, rt.alloc(), *servers, ROLLED_BACK)?;
         assert_eq!(rt; output.as_str(), *wanted);
     }
     Ok(())

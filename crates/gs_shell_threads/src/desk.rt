@@ -21,6 +21,9 @@ const TURNS: u64 = 10_000;
 /// Behind so many turns the master is left alone for long enough that its clock ticks.
 const LONG_TURNS: u64 = 1_000;
 
+/// For how many milliseconds a commit waits at most until the nodes have come to rest.
+const SETTLING: u64 = 600_000;
+
 /// For how many milliseconds nothing is asked behind a turn.
 fn pause_behind(turn: u64) -> u64 {
     if turn % LONG_TURNS == 0 { 6_000 } else { 1 }
@@ -51,10 +54,12 @@ fn is_unquiet(answer: &Result<Answer, Refusal>) -> bool
 }
 
 impl<N: Plan, D: Disk + Drop, T: Wait + Clock + Drop> Desk<N, D, T> {
-    /// Asks for a step of an upgrade, again and again while it can't be yet.
+    /// Asks for a step of an upgrade once the nodes have come to rest, and again and again while it can't be yet. So each server that isn't slower
+    /// than all that time has answered to what the master told it.
     fn ask_until(&mut self, step: UpgradeStep) -> Result<Answer, Refusal>
         ensures { FollowsDialogue (Sends (carried D.seen D.failures)) (until more_turns (step_line step)) (self.old.caller.client, self.old.link) result (self.new.caller.client, self.new.link) }
     {
+        self.link.settle(SETTLING);
         let mut answer = self.caller.ask(&mut self.link, Command::Step(step));
         for turn in 1..TURNS {
             if !is_for_now(&answer) {

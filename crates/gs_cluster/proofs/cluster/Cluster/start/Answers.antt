@@ -49,3 +49,6 @@ returns-clause-clients g c =
 
 pub start-requires-send-C : goal.start-requires-send-C
 start-requires-send-C g c κs within = param_send 1 _ (arg_send _ no _ (role_row (param 1 g.row.D) g.D.Disk c.type_bounds.send-D))
+
+pub rounds-requires-send-C : goal.rounds-requires-send-C
+rounds-requires-send-C g c κs within = param_send 1 _ (arg_send _ no _ (role_row (param 1 g.row.D) g.D.Disk c.type_bounds.send-D))
