@@ -40,7 +40,8 @@ MOST = 200
 # What the part says where no memory was left for its upgrade.
 LACKED = "upgrades not begun"
 PROVED_SECONDS = 20
-# At the end, however the program ends, it says whether the growth was reached, and how many there were.
+# With REFUSED_FROM each later growth is refused too. At the end, however the program ends, it says whether the growth was reached, and how many
+# there were.
 LIBRARY = """
 extern void *dlsym(void *, const char *);
 extern int *__errno_location(void);
@@ -49,10 +50,14 @@ extern long atol(const char *);
 extern int snprintf(char *, unsigned long, const char *, ...);
 extern long write(int, const void *, unsigned long);
 void _exit(int);
-static long calls, refused = -1;
+static long calls, refused = -1, stays;
 static int is_refused(void) {
-    if (refused < 0) refused = getenv("REFUSED") ? atol(getenv("REFUSED")) : 0;
-    if (__sync_add_and_fetch(&calls, 1) != refused) return 0;
+    if (refused < 0) {
+        stays = getenv("REFUSED_FROM") != 0;
+        refused = getenv("REFUSED") ? atol(getenv("REFUSED")) : 0;
+    }
+    long call = __sync_add_and_fetch(&calls, 1);
+    if (call != refused && !(stays && refused && call > refused)) return 0;
     *__errno_location() = 12;
     return 1;
 }

@@ -4,6 +4,7 @@
     bench/threads.py speed [--times N] [--repeats R]
     bench/threads.py size [--writes N] [--callers N]
     bench/threads.py growths [--runs N] [--limit SECONDS] [--seed N]
+    bench/threads.py memory [--limit SECONDS]
     bench/threads.py soak [--runs N] [--limit SECONDS] [--seed N]
     bench/threads.py rollbacks [--runs N] [--limit SECONDS]
     bench/threads.py held [--limit SECONDS]
@@ -19,10 +20,12 @@ size     Four callers write 50 bytes each, one by one, and in another run a hund
          `finish_whole`. It prints the seconds by the clock, the peak of memory, the events and the messages, and how many times as much of
          each the second run takes. Wrong is a run that ends badly, or a write that isn't accepted. No time is judged.
 growths  A script of names, writes and an upgrade that is rolled back runs on `chunkstore --threads`. In each run one call of malloc or
-         realloc fails, at places that are spread over all that a run makes. Which call that is differs from run to run, since threads take
-         turns as they like. A run has to end within its limit: with status 0 and an answer to each line; with status 1 where the store
-         couldn't be begun or ended; or with 2 where the words couldn't be read. The first answer that differs from those on one thread has
-         to be a refusal. The last line is 'N passed, M failed'.
+         realloc fails, at places that are spread over all that a run makes; and in another run each later call too. Which call that is
+         differs from run to run, since threads take turns as they like. A run has to end within its limit: with status 0 and an answer to
+         each line; with status 1 where the store couldn't be begun or ended; or with 2 where the words couldn't be read. The first answer
+         that differs from those on one thread has to be a refusal. The last line is 'N passed, M failed'.
+memory   Three lines, one of which writes 500 KB, run on `chunkstore --threads` within so little address space that some growths are
+         refused for good. A run has to end so too, within five times the limit, and each answer has to be one that one thread may give there.
 soak     Many runs, on one processor and on all, with `nice` and without: by turns such a script with 3, 8 or 16 servers, whose answers have
          to be those of one thread, and four callers that write 50 blocks each at once, all of which have to be accepted. Wrong is a run that
          differs, ends badly or isn't over by its limit. The last line is 'N passed, M failed'.
@@ -57,6 +60,8 @@ SIZES = ["--servers", "3", "--racks", "2", "--block", "4", "--chunk", "16"]
 DISTURBED = [[], ["nice", "-n", "19"], ["taskset", "-c", "0"], ["taskset", "-c", "0", "nice", "-n", "19"]]
 SOAKED_WRITES, SOAKED_CALLERS = 50, 4
 FEW = 50
+# So many runs go on beside each other that mostly rest.
+BESIDE_EACH_OTHER = 16
 # With how many servers scripts run by turns.
 SERVERS = [3, 8, 16]
 PARTS = [("seconds", "{:.2f}"), ("busy", "{:.2f}"), ("peak", "{:,}"), ("events", "{:,}"), ("sent", "{:,}")]
@@ -227,8 +232,8 @@ def soak(asked):
 class Run:
     """How a run ended, its answers, how many growths it made, and its seconds."""
 
-    def __init__(self, program, library, refused, data, limit):
-        settings = {"LD_PRELOAD": library, "REFUSED": str(refused)}
+    def __init__(self, program, library, refused, data, limit, stays=False):
+        settings = {"LD_PRELOAD": library, "REFUSED": str(refused), **({"REFUSED_FROM": "1"} if stays else {})}
         begun = time.monotonic()
         self.status, self.answers, said = None, [], ""
         try:
@@ -249,38 +254,96 @@ def wrong_with(run, wanted):
         return "not at its end within its limit"
     if run.status not in (0, 1, 2):
         return f"status {run.status}: {run.said[-200:]!r}"
-    if run.status == 0 and len(run.answers) != len(wanted):
+    if len(run.answers) != len(wanted) and (run.status == 0 or run.answers):
         return f"{len(run.answers)} answers to {len(wanted)} lines"
     other = next((answer for answer, right in zip(run.answers, wanted) if answer != right), None)
     return None if other is None or other.startswith("refused") else f"{other!r} is the first other answer"
+
+
+def tell_of(runs, wanted):
+    """Tells what became of runs, each with the growth that was refused in it, and how many are wrong."""
+    seen, failed = {}, 0
+    for refused, run in runs:
+        other = next((answer for answer, right in zip(run.answers, wanted) if answer != right), "as ever")
+        word = f"status {run.status}" if run.status else " ".join(other.split()[:3])
+        seen[word] = seen.get(word, 0) + 1
+        why = wrong_with(run, wanted)
+        if why:
+            failed += 1
+            print(f"growth {refused}: {why}", flush=True)
+    for word, many in sorted(seen.items()):
+        print(f"{many:5} {word}")
+    reached, slowest = sum(run.was_reached for _, run in runs), max(run.seconds for _, run in runs)
+    print(f"{reached} reached the growth; the slowest took {slowest:.1f} seconds", flush=True)
+    return failed
 
 
 def refused_growths(asked):
     program = program_of(asked, "chunkstore")
     data = script_of(random.Random(asked.seed))
     wanted = subprocess.run([program, *SIZES], input=data, capture_output=True, check=True).stdout.decode().splitlines()
-    failed, seen, slowest, reached = 0, {}, 0.0, 0
+    failed = 0
     with tempfile.TemporaryDirectory() as folder:
         library = growths.library(folder)
         whole = Run(program, library, 0, data, asked.limit)
         if whole.status != 0 or whole.answers != wanted or not whole.growths:
             sys.exit(f"without a refusal: status {whole.status}, {whole.growths} growths")
         print(f"{whole.growths} growths of {len(wanted)} lines, in {whole.seconds:.1f} seconds", flush=True)
-        for number in range(asked.runs):
-            refused = 1 + number * whole.growths // asked.runs
-            run = Run(program, library, refused, data, asked.limit)
-            why = wrong_with(run, wanted)
-            slowest, reached = max(slowest, run.seconds), reached + run.was_reached
-            other = next((answer for answer, right in zip(run.answers, wanted) if answer != right), "as ever")
-            word = f"status {run.status}" if run.status else " ".join(other.split()[:3])
-            seen[word] = seen.get(word, 0) + 1
-            if why:
-                failed += 1
-                print(f"growth {refused}: {why}", flush=True)
-    for word, many in sorted(seen.items()):
-        print(f"{many:5} {word}")
-    print(f"{reached} reached the growth; the slowest took {slowest:.1f} seconds", flush=True)
-    print(f"{asked.runs - failed} passed, {failed} failed", flush=True)
+        numbers = [1 + number * whole.growths // asked.runs for number in range(asked.runs)]
+        for stays, words in ((False, "one is refused"), (True, "one is refused, and each later one")):
+            print(f"{words}:", flush=True)
+            with ThreadPoolExecutor(BESIDE_EACH_OTHER) as beside_each_other:
+                runs = beside_each_other.map(lambda refused: Run(program, library, refused, data, asked.limit, stays), numbers)
+                failed += tell_of(list(zip(numbers, runs)), wanted)
+    print(f"{2 * asked.runs - failed} passed, {failed} failed", flush=True)
+    return not failed
+
+
+# ---- little memory
+
+WRITTEN = 500_000
+LINES = f"create /f\nwrite /f 0 {'61' * WRITTEN}\nread /f 0 1\n".encode()
+# Within so many MiB of address space, one after the other.
+SPACES = range(36, 92, 4)
+# What each of the lines may be answered where there is no memory. A call for which the master lacked some may wait on, and hold its path.
+MAY_SAY = re.compile(r"ok( .*)?|refused (3 NotFound|10 Locked|28 NoReplica|29 Unsure|33 Memory)")
+
+
+def within(program, mebibytes, limit):
+    """How a run within so much address space ends, its answers, and its seconds."""
+    words = ["sh", "-c", 'ulimit -v "$1"; shift; exec "$@"', "sh", str(mebibytes * 1024), program, "--servers", "3", "--racks", "2", "--threads"]
+    begun = time.monotonic()
+    try:
+        done = subprocess.run(words, input=LINES, capture_output=True, timeout=limit)
+    except subprocess.TimeoutExpired:
+        return None, [], time.monotonic() - begun
+    return done.returncode, done.stdout.decode().splitlines(), time.monotonic() - begun
+
+
+def wrong_within(status, answers):
+    if status is None:
+        return "not at its end within its limit"
+    if status not in (0, 1, 2) or (len(answers) != 3 and (status == 0 or answers)):
+        return f"status {status}, {len(answers)} answers"
+    other = next((answer for answer in answers if not MAY_SAY.fullmatch(answer)), None)
+    return other and f"it says {other[:80]!r}"
+
+
+def memory(asked):
+    program, failed, lacked, whole = program_of(asked, "chunkstore"), 0, 0, 0
+    with ThreadPoolExecutor(len(SPACES)) as beside_each_other:
+        runs = list(beside_each_other.map(lambda mebibytes: within(program, mebibytes, 5 * asked.limit), SPACES))
+    for mebibytes, (status, answers, seconds) in zip(SPACES, runs):
+        why = wrong_within(status, answers)
+        said = "; ".join(answer[:40] for answer in answers) or "no store"
+        print(f"{mebibytes} MiB: {said}, status {status}, {seconds:.0f} seconds{f': {why}' if why else ''}", flush=True)
+        failed += bool(why)
+        lacked += any(answer.startswith("refused") for answer in answers)
+        whole += answers[1:] == ["ok", "ok 61"]
+    if not lacked or not whole:
+        print("there is no run that lacks memory, or none that has enough", flush=True)
+        failed += 1
+    print(f"{len(SPACES) - failed} passed, {failed} failed", flush=True)
     return not failed
 
 
@@ -325,7 +388,6 @@ SNAPSHOT = b"create /f\nwrite /f 0 61\nsnapshot /f /g\nwrite /f 0 62\nread /g 0 
 HELD_MILLIS = 8_000
 # The servers of a store, which of its nodes is held, and how many of that one's first steps are, each in a run of its own.
 HELD = [(1, "server 0", 1, 20), (3, "server 1", 2, 20), (3, "the master", 0, 32)]
-BESIDE_EACH_OTHER = 16
 
 
 def held_program():
@@ -381,10 +443,20 @@ WRONG = {
         "let may_tick = looks >= QUIET;",
     ),
     "a commit is asked for at once": ("gs_shell_threads", "src/desk.rt", "self.link.settle(SETTLING)", "self.link.pause(0)"),
+    "a caller gives up while a node is at work": (
+        "gs_cluster",
+        "src/patience.rt",
+        "if rounds.are_behind(self.since) {",
+        "self.vain = self.vain.saturating_add(8); if rounds.are_behind(self.since) {",
+    ),
+    "a caller never gives up": ("gs_cluster", "src/caller.rt", "if patience.is_over() {", "if patience.is_over() && patience.looks > 7_000 {"),
 }
-# How many rollbacks are made with each number of servers, and in how many runs a growth is refused.
-FEW_ROLLBACKS, FEW_GROWTHS = 12, 96
-HUNG_SECONDS = 40
+# How many rollbacks are made with each number of servers, in how many runs a growth is refused, and in how many each later one too.
+FEW_ROLLBACKS, FEW_GROWTHS, FEW_LASTING = 12, 96, 32
+# A run is over sooner, also where what was asked has to be asked once more. Only a request that is given up takes longer.
+SLOW_SECONDS = 25
+# So is one in which a request is given up.
+HUNG_SECONDS = 180
 
 
 def by_rollbacks(asked, program, settings):
@@ -407,24 +479,27 @@ def by_held_steps(asked, program, settings):
     return f"{name} held at step {wrong[0]}" if wrong else None
 
 
+def refused_in(words, settings, refused, limit):
+    """What a run says in which a growth is refused, or nothing where it isn't over by then."""
+    try:
+        return subprocess.run(words, input=SNAPSHOT, capture_output=True, timeout=limit, env={**settings, "REFUSED": str(refused)}).stderr.decode()
+    except subprocess.TimeoutExpired:
+        return None
+
+
 def by_growths(asked, program, settings):
-    """A run that isn't over where one growth is refused."""
+    """A run that isn't over soon where one growth is refused, or isn't over at all where each later one is too."""
     words = [program, str(SERVERS[0]), "0", "0", "0"]
-    with tempfile.TemporaryDirectory() as folder:
-        preload = {**os.environ, **settings, "LD_PRELOAD": growths.library(folder)}
-
-        def said(refused, limit=HUNG_SECONDS):
-            how = {"input": SNAPSHOT, "capture_output": True, "timeout": limit, "env": {**preload, "REFUSED": str(refused)}}
-            try:
-                return subprocess.run(words, **how).stderr.decode()
-            except subprocess.TimeoutExpired:
-                return None
-
-        many = int(re.search(r"^growths (\d+)$", said(0) or "growths 0", re.MULTILINE)[1])
-        refused = [1 + number * many // FEW_GROWTHS for number in range(FEW_GROWTHS)]
-        with ThreadPoolExecutor(BESIDE_EACH_OTHER) as runs:
-            hung = [growth for growth, told in zip(refused, runs.map(said, refused)) if told is None]
-    return f"hung where growth {hung[0]} of {many} is refused, of {len(hung)} that do" if hung else None
+    with tempfile.TemporaryDirectory() as folder, ThreadPoolExecutor(BESIDE_EACH_OTHER) as runs:
+        once = {**os.environ, **settings, "LD_PRELOAD": growths.library(folder)}
+        many = int(re.search(r"^growths (\d+)$", refused_in(words, once, 0, HUNG_SECONDS) or "growths 0", re.MULTILINE)[1])
+        for number, limit, how in ((FEW_GROWTHS, SLOW_SECONDS, once), (FEW_LASTING, HUNG_SECONDS, {**once, "REFUSED_FROM": "1"})):
+            refused = [1 + place * many // number for place in range(number)]
+            over = runs.map(lambda growth, how=how, limit=limit: refused_in(words, how, growth, limit), refused)
+            late = [growth for growth, told in zip(refused, over) if told is None]
+            if late:
+                return f"not over in {limit} seconds where growth {late[0]} of {many} is refused, and {len(late) - 1} times more"
+    return None
 
 
 FINDERS = [by_rollbacks, by_held_steps, by_growths]
@@ -445,6 +520,7 @@ ASKED = {
     "speed": (speed, None),
     "size": (size, None),
     "growths": (refused_growths, 100),
+    "memory": (memory, None),
     "soak": (soak, 1_000),
     "rollbacks": (rollbacks, 20),
     "held": (held, None),

@@ -48,7 +48,7 @@ acts_id (happenings.Ask req request) n outcome after h = asks_id req.number requ
 acts_id happening n outcome after h = ap (λ (m : Node). m.id) h.1
 
 hears_id : (n after : Node) {body : Rattle.gs_msg.specs.declared.body.Body.Body} → Hearing body n after → after.id ≡ n.id
-hears_id n after (Hearing.Passes same) = ap (λ (m : Node). m.id) same
+hears_id n after (Hearing.Passes nothing same) = ap (λ (m : Node). m.id) same
 hears_id n after (Hearing.Takes req reply brings so) = ap (λ (m : Node). m.id) so ∙ takes_id req reply n
 
 nobody : {A : Type 0} {id : ClientId} → ◌≡◌ {A = Option ClientId} None (Some id) → A

@@ -1,5 +1,5 @@
 -- What a caller hears, one message after the other, and what comes of what it asks.
-use Rattle.std.proofs.Common.{◌≡◌, ◌∙◌, ◌⊎◌, ◌<◌, ◌++◌, ℕ, true, List, [], ◌∷◌, MatchOption, Option, Some, None, Result, Ok, Err, refl, ap, subst, sym, inl, inr, arith}
+use Rattle.std.proofs.Common.{◌≡◌, ◌∙◌, ◌⊎◌, ◌<◌, ◌≤◌, ◌+◌, ◌++◌, ℕ, true, List, [], ◌∷◌, MatchOption, Option, Some, None, Result, Ok, Err, refl, ap, subst, sym, inl, inr, arith}
 use Rattle.gs_base.specs.declared.numbers.Moment.{Moment}
 use Rattle.gs_base.specs.declared.numbers.ReqId.{ReqId}
 use Rattle.gs_base.specs.declared.refusal.Refusal.{Refusal}
@@ -15,8 +15,9 @@ use Rattle.gs_cluster_core.specs.declared.role.Role.TheVariants.{Client}
 use Rattle.gs_cluster_history.specs.Histories.{Kept}
 use Rattle.gs_cluster_history.specs.declared.took.Took.TheVariants.{Heard}
 use Rattle.gs_cluster_node.specs.Nodes.{Receives, Stepped, Steps}
-use Rattle.gs_cluster.specs.Calling.{Asked, Carries, Exhausted, HearsAll, HearsThem, Refused, Replied, Stray, asking, reply_of, takes_memory}
-use Rattle.gs_cluster.specs.inner.Looking.{Looks, most_looks}
+use Rattle.gs_cluster.specs.Calling.{Asked, Carries, Exhausted, HearsAll, HearsThem, Refused, Replied, Stray, asking, most_vain, reply_of, takes_memory}
+use Rattle.gs_cluster.specs.declared.patience.Patience.{Patience}
+use Rattle.gs_cluster.specs.inner.Looking.{AsksAgain, Begins, Hears, Looks, LooksOn, most_looks}
 use Rattle.gs_cluster.proofs.Refused.{receives_not, steps_not}
 
 module _ {D : Type 0} (seen : D → List ℕ) (failures : D → ℕ) where
@@ -26,74 +27,146 @@ module _ {D : Type 0} (seen : D → List ℕ) (failures : D → ℕ) where
   hears_more [] old mid new sent said same step = (said, new, subst (λ (k : Kept (Role D)). Stepped (DoesAs seen failures) k (Heard sent) said new) same step, refl)
   hears_more (m ∷ ms) old mid new sent said (first, next, one, rest) step = (first, next, one, hears_more ms next mid new sent said rest step)
 
-  -- It has heard some messages since it began to wait, and has looked so often since.
-  pub record Waiting (begun now : Kept (Role D)) (looks : ℕ) : Type 0 where
+  -- It has heard some messages since it began to wait, and what it has asked in vain since it heard last is counted from where that stood.
+  pub record Waiting (begun now : Kept (Role D)) (before : ℕ) (p : Patience) : Type 0 where
     pub messages : List Sent
     pub hears : HearsThem seen failures messages begun now
-    pub few : looks < most_looks
+    pub few : p.looks < most_looks
+    pub since : before ≤ p.heard
+    pub counts : p.heard ≤ p.vain
 
-  pub none_heard : (k : Kept (Role D)) → Waiting k k 0
-  none_heard k = record { messages = []; hears = refl; few = omega arith }
+  pub none_heard : (k : Kept (Role D)) (old new : Patience) → Begins old new → Waiting k k old.vain new
+  none_heard k old new b =
+      let looks = b.looks in
+      let vain = b.vain in
+      let heard = b.heard in
+      record { messages = []; hears = refl; few = omega arith; since = omega arith; counts = omega arith }
 
-  pub looks_on : (begun now new : Kept (Role D)) (looks more : ℕ) (got : Result ℕ Refusal) → Waiting begun now looks → Looks seen failures now got new → got ≡ Ok more → Waiting begun new more
-  looks_on begun now new looks more got w looked is = let l = subst (λ (r : Result ℕ Refusal). Looks seen failures now r new) is looked in elim l.1 [
-    | inl h ↦ record { messages = w.messages ++ h.sent ∷ []; hears = hears_more w.messages begun now new h.sent h.said w.hears h.step; few = l.0 }
-    | inr same ↦ record { messages = w.messages; hears = subst (λ (k : Kept (Role D)). HearsThem seen failures w.messages begun k) (sym same) w.hears; few = l.0 }
+  heard_more : (begun now new : Kept (Role D)) (before : ℕ) (p q : Patience) → Waiting begun now before p → Hears seen failures now new → Begins p q → Waiting begun new before q
+  heard_more begun now new before p q w h b =
+      let since = w.since in
+      let counts = w.counts in
+      let looks = b.looks in
+      let vain = b.vain in
+      let heard = b.heard in
+      record {
+        messages = w.messages ++ h.sent ∷ [];
+        hears = hears_more w.messages begun now new h.sent h.said w.hears h.step;
+        few = omega arith;
+        since = omega arith;
+        counts = omega arith;
+      }
+
+  heard_nothing : (begun now new : Kept (Role D)) (before : ℕ) (p q : Patience) → Waiting begun now before p → new ≡ now → q.looks < most_looks → q.heard ≡ p.heard → p.vain ≤ q.vain → Waiting begun new before q
+  heard_nothing begun now new before p q w same few heard vain =
+      let since = w.since in
+      let counts = w.counts in
+      record {
+        messages = w.messages;
+        hears = subst (λ (k : Kept (Role D)). HearsThem seen failures w.messages begun k) (sym same) w.hears;
+        few = few;
+        since = omega arith;
+        counts = omega arith;
+      }
+
+  asked_more : (p q : Patience) → AsksAgain p q → p.vain ≤ q.vain
+  asked_more p q a = elim a.vain [ inl same ↦ omega arith | inr more ↦ omega arith ]
+
+  pub looks_on : (begun now new : Kept (Role D)) (before : ℕ) (p q : Patience) (got : Result (Unit {0}) Refusal) (x : Unit {0}) → Waiting begun now before p → Looks seen failures now p got new q → got ≡ Ok x
+      → Waiting begun new before q
+  looks_on begun now new before p q got x w looked is = let l = subst (λ (r : Result (Unit {0}) Refusal). Looks seen failures now p r new q) is looked in elim l [
+    | inl h ↦ heard_more begun now new before p q w h.0 h.1
+    | inr none ↦ elim none.1 [
+      | inl on ↦ heard_nothing begun now new before p q w none.0 on.few on.heard (let vain = on.vain in omega arith)
+      | inr again ↦ heard_nothing begun now new before p q w none.0 (let looks = again.1.looks in omega arith) again.1.heard (asked_more p q again.1)
+    ]
   ]
 
-  pub looks_no_more : (begun now new : Kept (Role D)) (looks : ℕ) (got : Result ℕ Refusal) (refusal : Refusal) → Waiting begun now looks → Looks seen failures now got new → got ≡ Err refusal
-      → HearsAll seen failures begun (replies.Refused refusal) new
-  looks_no_more begun now new looks got refusal w looked is =
-      let l = subst (λ (r : Result ℕ Refusal). Looks seen failures now r new) is looked in
+  pub looks_no_more : (begun now new : Kept (Role D)) (before : ℕ) (p q : Patience) (got : Result (Unit {0}) Refusal) (refusal : Refusal) → Waiting begun now before p → Looks seen failures now p got new q
+      → got ≡ Err refusal → HearsAll seen failures begun before (replies.Refused refusal) new q.vain
+  looks_no_more begun now new before p q got refusal w looked is =
+      let l = subst (λ (r : Result (Unit {0}) Refusal). Looks seen failures now p r new q) is looked in
+      let since = w.since in
+      let counts = w.counts in
+      let stays = ap (λ (x : Patience). x.vain) l.3 in
       record {
         messages = w.messages;
         hears = subst (λ (k : Kept (Role D)). HearsThem seen failures w.messages begun k) (sym l.1) w.hears;
-        ends = inr (ap replies.Refused l.0, ap (λ (k : Kept (Role D)). k.past.clock) l.1 ∙ l.2);
+        counts = omega arith;
+        ends = inr (inl (ap replies.Refused l.0, ap (λ (k : Kept (Role D)). k.past.clock) l.1 ∙ l.2));
       }
 
-  pub is_replied : (begun now : Kept (Role D)) (looks : ℕ) (role : Role D) (got : Option Reply) (reply : Reply) → Waiting begun now looks → role ≡ now.past.core → Replied role got → got ≡ Some reply → HearsAll seen failures begun reply now
-  is_replied begun now looks role got reply w at replied is = record {
-    messages = w.messages;
-    hears = w.hears;
-    ends = inl (subst (λ (r : Role D). Replied r (Some reply)) at (subst (λ (o : Option Reply). Replied role o) is replied));
-  }
+  pub is_replied : (begun now : Kept (Role D)) (before : ℕ) (p : Patience) (role : Role D) (got : Option Reply) (reply : Reply) → Waiting begun now before p → role ≡ now.past.core → Replied role got → got ≡ Some reply
+      → HearsAll seen failures begun before reply now p.vain
+  is_replied begun now before p role got reply w at replied is =
+      let since = w.since in
+      let counts = w.counts in
+      record {
+        messages = w.messages;
+        hears = w.hears;
+        counts = omega arith;
+        ends = inl (subst (λ (r : Role D). Replied r (Some reply)) at (subst (λ (o : Option Reply). Replied role o) is replied));
+      }
+
+  -- nothing came, and it has asked in vain so often since it heard last
+  pub is_lost : (begun now : Kept (Role D)) (before : ℕ) (p : Patience) (role : Role D) → Waiting begun now before p → role ≡ now.past.core → reply_of role ≡ None → p.heard + most_vain ≤ p.vain
+      → HearsAll seen failures begun before replies.Lost now p.vain
+  is_lost begun now before p role w at none vain =
+      let since = w.since in
+      let counts = w.counts in
+      record {
+        messages = w.messages;
+        hears = w.hears;
+        counts = omega arith;
+        ends = inr (inr (refl, subst (λ (r : Role D). reply_of r ≡ None) at none, omega arith));
+      }
 
   -- ---- one look
 
   abbrev Received : Type 0
   Received = Result (Option (Result (Unit {0}) Refusal)) Refusal
 
-  pub heard_one : (old new : Kept (Role D)) (got : Received) (said : Result (Unit {0}) Refusal) → Receives (DoesAs seen failures) old got new → got ≡ Ok (Some said) → Looks seen failures old (Ok 0) new
-  heard_one old new got said step is =
+  pub heard_one : (old new : Kept (Role D)) (p q : Patience) (got : Received) (said : Result (Unit {0}) Refusal) → Receives (DoesAs seen failures) old got new → got ≡ Ok (Some said)
+      → Begins p q → Looks seen failures old p (Ok tt) new q
+  heard_one old new p q got said step is begins =
       let s = subst (λ (r : Received). Receives (DoesAs seen failures) old r new) is step in
-      (omega arith, inl (record { sent = s.0; said = said; step = s.1 }))
+      inl (record { sent = s.0; said = said; step = s.1 }, begins)
 
-  pub heard_none : (old mid new : Kept (Role D)) (got : Received) (looks : ℕ) → Receives (DoesAs seen failures) old got mid → got ≡ Ok None → new ≡ mid → looks < most_looks → Looks seen failures old (Ok looks) new
-  heard_none old mid new got looks step is same few = (few, inr (same ∙ subst (λ (r : Received). Receives (DoesAs seen failures) old r mid) is step))
+  pub heard_none : (old mid new : Kept (Role D)) (p q : Patience) (got : Received) → Receives (DoesAs seen failures) old got mid → got ≡ Ok None → new ≡ mid
+      → LooksOn p q ⊎ ((p.looks + 1 ≡ most_looks) × AsksAgain p q) → Looks seen failures old p (Ok tt) new q
+  heard_none old mid new p q got step is same looked = inr (same ∙ subst (λ (r : Received). Receives (DoesAs seen failures) old r mid) is step, looked)
 
-  pub heard_out : (old new : Kept (Role D)) (got : Received) (refusal : Refusal) → Receives (DoesAs seen failures) old got new → got ≡ Err refusal → Looks seen failures old (Err refusal) new
-  heard_out old new got refusal step is = receives_not (DoesAs seen failures) old new refusal (subst (λ (r : Received). Receives (DoesAs seen failures) old r new) is step)
+  pub heard_out : (old new : Kept (Role D)) (p : Patience) (got : Received) (refusal : Refusal) → Receives (DoesAs seen failures) old got new → got ≡ Err refusal → Looks seen failures old p (Err refusal) new p
+  heard_out old new p got refusal step is =
+      let r = receives_not (DoesAs seen failures) old new refusal (subst (λ (r : Received). Receives (DoesAs seen failures) old r new) is step) in
+      (r.0, r.1, r.2, refl)
+
+  -- it has looked for the last time, and asks
+  pub asks_again : (p mid q : Patience) → mid.vain ≡ p.vain → mid.heard ≡ p.heard → AsksAgain mid q → AsksAgain p q
+  asks_again p mid q vain heard a = record { looks = a.looks; vain = elim a.vain [ inl same ↦ inl (same ∙ vain) | inr more ↦ inr (more ∙ ap (λ n. n + 1) vain) ]; heard = a.heard ∙ heard }
 
   -- ---- what is asked
 
   abbrev Said : Type 0
   Said = Result (Result (Unit {0}) Refusal) Refusal
 
-  pub was_asked : (moment : Moment) (req : ReqId) (request : Request) (old asked new : Kept (Role D)) (said : Said) (reply : Reply) → Steps (DoesAs seen failures) old (asking moment req request) said asked → said ≡ Ok (Ok tt)
-      → HearsAll seen failures asked reply new → Carries seen failures moment req request old reply new
-  was_asked moment req request old asked new said reply step is hears = Asked asked (subst (λ (s : Said). Steps (DoesAs seen failures) old (asking moment req request) s asked) is step) hears
+  pub was_asked : (moment : Moment) (req : ReqId) (request : Request) (old asked : Kept (Role D)) (before : ℕ) (new : Kept (Role D)) (after : ℕ) (said : Said) (reply : Reply)
+      → Steps (DoesAs seen failures) old (asking moment req request) said asked → said ≡ Ok (Ok tt) → HearsAll seen failures asked before reply new after → Carries seen failures moment req request old before reply new after
+  was_asked moment req request old asked before new after said reply step is hears =
+      Asked asked (subst (λ (s : Said). Steps (DoesAs seen failures) old (asking moment req request) s asked) is step) hears
 
-  pub was_refused : (moment : Moment) (req : ReqId) (request : Request) (old new : Kept (Role D)) (said : Said) (refusal : Refusal) → Steps (DoesAs seen failures) old (asking moment req request) said new → said ≡ Ok (Err refusal)
-      → Carries seen failures moment req request old (replies.Refused refusal) new
-  was_refused moment req request old new said refusal step is = Refused refusal (subst (λ (s : Said). Steps (DoesAs seen failures) old (asking moment req request) s new) is step) refl
+  pub was_refused : (moment : Moment) (req : ReqId) (request : Request) (old new : Kept (Role D)) (vain : ℕ) (said : Said) (refusal : Refusal) → Steps (DoesAs seen failures) old (asking moment req request) said new
+      → said ≡ Ok (Err refusal) → Carries seen failures moment req request old vain (replies.Refused refusal) new vain
+  was_refused moment req request old new vain said refusal step is =
+      Refused refusal (subst (λ (s : Said). Steps (DoesAs seen failures) old (asking moment req request) s new) is step) refl refl
 
-  pub was_not_asked : (moment : Moment) (req : ReqId) (request : Request) (old new : Kept (Role D)) (said : Said) (refusal : Refusal) → Steps (DoesAs seen failures) old (asking moment req request) said new → said ≡ Err refusal
-      → Carries seen failures moment req request old (replies.Refused refusal) new
-  was_not_asked moment req request old new said refusal step is =
+  pub was_not_asked : (moment : Moment) (req : ReqId) (request : Request) (old new : Kept (Role D)) (vain : ℕ) (said : Said) (refusal : Refusal) → Steps (DoesAs seen failures) old (asking moment req request) said new
+      → said ≡ Err refusal → Carries seen failures moment req request old vain (replies.Refused refusal) new vain
+  was_not_asked moment req request old new vain said refusal step is =
       let r = steps_not (DoesAs seen failures) old new (asking moment req request) refusal (subst (λ (s : Said). Steps (DoesAs seen failures) old (asking moment req request) s new) is step) in
       elim r.1 [
-        | inl last ↦ Exhausted r.0 last.1 (ap replies.Refused last.0)
-        | inr other ↦ Stray r.0 other.1 (ap replies.Refused other.0)
+        | inl last ↦ Exhausted r.0 last.1 (ap replies.Refused last.0) refl
+        | inr other ↦ Stray r.0 other.1 (ap replies.Refused other.0) refl
       ]
 
 -- ---- a copy of what came

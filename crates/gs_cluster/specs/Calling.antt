@@ -1,5 +1,5 @@
 -- What a request of a caller comes to.
-use Rattle.std.specs.Prelude.{◌≡◌, ◌⊎◌, ◌+◌, ◌++◌, ℕ, zero, suc, Bool, true, false, List, [], ◌∷◌, Option, Some, None, Result, Ok, Err}
+use Rattle.std.specs.Prelude.{◌≡◌, ◌⊎◌, ◌+◌, ◌≤◌, ◌++◌, ℕ, zero, suc, Bool, true, false, List, [], ◌∷◌, Option, Some, None, Result, Ok, Err}
 use Rattle.gs_base.specs.declared.numbers.Moment.{Moment}
 use Rattle.gs_base.specs.declared.numbers.ReqId.{ReqId}
 use Rattle.gs_base.specs.declared.refusal.Refusal.{Refusal}
@@ -58,6 +58,10 @@ Replied role (Some reply) = (came : Reply) × (reply_of role ≡ Some came) × (
 abbrev pub asking : Moment → ReqId → Request → Event
 asking moment req request = record { moment = moment; happening = happenings.Ask req request }
 
+-- So often it asks in vain, one time after the other, before it gives a request up.
+abbrev pub most_vain : ℕ
+most_vain = 8
+
 module _ {D : Type 0} (seen : D → List ℕ) (failures : D → ℕ) where
   abbrev Node : Type 0
   Node = Kept (Role D)
@@ -67,19 +71,25 @@ module _ {D : Type 0} (seen : D → List ℕ) (failures : D → ℕ) where
   HearsThem [] old new = new ≡ old
   HearsThem (sent ∷ rest) old new = (said : Result (Unit {0}) Refusal) × (mid : Node) × Stepped (DoesAs seen failures) old (Heard sent) said mid × HearsThem rest mid new
 
-  -- It hears messages until there is a reply, which is given, or its clock is at its last value.
-  pub record HearsAll (old : Node) (reply : Reply) (new : Node) : Type 0 where
+  -- It hears messages until there is a reply, which is given; or its clock is at its last value; or nothing has come, and it has asked in vain so often. The
+  -- numbers are how often it has asked in vain, over its life.
+  pub record HearsAll (old : Node) (before : ℕ) (reply : Reply) (new : Node) (after : ℕ) : Type 0 where
     pub messages : List Sent
     pub hears : HearsThem messages old new
-    pub ends : Replied new.past.core (Some reply) ⊎ ((reply ≡ replies.Refused refusals.Exhausted) × (new.past.clock ≡ last_clock))
+    pub counts : before ≤ after
+    pub ends : Replied new.past.core (Some reply)
+        ⊎ (((reply ≡ replies.Refused refusals.Exhausted) × (new.past.clock ≡ last_clock))
+        ⊎ ((reply ≡ replies.Lost) × (reply_of new.past.core ≡ None) × (before + most_vain ≤ after)))
 
-  -- It asks, and hears until there is a reply; or what it asks is refused, of which the history tells; or nothing happens, since the clock is at
-  -- its last value, or it isn't the client of this request.
-  pub data Carries (moment : Moment) (req : ReqId) (request : Request) (old : Node) (reply : Reply) (new : Node) : Type 0 where
-    Asked : (asked : Node) → Stepped (DoesAs seen failures) old (Did (asking moment req request)) (Ok tt) asked → HearsAll asked reply new → Carries moment req request old reply new
-    Refused : (refusal : Refusal) → Stepped (DoesAs seen failures) old (Did (asking moment req request)) (Err refusal) new → reply ≡ replies.Refused refusal → Carries moment req request old reply new
-    Exhausted : new ≡ old → old.past.clock ≡ last_clock → reply ≡ replies.Refused refusals.Exhausted → Carries moment req request old reply new
-    Stray : new ≡ old → (doer (happenings.Ask req request) ≡ Some old.me → ⊥) → reply ≡ replies.Refused refusals.Stray → Carries moment req request old reply new
+  -- It asks, and hears until there is a reply or it has asked in vain for long; or what it asks is refused, of which the history tells; or nothing happens,
+  -- since the clock is at its last value, or it isn't the client of this request.
+  pub data Carries (moment : Moment) (req : ReqId) (request : Request) (old : Node) (before : ℕ) (reply : Reply) (new : Node) (after : ℕ) : Type 0 where
+    Asked : (asked : Node) → Stepped (DoesAs seen failures) old (Did (asking moment req request)) (Ok tt) asked → HearsAll asked before reply new after
+        → Carries moment req request old before reply new after
+    Refused : (refusal : Refusal) → Stepped (DoesAs seen failures) old (Did (asking moment req request)) (Err refusal) new → reply ≡ replies.Refused refusal → after ≡ before
+        → Carries moment req request old before reply new after
+    Exhausted : new ≡ old → old.past.clock ≡ last_clock → reply ≡ replies.Refused refusals.Exhausted → after ≡ before → Carries moment req request old before reply new after
+    Stray : new ≡ old → (doer (happenings.Ask req request) ≡ Some old.me → ⊥) → reply ≡ replies.Refused refusals.Stray → after ≡ before → Carries moment req request old before reply new after
 
 -- so many clients that have asked nothing, and have no history
 abbrev pub fresh_clients : {D : Type 0} → ℕ → List (Kept (Role D))

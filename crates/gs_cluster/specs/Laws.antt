@@ -16,8 +16,8 @@ use Rattle.gs_cluster_history.specs.Setting.{Setting}
 module _ {D : Type 0} (seen : D → List ℕ) (failures : D → ℕ) where
   -- A reply to a request is from what its history took in it.
   abbrev pub RepliesAreFromTheHistory : Type 0
-  RepliesAreFromTheHistory = (moment : Moment) (req : ReqId) (request : Request) (old : Kept (Role D)) (reply : Reply) (new : Kept (Role D))
-      → Carries seen failures moment req request old reply new → Answered moment req request old reply new
+  RepliesAreFromTheHistory = (moment : Moment) (req : ReqId) (request : Request) (old : Kept (Role D)) (before : ℕ) (reply : Reply) (new : Kept (Role D)) (after : ℕ)
+      → Carries seen failures moment req request old before reply new after → Answered moment req request old before reply new after
 
   -- A client that is kept is the client of its own number.
   abbrev pub KeptClientsAreOfTheirNumber : Type 0

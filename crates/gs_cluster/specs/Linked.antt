@@ -8,4 +8,4 @@ use Rattle.gs_cluster.specs.declared.caller.Caller.{Caller}
 
 -- at its moment, which stays
 abbrev pub carried : {N D R : Type 0} → (D → List ℕ) → (D → ℕ) → Caller N D R → ReqId → Request → Reply → Caller N D R → Type 0
-carried seen failures old req request reply new = Carries seen failures old.moment req request old.node reply new.node × (new.moment ≡ old.moment)
+carried seen failures old req request reply new = Carries seen failures old.moment req request old.node old.patience.vain reply new.node new.patience.vain × (new.moment ≡ old.moment)

@@ -3,6 +3,7 @@ ghost use Rattle.gs_cluster.specs.Calling.{HearsAll, Replied};
 ghost use Rattle.gs_cluster.specs.inner.Looking.{Looks, most_looks};
 
 use crate::copying::copy_of;
+use crate::patience::Patience;
 use gs_base::{Moment, Refusal, ReqId};
 use gs_client::{Link, Reply};
 use gs_cluster_core::Role;
@@ -15,8 +16,8 @@ use std::sync::{Arc, Wait};
 use std::thread;
 use std::time::{Clock, Duration};
 
-/// A client of a cluster, at its caller: what it asks goes out at its moment, and it waits for the reply, however long. Where nothing comes for
-/// long it asks once more by the same messages.
+/// A client of a cluster, at its caller: what it asks goes out at its moment, and it waits for the reply. Where nothing comes for long it asks once more by
+/// the same messages. Where that is in vain for long, since nothing is under way any more, nothing came back.
 #[derive(Drop)]
 pub struct Caller<N: Plan, D: Disk + Drop, R: Wait + Clock + Drop> {
     pub(crate) rt: R,
@@ -24,6 +25,7 @@ pub struct Caller<N: Plan, D: Disk + Drop, R: Wait + Clock + Drop> {
     pub(crate) node: Node<N, Role<D>>,
     pub(crate) moment: Moment,
     pub(crate) rounds: Arc<Rounds, Global>,
+    pub(crate) patience: Patience,
 }
 
 /// A copy of what came back, if something did.
@@ -36,30 +38,34 @@ fn reply_at<D: Disk + Drop>(alloc: Global, role: &Role<D>) -> Option<Reply>
     Some(copy_of(alloc, client.reply()?))
 }
 
-/// Hears a message, if one waits. Else it rests a little, and where it has looked for long, what was asked goes out once more. How often it has
-/// looked since it heard or asked.
+/// Hears a message, if one waits. Else it rests a little, and where it has looked for long, what was asked goes out once more.
 fn look<N: Plan, D: Disk + Drop, R: Wait + Clock>(
     rt: &R,
     alloc: Global,
     node: &mut Node<N, Role<D>>,
-    looks: u32,
-) -> Result<u32, Refusal>
-    requires { looks < most_looks }
-    ensures { Looks D.seen D.failures node.old result node.new }
+    rounds: &Rounds,
+    patience: &mut Patience,
+) -> Result<(), Refusal>
+    requires { patience.old.looks < most_looks }
+    ensures { Looks D.seen D.failures node.old patience.old result node.new patience.new }
 {
     match node.receive(rt, alloc, &Open) {
-        Ok(Some(_)) => return Ok(0),
+        Ok(Some(_)) => {
+            patience.hear();
+            return Ok(());
+        }
         Ok(None) => {}
         Err(refusal) => return Err(refusal),
     }
-    let many = looks + 1;
     node.put_waiting(rt);
-    rest(rt, many);
-    if many < LOOKS {
-        return Ok(many);
+    rest(rt, patience.looks);
+    patience.looks += 1;
+    if patience.looks < LOOKS {
+        return Ok(());
     }
     node.again(rt, alloc);
-    Ok(0)
+    patience.ask_again(rounds);
+    Ok(())
 }
 
 impl<N: Plan, D: Disk + Drop, R: Wait + Clock + Drop> Caller<N, D, R> {
@@ -88,25 +94,29 @@ impl<N: Plan, D: Disk + Drop, R: Wait + Clock + Drop> Caller<N, D, R> {
         }
     }
 
-    /// Hears what comes, until there is a reply.
+    /// Hears what comes, until there is a reply, or it has asked in vain for long.
     fn wait(&mut self) -> Reply
-        ensures hears { HearsAll D.seen D.failures self.old.node result self.new.node }
+        ensures hears { HearsAll D.seen D.failures self.old.node self.old.patience.vain result self.new.node self.new.patience.vain }
         ensures moment { self.new.moment ≡ self.old.moment }
     {
-        let mut looks: u32 = 0;
         let Caller {
             rt,
             alloc,
             node,
             moment: _,
-            rounds: _,
+            rounds,
+            patience,
         } = self;
+        patience.begin(&**rounds);
         for _ in rt.forever() {
             if let Some(reply) = reply_at(*alloc, node.core()) {
                 return reply;
             }
-            match look(rt, *alloc, node, looks) {
-                Ok(many) => looks = many,
+            if patience.is_over() {
+                return Reply::Lost;
+            }
+            match look(rt, *alloc, node, &**rounds, patience) {
+                Ok(()) => {}
                 Err(refusal) => return Reply::Refused(refusal),
             }
         }

@@ -11,6 +11,7 @@ use crate::caller::Caller;
 use crate::gathering::{Whole, whole_of};
 use crate::nodes::nodes_from;
 use crate::opening::Opened;
+use crate::patience::Patience;
 use gs_base::{Config, Moment, Refusal};
 use gs_cluster_core::Role;
 use gs_cluster_core::promises::matching_histories_are_a_run_of_the_store;
@@ -79,6 +80,7 @@ fn callers_of<N: Plan, D: Disk + Drop, R: Wait + Clock + Copy + Drop>(
             node,
             moment: Moment(0),
             rounds,
+            patience: Patience::new(),
         })?;
     }
     Ok(callers)
@@ -99,6 +101,7 @@ fn nodes_of<N: Plan, D: Disk + Drop, R: Wait + Clock + Drop>(
             node,
             moment: _,
             rounds: _,
+            patience: _,
         } = caller;
         nodes.push(node)?;
     }

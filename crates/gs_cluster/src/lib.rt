@@ -8,6 +8,7 @@ mod copying;
 mod gathering;
 mod nodes;
 mod opening;
+mod patience;
 mod posts;
 pub mod promises;
 

@@ -3,6 +3,7 @@ use denote.RattleType.{RattleType}
 use denote.Param.Send.{IsSend, IsSync, recorded_send, sendable, struct_send}
 use denote.Struct.Declared.{shape}
 use Rattle.gs_base.proofs.numbers.Moment.TheSendSync as moment
+use Rattle.gs_cluster.proofs.patience.Patience.TheSendSync as patience
 use Rattle.gs_cluster.specs.contracts.caller.Caller as Caller
 use Rattle.gs_cluster_channel.specs.declared.naming.Naming as namings
 use Rattle.gs_cluster_core.specs.contracts.role.Role as Role
@@ -33,7 +34,7 @@ module _ (N D T : RattleType) (p : plans.Ghosts N.Denot) (n : namings.Ghosts N.D
   caller : IsSend (Caller.the_field N D T p n g).row
   caller =
       struct_send (shape (Caller.the_type N D T p n g))
-      (runtime, (global.the_field_send, (node.the_send N (Role.the_row D g) p n (core.ghosts D g core.no_dict core.no_dict) (role_row D g disk), (moment.the_field_send, (Arc-send Rounds.the_row rounds_send rounds_sync, tt)))))
+      (runtime, (global.the_field_send, (node.the_send N (Role.the_row D g) p n (core.ghosts D g core.no_dict core.no_dict) (role_row D g disk), (moment.the_field_send, (Arc-send Rounds.the_row rounds_send rounds_sync, (patience.the_field_send, tt))))))
 
   pub caller_row : IsSend (Caller.the_row N D T p n g)
   caller_row = recorded_send (Caller.the_field N D T p n g).row _ _ (Caller.the_type N D T p n g).to_one caller

@@ -36,7 +36,7 @@ module _ {D : Type 0} (N R : Type 0) (seen : D → List ℕ) (failures : D → �
 
   sends_over : (old : Client × Caller N D R) (request : Asked) (reply : Reply) (new : Client × Caller N D R) → sends old request reply new → Over seen failures (node old) request reply (node new)
   sends_over old request reply new h = elim h [
-    | inl goes ↦ Over.Goes old.1.moment (next_request old.0) goes.2.0
+    | inl goes ↦ Over.Goes old.1.moment (next_request old.0) old.1.patience.vain new.1.patience.vain goes.2.0
     | inr none ↦ Over.Ends (ap (λ (s : Client × Caller N D R). s.1.node) none.2) none.1
   ]
 

@@ -16,11 +16,13 @@ use gs_journal::Disk;
 use std::sync::Wait;
 use std::time::Clock;
 
-/// Each 28 and 29 of a call of a caller has a cause that its history took in that call. A caller gives no request up: it waits for a reply.
+/// Each 28 and 29 of a call of a caller has a cause that its history took in that call.
 ///
-/// A 28 is from a message that brings that refusal, or the location of a chunk without members. A 29 is from a message that brings that refusal, or that
-/// memory or a disk was wanting for a request that may change something; or memory of the caller's own was wanting for such a request, or for the copy of
-/// a reply that has a path, names, a status or bytes. Neither is from a clock or a number at its last value.
+/// A 28 is from a message that brings that refusal, or the location of a chunk without members; or nothing came to a look-up, or from any member of a chunk
+/// that was found. A 29 is from a message that brings that refusal, or that memory or a disk was wanting for a request that may change something; or
+/// nothing came to such a request; or memory of the caller's own was wanting for it, or for the copy of a reply that has a path, names, a status or bytes.
+/// That nothing came means: of what its history took from the request on, until its next request or the end of the call, nothing answers that request.
+/// Neither is from a clock or a number at its last value.
 pub fn an_unsure_caller_has_a_cause<N: Plan, D: Disk + Drop, R: Wait + Clock + Drop>()
     ensures calls { OfEachCall (Tells (Sends (carried {N = N} {R = R} D.seen D.failures)) (λ (s : Client × Caller N D R). s.1.node)) }
     ensures edits { OfEachCall (Tells (Edits (carried {N = N} {R = R} D.seen D.failures)) (λ (s : Client × ℕ × Caller N D R). s.2.node)) }
