@@ -3,11 +3,13 @@
 from argparse import ArgumentParser
 from pathlib import Path
 
+import explain
+
 from client import shell
 from client.attempts import attempt
 from client.commands import COMMANDS, Command, Words, add_commands, there, word
 from client.session import Ended, Session, Sizes
-from client.telling import WRONG, Failed, local, warn
+from client.telling import MISUSED, WRONG, Failed, local, warn
 
 SHELL = Command("shell", shell.run, "a prompt for these commands", "shell -f commands.txt", (
     word("-f", dest="file", type=there, metavar="FILE", help="takes the commands of a file"),), True)  # fmt: skip
@@ -35,6 +37,9 @@ def main(words: list[str]) -> int:
         file = None if asked.store == MEMORY else asked.store
         given = {name: getattr(asked, name) for name in vars(Sizes()) if getattr(asked, name) is not None}
         with local(None):
+            if wrong := explain.wrong_sizes(vars(Sizes(**given))):
+                warn("\n".join(wrong))
+                return MISUSED
             if file and not asked.makes and not file.exists():
                 raise Failed(f"{file}: no store stands there; put, append, mkdir, import and shell make one")
             with Session(file, given, is_lab=asked.lab) as session:

@@ -1,5 +1,11 @@
+import io
 import shlex
+from contextlib import redirect_stderr
 from pathlib import Path
+from unittest.mock import patch
+
+import explain
+import launch
 
 from client.commands import COMMANDS, STEPS
 from client.main import SHELL, words_of
@@ -50,6 +56,30 @@ class Words(StoreCase):
     def test_sizes_are_those_of_a_new_store(self) -> None:
         self.fs("mkdir", "/a")
         self.assertEqual(self.store.read_text().splitlines()[0], "chunkkeep 2 --servers 3 --racks 1 --replicas 3 --chunk 16 --block 4")
+
+    def test_sizes_that_make_no_store(self) -> None:
+        for name, size, told in (
+            ("servers", 0, "--servers 0: there are 1 to 16\n--replicas 3: there are 1 to as many as servers, which are 0"),
+            ("servers", -1, "--servers -1: there are 1 to 16\n"),
+            ("replicas", 4, "--replicas 4: there are 1 to as many as servers, which are 3"),
+            ("chunk", 65_537, "--chunk 65537: that is no whole number of blocks of 65536 bytes"),
+        ):
+            self.sizes = {name: size}
+            self.assertTrue(self.fs("mkdir", "/a", status=2).startswith(f"chunkfs: {told}"))
+            self.assertFalse(self.store.exists())
+        self.sizes = TINY
+
+    def test_sizes_that_chunkkeep_makes_no_store_of(self) -> None:
+        told = io.StringIO()
+        with patch("os.execv") as run, patch("signal.signal"), redirect_stderr(told):
+            launch.main("chunkkeep", ["--servers", "0", str(self.store)])
+        run.assert_called_once()
+        self.assertTrue(told.getvalue().startswith("chunkkeep: --servers 0: there are 1 to 16\n"))
+
+    def test_what_the_programs_take_is_what_their_help_tells(self) -> None:
+        self.assertIn("--explain", explain.usage("chunkstore"))
+        for name in ("chunktrace", "chunkkeep"):
+            self.assertNotIn("--explain", explain.usage(name))
 
     def test_a_store_in_memory(self) -> None:
         script = self.local("commands", b"append /f commands\ncat /f\nrm /f\ntrash\n")
