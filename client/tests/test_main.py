@@ -34,6 +34,15 @@ class Words(StoreCase):
             self.assertIn("usage: ", self.fs(*words, status=2))
         self.fs("ls", "/a")
 
+    def test_what_a_command_doesnt_take(self) -> None:
+        self.fs("mkdir", "/a")
+        self.assertRegex(self.fs("ls", "--frob", status=2), r"STORE\s+ls\s")
+        for words in (("ls", "--lon"), ("upgrade", "rollback", "--any"), ("fsck", "--rep"), ("upgrade", "status", "more")):
+            self.assertIn("unrecognized arguments: ", self.fs(*words, status=2))
+        for wrong in ("-5", "x", ""):
+            self.assertIn(f"'{wrong}' is no count", self.fs("tail", "-c", wrong, "/a", status=2))
+        self.assertRegex(self.fs("shell", said=b"ls --frob\n", status=2), "usage: +ls ")
+
     def test_a_mistyped_command_gives_one_that_is_like_it(self) -> None:
         self.assertEqual(self.fs("upgade", status=2), "chunkfs: no command 'upgade'; did you mean 'upgrade'?\n")
         self.assertEqual(self.fs("upgrade", "stauts", status=2), "chunkfs: no command 'stauts'; did you mean 'status'?\n")
