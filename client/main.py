@@ -1,5 +1,7 @@
 """What the words of the command line do."""
 
+import os
+import sys
 from argparse import ArgumentParser
 from pathlib import Path
 
@@ -14,7 +16,16 @@ from client.telling import MISUSED, WRONG, Failed, local, warn
 SHELL = Command("shell", shell.run, "a prompt for these commands", "shell -f commands.txt", (
     word("-f", dest="file", type=there, metavar="FILE", help="takes the commands of a file"),), True)  # fmt: skip
 
-MEMORY = Path("-")
+# No word of a command line is this.
+MEMORY = Path("\0")
+
+
+def open_missing() -> None:
+    """Where a standard file is closed, the null device stands in its place, so that nothing else gets there."""
+    for number, (name, how) in enumerate({"stdin": "r", "stdout": "w", "stderr": "w"}.items()):
+        if getattr(sys, name) is None:
+            os.dup2(os.open(os.devnull, os.O_RDWR), number)
+            setattr(sys, name, open(number, how))
 
 
 def words_of() -> ArgumentParser:
@@ -30,6 +41,7 @@ def words_of() -> ArgumentParser:
 
 def main(words: list[str]) -> int:
     """0 where all was done, 1 where something wasn't, and 2 where the words are no command."""
+    open_missing()
     try:
         # This word stands in the place of a file, so it isn't read as an option.
         asked = words_of().parse_args([str(MEMORY) if word == "--memory" else word for word in words])

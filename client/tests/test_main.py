@@ -1,5 +1,6 @@
 import io
 import shlex
+import sys
 from contextlib import redirect_stderr
 from pathlib import Path
 from unittest.mock import patch
@@ -8,7 +9,7 @@ import explain
 import launch
 
 from client.commands import COMMANDS, STEPS
-from client.main import SHELL, words_of
+from client.main import SHELL, open_missing, words_of
 from client.tests import TINY, StoreCase
 
 
@@ -89,6 +90,13 @@ class Words(StoreCase):
         self.assertIn("--explain", explain.usage("chunkstore"))
         for name in ("chunktrace", "chunkkeep"):
             self.assertNotIn("--explain", explain.usage(name))
+
+    def test_standard_files_that_are_closed(self) -> None:
+        for name in ("stdin", "stdout", "stderr"):
+            with patch(f"sys.{name}", None), patch("os.dup2") as put, patch("client.main.open", create=True) as opened:
+                open_missing()
+                self.assertEqual(put.call_args.args[1], opened.call_args.args[0])
+                self.assertIs(getattr(sys, name), opened.return_value)
 
     def test_a_store_in_memory(self) -> None:
         script = self.local("commands", b"append /f commands\ncat /f\nrm /f\ntrash\n")
