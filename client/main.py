@@ -54,6 +54,8 @@ def main(words: list[str]) -> int:
                 return MISUSED
             if file and not asked.makes and not file.exists():
                 raise Failed(f"{file}: no store stands there; put, append, mkdir, import and shell make one")
+            if not file and asked.makes and asked.run != shell.run:
+                warn("--memory: the store ends with this command, and nothing is kept")
             with Session(file, given, is_lab=asked.lab) as session:
                 session.set_moment()
                 return attempt(session, lambda: asked.run(session, asked))

@@ -102,4 +102,5 @@ class Words(StoreCase):
         script = self.local("commands", b"append /f commands\ncat /f\nrm /f\ntrash\n")
         self.store = Path("--memory")
         self.assertRegex(self.fs("shell", "-f", script), r"append /f commands\n(.|\n)* /f /\.deleted\.")
+        self.assertEqual(self.fs("mkdir", "/a"), "chunkfs: --memory: the store ends with this command, and nothing is kept\n")
         self.assertEqual(list(self.folder.iterdir()), [script])
