@@ -51,7 +51,9 @@ def usage(name: str) -> str:
     told = [(plain(option), f"{plain(what)}; {plain(range_)}; otherwise {plain(default)}") for option, what, range_, default in table("## Options")]
     options = [textwrap.fill(f"{option:<18} {what}", 100, initial_indent="  ", subsequent_indent=21 * " ") for option, what in told]
     lines = [f"  {form}" for form in sum(forms().values(), [])]
-    told = {"--build": "proves the program and builds it; alone", "--version": "says which program runs; alone", "--explain": "tells what is wrong with lines and sizes"}
+    told = {"--build": "proves the program and builds it; alone", "--version": "says which program runs; alone"}
+    # The others don't take it.
+    told |= {"--explain": "tells what is wrong with lines and sizes"} if name == "chunkstore" else {}
     options += [f"  {word:<18} {what}" for word, what in told.items()]
     heads = [f"Usage: {name} [OPTIONS] < SCRIPT", "", "Options:", *options, "", "Lines, each of which is answered by one line:"]
     tail = ["", "P and Q are paths, S is a server from 0, H the handle of a chunk as stat tells it, M a moment.", "docs/LINES.md says what each is answered."]
@@ -170,9 +172,8 @@ def sizes_of(words: list[str]) -> dict[str, int]:
     return sizes
 
 
-def wrong_sizes(words: list[str]) -> list[str]:
+def wrong_sizes(sizes: dict[str, int]) -> list[str]:
     """Which sizes make no store, by name and bound."""
-    sizes = sizes_of(words)
     whole = sizes["chunk"] // sizes["block"] if sizes["block"] else 0
     judged = [
         (1 <= sizes["servers"] <= 16, f"--servers {sizes['servers']}: there are 1 to 16"),
@@ -181,9 +182,14 @@ def wrong_sizes(words: list[str]) -> list[str]:
         (1 <= sizes["block"] <= 65536, f"--block {sizes['block']}: a block has 1 to 65536 bytes"),
         (not sizes["block"] or sizes["chunk"] == whole * sizes["block"], f"--chunk {sizes['chunk']}: that is no whole number of blocks of {sizes['block']} bytes"),
         (not sizes["block"] or whole <= MOST_BLOCKS, f"--chunk {sizes['chunk']}: that is {whole} blocks of {sizes['block']} bytes, and a chunk has {MOST_BLOCKS} at most"),
-        (sizes["chunk"] > 0, "--chunk 0: a chunk has 1 block at least"),
+        (sizes["chunk"] > 0, f"--chunk {sizes['chunk']}: a chunk has 1 block at least"),
     ]
     return [wrong for is_well, wrong in judged if not is_well]
+
+
+def tell_sizes(name: str, words: list[str]) -> None:
+    for wrong in wrong_sizes(sizes_of(words)):
+        print(f"{name}: {wrong}", file=sys.stderr, flush=True)
 
 
 # ---- a run
@@ -225,8 +231,7 @@ class Run:
 
 def run_explaining(program: Path, name: str, words: list[str]) -> int:
     """Runs a program, and tells on standard error of each line that is none what is wrong with it."""
-    for wrong in wrong_sizes(words):
-        print(f"{name}: {wrong}", file=sys.stderr, flush=True)
+    tell_sizes(name, words)
     run = Run(program, name, words)
     threading.Thread(target=run.send_lines, args=[open(0, "rb", closefd=False)], daemon=True).start()
     try:

@@ -10,7 +10,7 @@
     ./NAME --explain [OPTIONS] < SCRIPT   tells besides, on standard error, what is wrong with each line that is refused 34
 
 Where standard error is a terminal, --explain is meant. It is of chunkstore alone: chunkkeep looks whether its file is one of the standard ones, and
-a trace has more than one line for each.
+a trace has more than one line for each. Of chunkkeep it is told all the same which sizes make no store.
 
 A proved program runs where one stands and no source is newer. Else an unproved one runs. The first run builds that, and keeps it in the
 user's cache under a name that comes of its code and the kit's version. So each later run finds it, until the code is another."""
@@ -254,6 +254,13 @@ def is_explained(name: str, words: list[str]) -> bool:
     return name == "chunkstore" and None not in streams and ("--explain" in words or sys.stderr.isatty())
 
 
+def is_standard_error(word: str) -> bool:
+    """Whether standard error is the file of that name, into which nothing may be told then."""
+    with contextlib.suppress(OSError, ValueError):
+        return os.path.samestat(os.stat(word), os.fstat(2))
+    return False
+
+
 def main(name: str, words: list[str]) -> int:
     for number in (signal.SIGTERM, signal.SIGHUP):
         signal.signal(number, lambda number, _: sys.exit(128 + number))
@@ -269,6 +276,8 @@ def main(name: str, words: list[str]) -> int:
     program = program_of(name)
     if is_explained(name, words):
         return explain.run_explaining(program.path, name, [word for word in words if word != "--explain"])
+    if name == "chunkkeep" and sys.stderr and not any(map(is_standard_error, words)):
+        explain.tell_sizes(name, words)
     # Python ignores these, and a program that it becomes would too.
     for number in (signal.SIGPIPE, signal.SIGXFSZ):
         signal.signal(number, signal.SIG_DFL)

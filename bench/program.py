@@ -120,7 +120,7 @@ def try_explaining(trials):
         trials.look(f"{words} is explained", status == 2 and not answers and said.startswith(f"chunkstore: {wanted}"))
     for name in ("chunkstore", "chunktrace"):
         status, answers, said = launched(name, ["--help"])
-        is_whole = all(form in said for form in ("mkdir P", "deliver N", "--servers N"))
+        is_whole = all(form in said for form in ("mkdir P", "deliver N", "--servers N")) and ("--explain" in said) == (name == "chunkstore")
         trials.look(f"{name} --help", status == 2 and not answers and said.startswith(f"Usage: {name} ") and is_whole)
 
 

@@ -8,7 +8,7 @@ from contextlib import suppress
 from client.names import child, line_path, shown
 from client.session import Session
 from client.store import children, is_directory
-from client.telling import WELL, WRONG, Failed, like, local, warn
+from client.telling import WELL, WRONG, Failed, NoSpace, like, local, warn
 
 # What a command does. It ends with a status, or with none where all is well.
 Run = Callable[[Session, Namespace], int | None]
@@ -26,11 +26,13 @@ def meant(session: Session, path: str) -> str:
     return ""
 
 
-def attempt(session: Session, act: Callable[[], int | None]) -> int:
-    """Does something, or tells why it can't be done. The status says which."""
+def attempt(session: Session, act: Callable[[], int | None], but: type[Failed] | tuple = ()) -> int:
+    """Does something, or tells why it can't be done, but for what is passed on. The status says which."""
     try:
         with local(None):
             return act() or WELL
+    except but:
+        raise
     except Failed as failed:
         reason, missing = str(failed), failed.missing
     # The store is asked once nobody waits for its answers any more.
@@ -40,8 +42,8 @@ def attempt(session: Session, act: Callable[[], int | None]) -> int:
 
 
 def for_each(session: Session, items: Iterable, act: Callable[..., object]) -> int:
-    """Does the same with each, and goes on where it can't be done with one. The status says whether it was done with all."""
-    return max([attempt(session, functools.partial(act, item)) for item in items], default=WELL)
+    """Does the same with each, and goes on where it can't be done with one, unless a disk is full. The status says whether it was done with all."""
+    return max([attempt(session, functools.partial(act, item), NoSpace) for item in items], default=WELL)
 
 
 def each_path(act: Callable[[Session, Namespace, str], None]) -> Run:

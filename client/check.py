@@ -1,9 +1,7 @@
 """Whether all is sound, and how the store stands."""
 
-import glob
 from argparse import Namespace
 from collections.abc import Iterable, Iterator
-from datetime import datetime
 from typing import NamedTuple
 
 from client.listing import chunk_sizes
@@ -11,7 +9,7 @@ from client.names import line_path, old_path, shown
 from client.progress import human
 from client.session import Session, Sizes
 from client.store import Chunk, Entry, heal, paths_of, phase, report_all, told_below
-from client.telling import WELL, WRONG, Refused, say, warn
+from client.telling import WELL, WRONG, Failed, Refused, say, warn
 from client.trash import removed
 
 # So often all is healed and looked at anew, since a look finds damage that a copy has to follow.
@@ -86,9 +84,10 @@ def fsck(session: Session, asked: Namespace) -> int:
     tops += [path for path in removed(session) if path.startswith(tuple(f"{top.rstrip('/')}/" for top in tops))]
     if asked.handle is not None:
         paths = paths_of(looked_at(session, tops).entries)[asked.handle]
-        for path in paths:
-            say(place(path))
-        return WELL if paths else WRONG
+        if not paths:
+            raise Failed(f"no file has chunk {asked.handle}")
+        say("\n".join(map(place, paths)))
+        return WELL
     found, made, refused = repaired(session, tops) if asked.repair else (checked(session, tops), 0, None)
     wanted, paths = session.sizes.replicas, paths_of(found.entries)
     short = found.short(wanted)
@@ -118,7 +117,7 @@ def chunk_text(chunk: Chunk) -> str:
 
 
 def report(session: Session, asked: Namespace) -> None:
-    """Servers with what is on each, what is short, the upgrade's phase, and the files in which the store is kept."""
+    """Servers with what is on each, what is short, the upgrade's phase, and the file in which the store is kept."""
     found, sizes = looked_at(session, ["/"]), session.sizes
     chunk_bytes = {chunk.handle: size for entry in found.entries for chunk, size in zip(entry.chunks, chunk_sizes(entry, sizes.chunk))}
     name, epoch = phase(session)
@@ -131,8 +130,3 @@ def report(session: Session, asked: Namespace) -> None:
         say(f"{shown(path)}: {what}")
     if log := session.file:
         say(f"log {log}: {human(log.stat().st_size)}")
-        images = sorted(log.parent.glob(f"{glob.escape(log.name)}.image.*"))
-        for image in images:
-            say(f"image {image}: {human(image.stat().st_size)}, made {datetime.fromtimestamp(image.stat().st_mtime):%Y-%m-%d %H:%M:%S}")
-        if not images:
-            say("no image")

@@ -1,6 +1,6 @@
 """The commands, with their words, and what runs each."""
 
-from argparse import Action, ArgumentParser, RawDescriptionHelpFormatter
+from argparse import Action, ArgumentParser, ArgumentTypeError, Namespace, RawDescriptionHelpFormatter
 from collections.abc import Iterable
 from pathlib import Path
 from typing import NamedTuple
@@ -15,6 +15,12 @@ def there(name: str) -> Path:
     with local(name):
         Path(name).stat()
     return Path(name)
+
+
+def count(text: str) -> int:
+    if not (text.isascii() and text.isdigit()):
+        raise ArgumentTypeError(f"'{text}' is no count")
+    return int(text)
 
 
 def word(*names: str, **how: object) -> tuple[tuple[str, ...], dict[str, object]]:
@@ -62,7 +68,7 @@ COMMANDS = (
         word("target", metavar="LOCAL", help="a directory of this machine, or the new place itself"), FORCE)),
     Command("cat", transfer.cat, "writes files to standard output", "cat /notes.txt", (SOME,)),
     Command("tail", transfer.cat, "writes the ends of files to standard output", "tail -c 100 /notes.txt", (
-        SOME, word("-c", dest="bytes", type=int, default=transfer.TAIL_BYTES, help="how many bytes"))),
+        SOME, word("-c", dest="bytes", type=count, default=transfer.TAIL_BYTES, help="how many bytes"))),
     Command("append", transfer.append, "puts files, or standard input, at the end of a file", "append /notes.txt more.txt", (
         ONE, word("files", nargs="*", type=there, metavar="LOCAL")), True),
     Command("ls", listing.ls, "what stands in a directory", "ls -l -h /photos", (
@@ -84,7 +90,7 @@ COMMANDS = (
         ANY, flag("-v", "--verbose", "each file with its chunks"),
         word("--repair", action="store_true", help="copies what is short until nothing is"),
         word("--chunk", dest="handle", type=int, metavar="NUMBER", help="the paths of a chunk"))),
-    Command("report", check.report, "servers, chunks, the upgrade's phase and the files of the store", "report"),
+    Command("report", check.report, "servers, chunks, the upgrade's phase and the file of the store", "report"),
     Command("export", script.export, "a script that makes what stands now in a new store", "export --to backup.txt", (
         word("--to", type=Path, metavar="FILE", help="where it goes, in place of standard output"), FORCE)),
     Command("import", script.import_script, "makes what such a script says in a new store", "import backup.txt", (
@@ -94,7 +100,17 @@ COMMANDS = (
 
 
 class Words(ArgumentParser):
-    """The words of a command line. One that is no command is told with the one that is like it."""
+    """The words of a command line, none of which may be shortened. One that is no command is told with the one that is like it, and one that a
+    command doesn't take with the usage of that."""
+
+    def __init__(self, **how: object):
+        super().__init__(allow_abbrev=False, **how)
+
+    def parse_known_args(self, args: object = None, namespace: Namespace | None = None) -> tuple[Namespace, list[str]]:
+        asked, rest = super().parse_known_args(args, namespace)
+        if rest:
+            self.error(f"unrecognized arguments: {' '.join(rest)}")
+        return asked, rest
 
     def _check_value(self, action: Action, value: str) -> None:
         if action.choices is not None and value not in action.choices:

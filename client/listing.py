@@ -108,6 +108,8 @@ def mkdir(session: Session, asked: Namespace, path: str) -> None:
 def mv(session: Session, asked: Namespace, word: str = "mv") -> int:
     """Asks a line for each path, with its target."""
     sources = [line_path(path, asked.folder) for path in asked.sources]
+    if "/" in sources:
+        raise Refused("refused 9 IsRoot", "/")
     lines = [(word, *ends) for ends in zip(sources, targets(session, asked, map(last, sources)))]
     return for_each(session, lines, lambda line: session.ask(*line))
 

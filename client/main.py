@@ -1,18 +1,31 @@
 """What the words of the command line do."""
 
+import os
+import sys
 from argparse import ArgumentParser
 from pathlib import Path
+
+import explain
 
 from client import shell
 from client.attempts import attempt
 from client.commands import COMMANDS, Command, Words, add_commands, there, word
 from client.session import Ended, Session, Sizes
-from client.telling import WRONG, Failed, local, warn
+from client.telling import MISUSED, WRONG, Failed, local, warn
 
 SHELL = Command("shell", shell.run, "a prompt for these commands", "shell -f commands.txt", (
     word("-f", dest="file", type=there, metavar="FILE", help="takes the commands of a file"),), True)  # fmt: skip
 
-MEMORY = Path("-")
+# No word of a command line is this.
+MEMORY = Path("\0")
+
+
+def open_missing() -> None:
+    """Where a standard file is closed, the null device stands in its place, so that nothing else gets there."""
+    for number, (name, how) in enumerate({"stdin": "r", "stdout": "w", "stderr": "w"}.items()):
+        if getattr(sys, name) is None:
+            os.dup2(os.open(os.devnull, os.O_RDWR), number)
+            setattr(sys, name, open(number, how))
 
 
 def words_of() -> ArgumentParser:
@@ -28,6 +41,7 @@ def words_of() -> ArgumentParser:
 
 def main(words: list[str]) -> int:
     """0 where all was done, 1 where something wasn't, and 2 where the words are no command."""
+    open_missing()
     try:
         # This word stands in the place of a file, so it isn't read as an option.
         asked = words_of().parse_args([str(MEMORY) if word == "--memory" else word for word in words])
@@ -35,8 +49,13 @@ def main(words: list[str]) -> int:
         file = None if asked.store == MEMORY else asked.store
         given = {name: getattr(asked, name) for name in vars(Sizes()) if getattr(asked, name) is not None}
         with local(None):
+            if wrong := explain.wrong_sizes(vars(Sizes(**given))):
+                warn("\n".join(wrong))
+                return MISUSED
             if file and not asked.makes and not file.exists():
                 raise Failed(f"{file}: no store stands there; put, append, mkdir, import and shell make one")
+            if not file and asked.makes and asked.run != shell.run:
+                warn("--memory: the store ends with this command, and nothing is kept")
             with Session(file, given, is_lab=asked.lab) as session:
                 session.set_moment()
                 return attempt(session, lambda: asked.run(session, asked))

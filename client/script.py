@@ -43,7 +43,10 @@ def made_again(session: Session, entry: Entry, path: str, hidden: dict[str, dict
 
 def script(session: Session) -> Iterator[str]:
     """The lines of a script, with its digest at its end."""
-    if phase(session)[0] != "ordinary":
+    name, _ = phase(session)
+    if name == "rolling":
+        raise Refused("refused 12 RollingBack", "export")
+    if name != "ordinary":
         raise Failed("an upgrade stands, which a script can't take along: `upgrade finalize` or `upgrade rollback` first")
     hidden: dict[str, dict[str, Entry | Refused]] = defaultdict(dict)
     for place, told in removed(session).items():

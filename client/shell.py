@@ -110,8 +110,12 @@ def typed_lines(shell: Shell) -> Iterator[str]:
     readline.parse_and_bind("tab: complete")
     try:
         while True:
-            yield input("lines> " if shell.is_in_lines else f"{shown(shell.folder)}> ")
-    except (EOFError, KeyboardInterrupt):
+            try:
+                yield input("lines> " if shell.is_in_lines else f"{shown(shell.folder)}> ")
+            except KeyboardInterrupt:
+                # The line that was begun is given up.
+                print()
+    except EOFError:
         print()
     finally:
         with contextlib.suppress(OSError):

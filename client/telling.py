@@ -1,6 +1,7 @@
 """What people are told: what commands print, and why something can't be done. What the store refuses is told by docs/REFUSALS.md."""
 
 import difflib
+import errno
 import functools
 import os
 import re
@@ -24,6 +25,10 @@ class Failed(Exception):
     def __init__(self, reason: str, *missing: str):
         super().__init__(reason)
         self.missing = missing
+
+
+class NoSpace(Failed):
+    """A disk of this machine is full, so nothing else fits there either."""
 
 
 @functools.cache
@@ -67,7 +72,8 @@ def local(name: object) -> Iterator[None]:
         raise
     except OSError as error:
         said = error.strerror or str(error)
-        raise Failed(f"{name or error.filename or 'this machine'}: {said[:1].lower()}{said[1:]}") from None
+        kind = NoSpace if error.errno in (errno.ENOSPC, errno.EDQUOT) else Failed
+        raise kind(f"{name or error.filename or 'this machine'}: {said[:1].lower()}{said[1:]}") from None
 
 
 def write(part: bytes) -> None:

@@ -9,7 +9,7 @@ from datetime import datetime
 from client.attempts import each_path
 from client.names import child, hidden_parts, last, old_path, parent, shown
 from client.session import Session
-from client.store import Entry, report_all, stats
+from client.store import NO_REPLICA, Entry, report_all, stats
 from client.telling import NOT_FOUND, Failed, Refused, like, say
 
 # What was deleted longer ago than this is removed for good by a scan.
@@ -38,10 +38,14 @@ def hidden_paths(session: Session) -> list[str]:
 
 
 def removed(session: Session) -> dict[str, Entry | Refused]:
-    """What stands in the trash, by its hidden paths, in the order in which it was deleted, or what refuses to tell it."""
+    """What stands in the trash, by its hidden paths, in the order in which it was deleted. Of a file of which no server has a chunk any more
+    that refusal stands there, and any other is raised."""
     paths = hidden_paths(session)
-    found = zip(paths, stats(session, paths))
-    return {path: told for path, told in found if isinstance(told, Entry) or told.number != NOT_FOUND}
+    found = {path: told for path, told in zip(paths, stats(session, paths)) if isinstance(told, Entry) or told.number != NOT_FOUND}
+    for told in found.values():
+        if isinstance(told, Refused) and told.number != NO_REPLICA:
+            raise told
+    return found
 
 
 def trash(session: Session, asked: Namespace) -> None:

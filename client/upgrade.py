@@ -1,17 +1,31 @@
 """An upgrade: its beginning, how it stands, and its end."""
 
+import shlex
 from argparse import Namespace
 from collections import Counter
 from collections.abc import Iterable
+from pathlib import Path
+from typing import NamedTuple
 
 from client.names import shown
-from client.session import AHEAD_LINES, Session
+from client.session import AHEAD_LINES, Answer, Session
 from client.store import heal, paths_of, phase, report_all, walk
-from client.telling import WELL, WRONG, Failed, say
+from client.telling import WELL, WRONG, Failed, Refused, say
+from client.transfer import opened
 
 NOT_QUIET, UNRESTORED = 15, 16
 PREPARES = ("rollingUpgrade prepare", "prepare-commit")
 ROLLBACKS = ("rollingUpgrade rollback", "rollback-commit")
+BEGINNINGS = ("rollingUpgrade rollback", "rollback-begin")
+
+
+class Look(NamedTuple):
+    """What a rollback finds: a line for each chunk of the prepare, a line for each that no server has as it was, and as which line of the store,
+    without marks, a rollback was begun last."""
+
+    told: list[str]
+    lost: list[str]
+    begun: int
 
 
 def runs_to_prepare(again: Session, lines: Iterable[str], epoch: int) -> None:
@@ -27,7 +41,7 @@ def runs_to_prepare(again: Session, lines: Iterable[str], epoch: int) -> None:
     raise Failed(f"the lines of the store have no prepare of epoch {epoch}")
 
 
-def what_a_rollback_finds(session: Session) -> tuple[list[str], list[str]]:
+def what_a_rollback_finds(session: Session) -> Look:
     """How many servers have each chunk of the prepare as it was, and which chunks none has. The lines of the store are run again in one without a
     file, that one is rolled back, and its servers are asked. The store itself isn't touched. While it rolls back its epoch is already the next."""
     name, epoch = phase(session)
@@ -35,29 +49,43 @@ def what_a_rollback_finds(session: Session) -> tuple[list[str], list[str]]:
         runs_to_prepare(again, session.history(), epoch if name == "upgrade" else epoch - 1)
         chunks = {handle: ", ".join(map(shown, paths)) for handle, paths in sorted(paths_of(walk(again, "/")).items())}
     with session.again() as again:
-        for _ in again.ask_all(session.history()):
-            pass
-        unrestored = rolled_back(again, name)
+        begun = max((at for at, answer in enumerate(again.ask_all(session.history()), 1) if begins_a_rollback(answer)), default=0)
+        refusal = rolled_back(again, name)
         report_all(again)
         servers: Counter[int] = Counter()
         # A loss is accepted where the server has the chunk.
         for answer in again.ask_all(f"lose {server} {handle}" for handle in chunks for server in range(again.sizes.servers)):
             servers[int(answer.line.split(" ")[2])] += answer.is_ok
-    servers[unrestored] = 0
+    if refusal:
+        servers[int(refusal.detail)] = 0
     of = f"of {again.sizes.servers} servers as it was at the prepare"
     told = [f"chunk {handle}, on {servers[handle]} {of}: {paths}" for handle, paths in chunks.items()]
     lost = [f"chunk {handle} has no sound replica of the prepare: {paths}" for handle, paths in chunks.items() if not servers[handle]]
-    return told, lost
+    return Look(told, lost, begun)
 
 
-def rolled_back(session: Session, name: str) -> int | None:
-    """Rolls a store back that is in such a phase. Answers the lowest chunk that nobody has as it was, where that refuses it."""
+def begins_a_rollback(answer: Answer) -> bool:
+    """Whether a line has begun a rollback, which may have been refused at its commit."""
+    return answer.line.rstrip() in BEGINNINGS and (answer.is_ok or answer.refusal.number == UNRESTORED)
+
+
+def line_before(file: Path, begun: int) -> int:
+    """At which line of its file, marks too, a copy of a store ends that is the store before one of its lines: at the mark before that one's batch.
+    A file of form 1 needs no mark there."""
+    with opened(file) as lines:
+        is_marked = next(lines).startswith(b"chunkkeep 2 ")
+        marks = [at for at, line in enumerate(lines, 2) if line.startswith(b"#") and int(line.split()[1]) < begun]
+    return max(marks, default=1 if is_marked else begun)
+
+
+def rolled_back(session: Session, name: str) -> Refused | None:
+    """Rolls a store back that is in such a phase, or answers that nobody has a chunk as it was."""
     for line in ROLLBACKS[name == "rolling" :]:
         report_all(session)
         answer = session.told(line, UNRESTORED)
         if answer.is_ok:
             return None
-    return int(answer.refusal.detail)
+    return answer.refusal
 
 
 def make_whole(session: Session) -> None:
@@ -82,23 +110,29 @@ def status(session: Session, asked: Namespace) -> int | None:
     say(f"phase {name}, epoch {epoch}")
     if name not in ("upgrade", "rolling"):
         return None
-    told, lost = what_a_rollback_finds(session)
+    look = what_a_rollback_finds(session)
+    say("\n".join(look.told))
     if name == "rolling":
-        told.append("a rollback is begun: until it is done the store answers nothing else")
-    way = "; `upgrade finalize` keeps what stands now" if name == "upgrade" else ""
-    say("\n".join([*told, f"a rollback would be refused{way}" if lost else "a rollback would give all back"]))
-    return WRONG if lost else WELL
+        say("a rollback is begun: until it is done the store answers nothing else")
+    if not look.lost:
+        say("a rollback would give all back")
+        return WELL
+    say("a rollback would be refused" + ("; `upgrade finalize` keeps what stands now" if name == "upgrade" else ""))
+    if name == "rolling" and session.file:
+        before = f"head -n {line_before(session.file, look.begun)} {shlex.quote(str(session.file))}"
+        say(f"`{before} > COPY` makes the store before it, where `upgrade finalize` can be done")
+    return WRONG
 
 
 def rollback(session: Session, asked: Namespace) -> None:
     name, _ = phase(session)
-    lost = what_a_rollback_finds(session)[1] if name in ("upgrade", "rolling") and not asked.anyway else []
+    lost = what_a_rollback_finds(session).lost if name == "upgrade" and not asked.anyway else []
     if lost:
         way = "Begun by --anyway, the store would answer nothing else, for good. `upgrade finalize` keeps what stands now."
         raise Failed("\n".join([f"a rollback can't be done. {way}", *lost]))
-    unrestored = rolled_back(session, name)
-    if unrestored is not None:
-        raise Failed(f"the rollback is begun and can't be done: nobody has chunk {unrestored} as it was at the prepare")
+    refusal = rolled_back(session, name)
+    if refusal:
+        raise refusal
     say(f"rolled back to the prepare, epoch {phase(session)[1]}")
     make_whole(session)
 

@@ -1,7 +1,7 @@
 from argparse import Namespace
 
 from client.attempts import attempt, each_path, for_each, meant
-from client.telling import Failed
+from client.telling import Failed, local
 from client.tests import TINY, StoreCase
 
 
@@ -20,6 +20,18 @@ class Attempts(StoreCase):
             self.assertEqual((for_each(session, [1, 2, 3], act), done), (1, [1, 3]))
             self.assertEqual(for_each(session, [1, 3], act), 0)
             self.assertEqual(for_each(session, [], act), 0)
+
+    def test_a_full_disk_ends_it(self) -> None:
+        done = []
+
+        def act(item: int) -> None:
+            done.append(item)
+            with local("f"):
+                raise OSError(28, "No space left on device")
+
+        with self.session() as session:
+            self.assertEqual(attempt(session, lambda: for_each(session, [1, 2], act)), 1)
+        self.assertEqual(done, [1])
 
     def test_a_status_is_passed_on(self) -> None:
         with self.session() as session:

@@ -59,14 +59,11 @@ class Checks(StoreCase):
 
     def test_paths_of_a_chunk(self) -> None:
         self.assertEqual(self.fs("fsck", "--chunk", "1"), "/g\n/a/f\n")
-        self.assertEqual(self.fs("fsck", "--chunk", "9", status=1), "")
+        self.assertEqual(self.fs("fsck", "--chunk", "9", status=1), "chunkfs: no file has chunk 9\n")
 
     def test_a_report(self) -> None:
         self.lines("lose 1 2", "beat 1", "rollingUpgrade prepare")
         told = self.fs("report")
         self.assertIn("phase upgrade, epoch 1\n3 files, 3 chunks, 1 short of 3 replicas\nserver 0, rack 0: 3 chunks, 21 B\n", told)
         self.assertIn("server 1, rack 0: 2 chunks, 17 B\n", told)
-        self.assertIn(f"log {self.store}: ", told)
-        self.assertIn("no image", told)
-        (self.folder / "store.image.1").write_bytes(b"image")
-        self.assertRegex(self.fs("report"), r"image \S+store\.image\.1: 5 B, made \d{4}-")
+        self.assertRegex(told, rf"\nlog {self.store}: \S+ K\n\Z")

@@ -27,6 +27,10 @@ class Listing(StoreCase):
         self.assertEqual(self.fs("find", "/a", "-name", "f"), "/a/f\n")
         self.assertIn("28 NoReplica", self.fs("count", "/a", status=1))
 
+    def test_the_root_stays(self) -> None:
+        for words in (("mv", "/", "/a"), ("cp", "/", "/new"), ("mv", "/h", "/", "/a")):
+            self.assertIn("The root can't be moved, deleted or copied. (9 IsRoot)", self.fs(*words, status=1))
+
     def test_sums(self) -> None:
         self.assertEqual(self.fs("du", "/").split(), ["20", "56", "/a", "0", "0", "/h"])
         self.assertEqual(self.fs("du", "-s", "-h", "/").split(), ["20", "B", "56", "B", "/"])

@@ -1,8 +1,15 @@
+import io
 import shlex
+import sys
+from contextlib import redirect_stderr
 from pathlib import Path
+from unittest.mock import patch
+
+import explain
+import launch
 
 from client.commands import COMMANDS, STEPS
-from client.main import SHELL, words_of
+from client.main import SHELL, open_missing, words_of
 from client.tests import TINY, StoreCase
 
 
@@ -28,6 +35,15 @@ class Words(StoreCase):
             self.assertIn("usage: ", self.fs(*words, status=2))
         self.fs("ls", "/a")
 
+    def test_what_a_command_doesnt_take(self) -> None:
+        self.fs("mkdir", "/a")
+        self.assertRegex(self.fs("ls", "--frob", status=2), r"STORE\s+ls\s")
+        for words in (("ls", "--lon"), ("upgrade", "rollback", "--any"), ("fsck", "--rep"), ("upgrade", "status", "more")):
+            self.assertIn("unrecognized arguments: ", self.fs(*words, status=2))
+        for wrong in ("-5", "x", ""):
+            self.assertIn(f"'{wrong}' is no count", self.fs("tail", "-c", wrong, "/a", status=2))
+        self.assertRegex(self.fs("shell", said=b"ls --frob\n", status=2), "usage: +ls ")
+
     def test_a_mistyped_command_gives_one_that_is_like_it(self) -> None:
         self.assertEqual(self.fs("upgade", status=2), "chunkfs: no command 'upgade'; did you mean 'upgrade'?\n")
         self.assertEqual(self.fs("upgrade", "stauts", status=2), "chunkfs: no command 'stauts'; did you mean 'status'?\n")
@@ -51,8 +67,40 @@ class Words(StoreCase):
         self.fs("mkdir", "/a")
         self.assertEqual(self.store.read_text().splitlines()[0], "chunkkeep 2 --servers 3 --racks 1 --replicas 3 --chunk 16 --block 4")
 
+    def test_sizes_that_make_no_store(self) -> None:
+        for name, size, told in (
+            ("servers", 0, "--servers 0: there are 1 to 16\n--replicas 3: there are 1 to as many as servers, which are 0"),
+            ("servers", -1, "--servers -1: there are 1 to 16\n"),
+            ("replicas", 4, "--replicas 4: there are 1 to as many as servers, which are 3"),
+            ("chunk", 65_537, "--chunk 65537: that is no whole number of blocks of 65536 bytes"),
+        ):
+            self.sizes = {name: size}
+            self.assertTrue(self.fs("mkdir", "/a", status=2).startswith(f"chunkfs: {told}"))
+            self.assertFalse(self.store.exists())
+        self.sizes = TINY
+
+    def test_sizes_that_chunkkeep_makes_no_store_of(self) -> None:
+        told = io.StringIO()
+        with patch("os.execv") as run, patch("signal.signal"), redirect_stderr(told):
+            launch.main("chunkkeep", ["--servers", "0", str(self.store)])
+        run.assert_called_once()
+        self.assertTrue(told.getvalue().startswith("chunkkeep: --servers 0: there are 1 to 16\n"))
+
+    def test_what_the_programs_take_is_what_their_help_tells(self) -> None:
+        self.assertIn("--explain", explain.usage("chunkstore"))
+        for name in ("chunktrace", "chunkkeep"):
+            self.assertNotIn("--explain", explain.usage(name))
+
+    def test_standard_files_that_are_closed(self) -> None:
+        for name in ("stdin", "stdout", "stderr"):
+            with patch(f"sys.{name}", None), patch("os.dup2") as put, patch("client.main.open", create=True) as opened:
+                open_missing()
+                self.assertEqual(put.call_args.args[1], opened.call_args.args[0])
+                self.assertIs(getattr(sys, name), opened.return_value)
+
     def test_a_store_in_memory(self) -> None:
         script = self.local("commands", b"append /f commands\ncat /f\nrm /f\ntrash\n")
         self.store = Path("--memory")
         self.assertRegex(self.fs("shell", "-f", script), r"append /f commands\n(.|\n)* /f /\.deleted\.")
+        self.assertEqual(self.fs("mkdir", "/a"), "chunkfs: --memory: the store ends with this command, and nothing is kept\n")
         self.assertEqual(list(self.folder.iterdir()), [script])

@@ -131,10 +131,14 @@ class Shells(StoreCase):
         self.assertEqual(self.fs("shell", "-f", script), "\udcff/\n")
         self.assertEqual(self.fs("shell", said=b"find / -name \xff\n"), "/\udcff\n")
 
-    def test_an_interrupt_ends_it_well(self) -> None:
+    def test_an_interrupt_gives_the_line_up(self) -> None:
         terminal = Terminal(self.command("shell"), str(self.folder))
         terminal.await_text("/> ")
         terminal.type("mkdir /a\n")
         terminal.await_text("/> ")
-        self.assertEqual(terminal.status("\x03"), 0)
+        terminal.type("mkdir /never")
+        terminal.await_text("mkdir /never")
+        terminal.type("\x03")
+        terminal.await_text("/> ")
+        self.assertEqual(terminal.status("\x04"), 0)
         self.assertEqual(self.fs("ls"), "a/\n")

@@ -48,6 +48,14 @@ class Trash(StoreCase):
         self.lines("rollingUpgrade rollback")
         self.assertEqual(self.listed(), [("0", "/f")])
 
+    def test_what_no_server_has_is_told_from_what_isnt_told_now(self) -> None:
+        self.lines("create /f", "write /f 0 61", "create /g", "rollingUpgrade prepare", "rm /f", "rm /g", *(f"lose {server} 1" for server in range(3)))
+        self.assertEqual(self.listed(), [("?", "/f"), ("0", "/g")])
+        self.lines("rollback-begin")
+        told = self.fs("trash", status=1)
+        self.assertIn("The master is rolling back. (12 RollingBack)", told)
+        self.assertNotIn("?", told)
+
     def test_expunge(self) -> None:
         self.lines("create /f", "write /f 0 61", "rm /f")
         self.assertIn("removed for good: 1 of the trash, and 1 chunks", self.fs("expunge"))

@@ -1,4 +1,8 @@
+import re
+import subprocess
+
 from client.tests import TINY, StoreCase
+from client.upgrade import line_before
 
 
 class Upgrades(StoreCase):
@@ -39,10 +43,46 @@ class Upgrades(StoreCase):
         self.assertIn("a rollback would be refused", self.fs("upgrade", "status", status=1))
         # The store isn't closed by that.
         self.assertEqual(self.fs("cat", "/g"), "bc")
-        self.assertIn("nobody has chunk 2", self.fs("upgrade", "rollback", "--anyway", status=1))
-        self.assertIn("12 RollingBack", self.fs("ls", status=1))
+        for words in (("rollback", "--anyway"), ("rollback",)):
+            told = self.fs("upgrade", *words, status=1)
+            self.assertTrue(told.startswith("chunkfs: upgrade rollback: A rollback can't be done while"), told)
+            self.assertIn("(16 Unrestored 2) `upgrade status` says of which chunks", told)
+            self.assertIn("12 RollingBack", self.fs("ls", status=1))
+        self.assertIn("12 RollingBack", self.fs("upgrade", "finalize", status=1))
+        told = self.fs("export", status=1)
+        self.assertTrue(told.startswith("chunkfs: export: The master is rolling back. (12 RollingBack) `upgrade rollback` goes on"), told)
         told = self.fs("upgrade", "status", status=1)
         self.assertIn("phase rolling, epoch 2\nchunk 1, on 2 of 3 servers as it was at the prepare: /f\nchunk 2, on 0 of 3", told)
+        self.assertNotIn("keeps what stands now", told)
+        self.cut_copy(told)
+        self.assertEqual(self.fs("cat", "/g"), "bc")
+        self.assertIn("finalized, epoch 2", self.fs("upgrade", "finalize"))
+        self.assertEqual(self.fs("cat", "/g"), "bc")
+
+    def cut_copy(self, told: str) -> None:
+        """From now on the store is the copy that the status tells how to make."""
+        subprocess.run(re.search("`(head .*) > COPY`", told)[1] + " > 'a copy'", shell=True, check=True)
+        self.store = self.folder / "a copy"
+
+    def test_where_a_copy_is_cut(self) -> None:
+        self.lines("append /g 63")
+        with self.session() as session:
+            self.assertEqual([session.told(line).refusal.number for line in ("rollingUpgrade rollback", "rollback-begin")], [13, 13])
+        self.lines("rollingUpgrade prepare")
+        self.lines("mkdir /d", "lose 0 1", "lose 1 1", "lose 2 1")
+        self.lines("rollback-begin")
+        with self.session() as session:
+            for line, number in (("rollback-commit", 16), ("rollingUpgrade rollback", 12), ("rollback-begin", 12), ("rollback-commit", 16)):
+                self.assertEqual(session.told(line).refusal.number, number)
+        self.cut_copy(self.fs("upgrade", "status", status=1))
+        self.assertEqual(self.fs("ls"), "d/\nf\ng\n")
+        self.assertIn("phase upgrade, epoch 1", self.fs("upgrade", "status", status=1))
+        self.assertIn("finalized, epoch 2", self.fs("upgrade", "finalize"))
+
+    def test_where_a_file_of_form_1_is_cut(self) -> None:
+        store = self.local("log", b"chunkkeep 1 --servers 3\nmkdir /a\nmkdir /b\nrollback-begin\n")
+        self.assertEqual(line_before(store, 3), 3)
+        self.assertEqual(line_before(self.local("log", b"chunkkeep 2 --servers 3\nmkdir /a\n# 1 x y\nmkdir /b\n# 2 x y\n"), 2), 3)
 
     def test_a_copy_within_the_upgrade_counts(self) -> None:
         self.fs("upgrade", "prepare")
