@@ -3,30 +3,17 @@
 import functools
 from argparse import Namespace
 from collections.abc import Callable, Iterable
-from contextlib import suppress
 
 from client.names import child, line_path, shown
 from client.session import Session
-from client.store import children, is_directory
-from client.telling import WELL, WRONG, Failed, NoSpace, like, local, warn
+from client.store import is_directory
+from client.telling import WELL, WRONG, Failed, NoSpace, local, warn
 
 # What a command does. It ends with a status, or with none where all is well.
 Run = Callable[[Session, Namespace], int | None]
 
 
-def meant(session: Session, path: str) -> str:
-    """Where nothing stands at a path: the question whether another name was meant, of those that stand next to the first that isn't there."""
-    folder = "/"
-    with suppress(Failed):
-        for element in path.split("/")[1:]:
-            names = children(session, folder)
-            if element not in names:
-                return like(shown(element), map(shown, names))
-            folder = child(folder, element)
-    return ""
-
-
-def attempt(session: Session, act: Callable[[], int | None], but: type[Failed] | tuple = ()) -> int:
+def attempt(act: Callable[[], int | None], but: type[Failed] | tuple = ()) -> int:
     """Does something, or tells why it can't be done, but for what is passed on. The status says which."""
     try:
         with local(None):
@@ -34,16 +21,13 @@ def attempt(session: Session, act: Callable[[], int | None], but: type[Failed] |
     except but:
         raise
     except Failed as failed:
-        reason, missing = str(failed), failed.missing
-    # The store is asked once nobody waits for its answers any more.
-    question = next(filter(None, (meant(session, path) for path in missing)), "")
-    warn(reason.removesuffix(".") + question if question else reason)
-    return WRONG
+        warn(str(failed))
+        return WRONG
 
 
-def for_each(session: Session, items: Iterable, act: Callable[..., object]) -> int:
+def for_each(items: Iterable, act: Callable[..., object]) -> int:
     """Does the same with each, and goes on where it can't be done with one, unless a disk is full. The status says whether it was done with all."""
-    return max([attempt(session, functools.partial(act, item), NoSpace) for item in items], default=WELL)
+    return max([attempt(functools.partial(act, item), NoSpace) for item in items], default=WELL)
 
 
 def each_path(act: Callable[[Session, Namespace, str], None]) -> Run:
@@ -51,7 +35,7 @@ def each_path(act: Callable[[Session, Namespace, str], None]) -> Run:
 
     def run(session: Session, asked: Namespace) -> int:
         paths = [line_path(path, asked.folder) for path in asked.paths or ["."]]
-        return for_each(session, paths, functools.partial(act, session, asked))
+        return for_each(paths, functools.partial(act, session, asked))
 
     return functools.wraps(act)(run)
 
@@ -62,5 +46,5 @@ def targets(session: Session, asked: Namespace, names: Iterable[str]) -> list[st
     if is_directory(session, target):
         return [child(target, name) for name in names]
     if len(asked.sources) > 1:
-        raise Failed(f"{shown(target)}: several need a directory that is there", target)
+        raise Failed(f"{shown(target)}: several need a directory that is there")
     return [target]

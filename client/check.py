@@ -4,10 +4,10 @@ from argparse import Namespace
 from collections.abc import Iterable, Iterator
 from typing import NamedTuple
 
-from client.listing import chunk_sizes
+from client.listing import sized_chunks
 from client.names import line_path, old_path, shown
 from client.progress import human
-from client.session import Session, Sizes
+from client.session import Session
 from client.store import Chunk, Entry, heal, paths_of, phase, report_all, told_below
 from client.telling import WELL, WRONG, Failed, Refused, say, warn
 from client.trash import removed
@@ -46,34 +46,29 @@ def looked_at(session: Session, tops: list[str], wrong: Iterable[tuple[str, str]
     return Found(entries, [*untold, *wrong], blocks)
 
 
-def digest_lines(entries: list[Entry], sizes: Sizes) -> Iterator[str]:
+def digest_lines(session: Session, entries: list[Entry]) -> Iterator[str]:
     """A line for each block of each file."""
     for entry in entries:
-        for index, size in enumerate(chunk_sizes(entry, sizes.chunk)):
-            yield from (f"digest {entry.path} {index} {block}" for block in range(-(-size // sizes.block)))
+        for index, (_, size) in enumerate(sized_chunks(entry, session)):
+            yield from (f"digest {entry.path} {index} {block}" for block in range(-(-size // session.sizes.block)))
 
 
 def checked(session: Session, tops: list[str]) -> Found:
     """Has each server report, asks for the digest of each block, and looks at what is known then."""
     report_all(session)
-    wrong, blocks = [], 0
-    for answer in session.ask_all(digest_lines(looked_at(session, tops).entries, session.sizes)):
-        blocks += 1
-        if not answer.is_ok:
-            _, path, chunk, block = answer.line.split(" ")
-            wrong.append((path, f"block {block} of its chunk at {chunk} isn't there: {answer.refusal.says}"))
-    return looked_at(session, tops, wrong, blocks)
+    answers = list(session.ask_all(digest_lines(session, looked_at(session, tops).entries)))
+    refused = [(answer.line.split(" "), answer.refusal.says) for answer in answers if not answer.is_ok]
+    wrong = [(path, f"block {block} of its chunk at {chunk} isn't there: {says}") for (_, path, chunk, block), says in refused]
+    return looked_at(session, tops, wrong, len(answers))
 
 
 def repaired(session: Session, tops: list[str]) -> tuple[Found, int, str | None]:
-    """Heals until nothing is short and nothing is wrong, or no copy helps any more. Tells how many copies were made too, and what refused the
-    last one, if anything did."""
-    found, made = checked(session, tops), 0
+    """Looks and heals until no copy is made any more. Tells how many were made too, and what refused the last one, if anything did."""
+    made = 0
     for _ in range(MOST_ROUNDS):
-        copies, refused = heal(session)
+        found, (copies, refused) = checked(session, tops), heal(session)
         made += copies
-        found = checked(session, tops)
-        if not copies and (refused or not found.short(session.sizes.replicas)):
+        if not copies:
             break
     return found, made, refused
 
@@ -119,7 +114,7 @@ def chunk_text(chunk: Chunk) -> str:
 def report(session: Session, asked: Namespace) -> None:
     """Servers with what is on each, what is short, the upgrade's phase, and the file in which the store is kept."""
     found, sizes = looked_at(session, ["/"]), session.sizes
-    chunk_bytes = {chunk.handle: size for entry in found.entries for chunk, size in zip(entry.chunks, chunk_sizes(entry, sizes.chunk))}
+    chunk_bytes = {chunk.handle: size for entry in found.entries for chunk, size in sized_chunks(entry, session)}
     name, epoch = phase(session)
     say(f"phase {name}, epoch {epoch}")
     say(f"{len(found.entries)} files, {len(found.chunks)} chunks, {len(found.short(sizes.replicas))} short of {sizes.replicas} replicas")

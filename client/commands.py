@@ -1,6 +1,6 @@
 """The commands, with their words, and what runs each."""
 
-from argparse import Action, ArgumentParser, ArgumentTypeError, Namespace, RawDescriptionHelpFormatter
+from argparse import Action, ArgumentParser, RawDescriptionHelpFormatter
 from collections.abc import Iterable
 from pathlib import Path
 from typing import NamedTuple
@@ -17,12 +17,6 @@ def there(name: str) -> Path:
     return Path(name)
 
 
-def count(text: str) -> int:
-    if not (text.isascii() and text.isdigit()):
-        raise ArgumentTypeError(f"'{text}' is no count")
-    return int(text)
-
-
 def word(*names: str, **how: object) -> tuple[tuple[str, ...], dict[str, object]]:
     return names, how
 
@@ -34,7 +28,7 @@ def flag(short: str, long: str, help: str) -> tuple[tuple[str, ...], dict[str, o
 SOME = word("paths", nargs="+", metavar="PATH")
 ANY = word("paths", nargs="*", metavar="PATH")
 SOURCES = word("sources", nargs="+", metavar="PATH")
-TARGET = word("target", metavar="TARGET", help="a directory that is there, or the new path itself")
+TARGET = word("target", metavar="TARGET", help="a directory that is there, or the new place itself")
 ONE = word("path", metavar="PATH")
 HUMAN = flag("-h", "--human", "sizes with units")
 FORCE = flag("-f", "--force", "puts files in the place of others")
@@ -60,15 +54,12 @@ STEPS = (
 )
 COMMANDS = (
     Command("put", transfer.put, "brings files and directories into the store", "put notes.txt photos /", (
-        word("sources", nargs="+", type=there, metavar="LOCAL", help="what is brought in"),
-        word("target", metavar="PATH", help="a directory of the store, or the new path itself"), FORCE,
+        word("sources", nargs="+", type=transfer.local_tree, metavar="LOCAL"), TARGET, FORCE,
         word("--verify", action="store_true", help="reads back what came in and compares its SHA-256")), True),
-    Command("get", transfer.get, "brings files and directories out of the store", "get /photos .", (
-        word("sources", nargs="+", metavar="PATH", help="what is brought out"),
-        word("target", metavar="LOCAL", help="a directory of this machine, or the new place itself"), FORCE)),
+    Command("get", transfer.get, "brings files and directories out of the store", "get /photos .", (SOURCES, TARGET, FORCE)),
     Command("cat", transfer.cat, "writes files to standard output", "cat /notes.txt", (SOME,)),
     Command("tail", transfer.cat, "writes the ends of files to standard output", "tail -c 100 /notes.txt", (
-        SOME, word("-c", dest="bytes", type=count, default=transfer.TAIL_BYTES, help="how many bytes"))),
+        SOME, word("-c", dest="bytes", type=int, default=transfer.TAIL_BYTES, help="how many bytes"))),
     Command("append", transfer.append, "puts files, or standard input, at the end of a file", "append /notes.txt more.txt", (
         ONE, word("files", nargs="*", type=there, metavar="LOCAL")), True),
     Command("ls", listing.ls, "what stands in a directory", "ls -l -h /photos", (
@@ -100,17 +91,7 @@ COMMANDS = (
 
 
 class Words(ArgumentParser):
-    """The words of a command line, none of which may be shortened. One that is no command is told with the one that is like it, and one that a
-    command doesn't take with the usage of that."""
-
-    def __init__(self, **how: object):
-        super().__init__(allow_abbrev=False, **how)
-
-    def parse_known_args(self, args: object = None, namespace: Namespace | None = None) -> tuple[Namespace, list[str]]:
-        asked, rest = super().parse_known_args(args, namespace)
-        if rest:
-            self.error(f"unrecognized arguments: {' '.join(rest)}")
-        return asked, rest
+    """The words of a command line. One that is no command is told with the one that is like it."""
 
     def _check_value(self, action: Action, value: str) -> None:
         if action.choices is not None and value not in action.choices:
@@ -122,7 +103,7 @@ def add_commands(parser: ArgumentParser, commands: Iterable[Command], before: st
     added = parser.add_subparsers(metavar=metavar, required=True)
     for command in commands:
         how = {"description": command.what, "epilog": f"example:\n  {before}{command.example}", "formatter_class": RawDescriptionHelpFormatter}
-        one = added.add_parser(command.name, help=command.what, add_help=False, **how)
+        one = added.add_parser(command.name, help=command.what, add_help=False, allow_abbrev=False, **how)
         one.add_argument("--help", action="help", help="says this")
         for names, how in command.words:
             one.add_argument(*names, **how)

@@ -5,10 +5,10 @@ from collections import defaultdict
 from fnmatch import fnmatchcase
 
 from client.attempts import each_path, for_each, targets
-from client.names import child, last, line_path, parent, shown
+from client.names import child, last, line_path, named, parent, shown
 from client.progress import human
 from client.session import Session
-from client.store import Entry, children, is_directory, stat, stats, told_below, walk, walk_names
+from client.store import Chunk, Entry, children, is_directory, stat, stats, told_below, walk, walk_names
 from client.telling import Failed, Refused, say
 
 
@@ -55,14 +55,13 @@ def du(session: Session, asked: Namespace, top: str) -> None:
         parts.pop(top)
     for part, entries in sorted(parts.items()):
         whole = sum(entry.size for entry in entries)
-        sized = ((entry.chunks, chunk_sizes(entry, session.sizes.chunk)) for entry in entries)
-        stored = sum(size * len(chunk.servers) for both in sized for chunk, size in zip(*both))
+        stored = sum(size * len(chunk.servers) for entry in entries for chunk, size in sized_chunks(entry, session))
         say(f"{size_text(whole, asked):>12} {size_text(stored, asked):>12} {shown(part)}")
 
 
-def chunk_sizes(entry: Entry, chunk_bytes: int) -> list[int]:
-    """The bytes of each chunk of a file: all but the last are full."""
-    return [min(chunk_bytes, entry.size - at * chunk_bytes) for at in range(len(entry.chunks))]
+def sized_chunks(entry: Entry, session: Session) -> list[tuple[Chunk, int]]:
+    """The chunks of a file with their bytes: all but the last are full."""
+    return [(chunk, min(session.sizes.chunk, entry.size - at * session.sizes.chunk)) for at, chunk in enumerate(entry.chunks)]
 
 
 @each_path
@@ -111,7 +110,7 @@ def mv(session: Session, asked: Namespace, word: str = "mv") -> int:
     if "/" in sources:
         raise Refused("refused 9 IsRoot", "/")
     lines = [(word, *ends) for ends in zip(sources, targets(session, asked, map(last, sources)))]
-    return for_each(session, lines, lambda line: session.ask(*line))
+    return for_each(lines, lambda line: session.ask(*line))
 
 
 def cp(session: Session, asked: Namespace) -> int:
@@ -123,6 +122,6 @@ def cp(session: Session, asked: Namespace) -> int:
 def rm(session: Session, asked: Namespace, path: str) -> None:
     hidden = session.ask("rm", "-r", path) if asked.recursive else session.ask("rm", path)
     if hidden != "false":
-        say(f"{shown(path)} is in the trash as {shown(hidden)}")
+        say(f"{shown(path)} is in the trash as {named(hidden)}")
     elif not asked.force:
-        raise Failed(f"{shown(path)}: nothing stands there", path)
+        raise Failed(f"{shown(path)}: nothing stands there")

@@ -30,8 +30,8 @@ def open_missing() -> None:
 
 def words_of() -> ArgumentParser:
     """The words of the command line: a store, the sizes of a new one, and a command."""
-    parser = Words(prog="chunkfs", description="A client of a store that is kept in a file.", epilog="docs/CHUNKFS.md is its page.")
-    for name, size in vars(Sizes()).items():
+    parser = Words(prog="chunkfs", allow_abbrev=False, description="A client of a store that is kept in a file.", epilog="docs/CHUNKFS.md is its page.")
+    for name, size in Sizes()._asdict().items():
         parser.add_argument(f"--{name}", type=int, metavar="N", help=f"of a new store, {size} where it isn't given")
     parser.add_argument("--lab", action="store_true", help="a shell's lines may harm the store too")
     parser.add_argument("store", type=Path, metavar="STORE", help="the file in which the store is kept; --memory for a new one without a file")
@@ -47,9 +47,9 @@ def main(words: list[str]) -> int:
         asked = words_of().parse_args([str(MEMORY) if word == "--memory" else word for word in words])
         asked.folder = "/"
         file = None if asked.store == MEMORY else asked.store
-        given = {name: getattr(asked, name) for name in vars(Sizes()) if getattr(asked, name) is not None}
+        given = {name: getattr(asked, name) for name in Sizes._fields if getattr(asked, name) is not None}
         with local(None):
-            if wrong := explain.wrong_sizes(vars(Sizes(**given))):
+            if wrong := explain.wrong_sizes(Sizes(**given)._asdict()):
                 warn("\n".join(wrong))
                 return MISUSED
             if file and not asked.makes and not file.exists():
@@ -58,7 +58,7 @@ def main(words: list[str]) -> int:
                 warn("--memory: the store ends with this command, and nothing is kept")
             with Session(file, given, is_lab=asked.lab) as session:
                 session.set_moment()
-                return attempt(session, lambda: asked.run(session, asked))
+                return attempt(lambda: asked.run(session, asked))
     except BrokenPipeError:
         # Whoever read the output has gone.
         return WRONG

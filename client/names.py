@@ -8,8 +8,8 @@ import re
 
 UNFIT = re.compile("[\x00-\x20:%\udc80-\udcff]|^\\.(?=deleted\\.)")
 ESCAPE = re.compile(rb"%([0-9A-F]{2})")
-HIDDEN = re.compile(r"\.deleted\.(?P<moment>\d{20})\.(?P<number>\d{20})\.(?P<name>.+)")
-# A path after this word is taken as it stands in lines.
+HIDDEN = re.compile(r"^\.deleted\.(?P<moment>\d{20})\.(?P<number>\d{20})\.(?P<name>.+)$")
+# A path after this word is taken as it stands in lines, as a hidden one has to be.
 AS_IT_STANDS = "lines:"
 # The path of a name in a directory, and the two parts of a path.
 child, parent, last = posixpath.join, posixpath.dirname, posixpath.basename
@@ -29,17 +29,22 @@ def shown(path: str) -> str:
     return "/".join(shown_element(element) for element in path.split("/"))
 
 
+def named(path: str) -> str:
+    """A path of lines as people name it."""
+    return AS_IT_STANDS + path if any(map(HIDDEN.fullmatch, path.split("/"))) else shown(path)
+
+
 def shown_element(element: str) -> str:
     name = ESCAPE.sub(lambda found: bytes.fromhex(found[1].decode()), bytes_of(element)).decode("utf-8", "surrogateescape")
     return name if escaped(name) == element and "\0" not in name else element
 
 
 def line_path(text: str, folder: str = "/") -> str:
-    """The path in lines of what somebody has typed, which may be relative to a folder of the store. A hidden name is taken as it stands."""
+    """The path in lines of what somebody has typed, which may be relative to a folder of the store."""
     if text.startswith(AS_IT_STANDS):
         return text.removeprefix(AS_IT_STANDS)
-    whole = posixpath.normpath("/" + posixpath.join(shown(folder), text).lstrip("/"))
-    return "/".join(element if HIDDEN.fullmatch(element) else escaped(element) for element in whole.split("/"))
+    below = "/".join(map(escaped, text.split("/")))
+    return posixpath.normpath("/" + posixpath.join(folder, below).lstrip("/"))
 
 
 def hidden_parts(path: str) -> tuple[int, int, str] | None:
@@ -50,8 +55,7 @@ def hidden_parts(path: str) -> tuple[int, int, str] | None:
 
 def old_name(element: str) -> str:
     """The name that an element had before it was hidden, or has."""
-    hidden = HIDDEN.fullmatch(element)
-    return hidden["name"] if hidden else element
+    return HIDDEN.sub(r"\g<name>", element)
 
 
 def old_path(path: str) -> str:

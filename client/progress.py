@@ -22,10 +22,7 @@ class Progress:
         self.whole, self.done, self.begun, self.shown = whole, 0, time.monotonic(), 0.0
         self.is_shown = sys.stderr.isatty()
 
-    def __enter__(self) -> "Progress":
-        return self
-
-    def __exit__(self, *_: object) -> None:
+    def close(self) -> None:
         if self.is_shown:
             self.show("\n")
 
@@ -40,9 +37,6 @@ class Progress:
     def show(self, end: str) -> None:
         self.shown = time.monotonic()
         rate = self.done / max(self.shown - self.begun, 0.001)
-        print(f"\r{self.line(rate)}\x1b[K", end=end, file=sys.stderr, flush=True)
-
-    def line(self, rate: float) -> str:
-        part = self.done / self.whole if self.whole else 1.0
-        bar = "#" * round(WIDTH * min(part, 1.0))
-        return f"[{bar:<{WIDTH}}] {human(self.done)} of {human(self.whole)}, {human(rate)}/s"
+        bar = "#" * round(WIDTH * min(self.done / max(self.whole, 1), 1.0))
+        told = f"[{bar:<{WIDTH}}] {human(self.done)} of {human(self.whole)}, {human(rate)}/s"
+        print(f"\r{told}\x1b[K", end=end, file=sys.stderr, flush=True)

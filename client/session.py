@@ -4,20 +4,20 @@ import contextlib
 import os
 import re
 import select
-import signal
 import subprocess
 import sys
 import tempfile
 import time
 from collections import deque
 from collections.abc import Iterable, Iterator
-from dataclasses import dataclass
 from pathlib import Path
+from queue import SimpleQueue
+from threading import Thread
 from typing import NamedTuple
 
 import launch
 
-from client.names import bytes_of, parent, shown
+from client.names import bytes_of, shown
 from client.telling import Refused, local, warn
 
 # What comes together is put into the log by one write and synced once, up to so much.
@@ -52,15 +52,13 @@ class Answer(NamedTuple):
 
     @property
     def refusal(self) -> Refused:
-        """Why the line is refused, told of its paths, or of what it asks for where it has none. A target may be new, but not what it stands in."""
+        """Why the line is refused, told of its paths, or of what it asks for where it has none."""
         words = self.line.split(" ")
-        paths = [word for word in words[1:] if word.startswith("/")]
-        about = " to ".join(map(shown, paths)) or " ".join(CALLED.get(word, word) for word in words[:2])
-        return Refused(self.text, about, *paths[:1], *map(parent, paths[1:]))
+        paths = [shown(word) for word in words[1:] if word.startswith("/")]
+        return Refused(self.text, " to ".join(paths) or " ".join(CALLED.get(word, word) for word in words[:2]))
 
 
-@dataclass(frozen=True)
-class Sizes:
+class Sizes(NamedTuple):
     """What a store was made with."""
 
     servers: int = 3
@@ -78,13 +76,6 @@ def sizes_of(file: Path | None, given: dict[str, int]) -> Sizes:
         return Sizes(**{name: int(size) for name, size in SIZE.findall(log.readline(1_000))})
 
 
-def next_piece(unsent: bytes) -> bytes:
-    """What is sent next: whole lines that go into the pipe all at once or not at all, or one line that is longer. So where the client is killed,
-    no line but a longer one is cut. That is a `write`, of which a beginning is no line or writes a beginning of the same bytes."""
-    end = unsent.rfind(b"\n", 0, select.PIPE_BUF) + 1
-    return bytes(unsent[: end or unsent.find(b"\n") + 1])
-
-
 class Session:
     """A program that is asked lines, many of them before their answers come, so that its log is synced seldom."""
 
@@ -97,27 +88,36 @@ class Session:
         self.said = tempfile.TemporaryFile()
         words = [launch.program_of("chunkkeep").path, file] if file else [launch.program_of("chunkstore").path]
         words += [str(word) for name, size in given.items() for word in (f"--{name}", size)] + ["--lab"] * bool(file and is_lab)
-        how = {"stdin": subprocess.PIPE, "stdout": subprocess.PIPE, "stderr": self.said, "bufsize": 0, "pipesize": PIPE_BYTES}
+        how = {"stdin": subprocess.PIPE, "stdout": subprocess.PIPE, "stderr": self.said, "pipesize": PIPE_BYTES}
         # What is typed at a terminal is for the client, which ends the program itself.
-        self.program = subprocess.Popen(words, preexec_fn=lambda: signal.signal(signal.SIGINT, signal.SIG_IGN), **how)
-        os.set_blocking(self.program.stdin.fileno(), False)
-        self.unsent, self.unread, self.is_heard = bytearray(), bytearray(), False
-        # Answers that have come and weren't given yet.
-        self.heard: deque[str] = deque()
+        self.program = subprocess.Popen(words, start_new_session=True, **how)
+        self.unsent: SimpleQueue[bytes] = SimpleQueue()
+        self.sender, self.is_heard = Thread(target=self.send, daemon=True), False
+        self.sender.start()
 
     def __enter__(self) -> "Session":
         return self
 
     def __exit__(self, kind: type | None, *_: object) -> None:
-        self.program.stdin.close()
+        self.unsent.put(b"")
         if kind:
             # Nobody reads its answers any more, for which it may wait.
             self.program.stdout.close()
+        self.sender.join()
         status = self.program.wait()
         self.program.stdout.close()
         with self.said:
             if status and kind is None:
                 raise self.ended()
+
+    def send(self) -> None:
+        """Sends lines as they come, from a thread of its own, since a program takes none while its answers aren't read. Where it has ended, its
+        answers end too. Where the client is killed, a line may be cut, and such a one isn't run."""
+        with contextlib.suppress(BrokenPipeError), self.program.stdin as stdin:
+            for line in iter(self.unsent.get, b""):
+                stdin.write(line)
+                if self.unsent.empty():
+                    stdin.flush()
 
     def ask(self, *words: object) -> str:
         """What one line gives."""
@@ -135,62 +135,51 @@ class Session:
         return [answer.value for answer in self.ask_all(lines)]
 
     def ask_all(self, lines: Iterable[str]) -> Iterator[Answer]:
-        """The answers to lines, as they come. Where somebody leaves off, what was sent is answered all the same, so that the next line is
-        met by its own answer."""
+        """The answers to lines, in their order. Where somebody leaves off, what was sent is answered all the same, so that the next line is met
+        by its own answer."""
         asked: deque[str] = deque()
         try:
-            yield from self.exchange(iter(lines), asked)
+            yield from self.exchange(lines, asked)
         except KeyboardInterrupt:
             # Nobody waits for what was asked. The store goes on from wherever its program is killed.
             self.program.kill()
             asked.clear()
-            self.heard.clear()
             raise
         finally:
-            if not self.program.stdin.closed:
-                deque(self.exchange(iter(()), asked), maxlen=0)
+            while asked and not self.program.stdout.closed:
+                self.answer(asked)
 
-    def exchange(self, lines: Iterator[str], asked: deque[str]) -> Iterator[Answer]:
-        is_more = True
-        while is_more or asked:
-            while is_more and len(self.unsent) < AHEAD_BYTES and len(asked) < AHEAD_LINES:
-                line = next(lines, None)
-                is_more = line is not None
-                if is_more:
-                    asked.append(line)
-                    self.unsent += bytes_of(f"{line}\n")
-                    self.recorded.append(line)
-            if asked and not self.heard:
-                self.heard.extend(self.turn())
-            # One answer at a time is taken, so that none is lost where somebody leaves off.
-            while self.heard:
-                yield Answer(asked.popleft(), self.heard.popleft())
+    def exchange(self, lines: Iterable[str], asked: deque[str]) -> Iterator[Answer]:
+        ahead = 0
+        for line in lines:
+            asked.append(line)
+            self.recorded.append(line)
+            self.unsent.put(bytes_of(f"{line}\n"))
+            ahead += len(line)
+            while ahead > AHEAD_BYTES or len(asked) > AHEAD_LINES:
+                ahead -= len(asked[0])
+                yield self.answer(asked)
+        while asked:
+            yield self.answer(asked)
 
-    def turn(self) -> list[str]:
-        """Sends what can be sent, and answers the lines that have come back."""
-        wanted = [self.program.stdin] if self.unsent else []
-        readable, writable, _ = select.select([self.program.stdout], wanted, [], 1)
-        if writable:
-            # There may be room for a part of it alone. Where the program has ended, its answers end too.
-            with contextlib.suppress(BlockingIOError, BrokenPipeError):
-                del self.unsent[: os.write(self.program.stdin.fileno(), next_piece(self.unsent))]
-        if not self.is_heard and sys.stderr.isatty():
-            # How far a start is that takes long.
-            print(f"\r{'' if readable else self.last_said()[-1]}\x1b[K\r", end="", file=sys.stderr, flush=True)
-        if not readable:
-            return []
-        part = os.read(self.program.stdout.fileno(), PIPE_BYTES)
-        if not part:
+    def answer(self, asked: deque[str]) -> Answer:
+        """The answer to the first of some lines, which isn't among them any more."""
+        if not self.is_heard:
+            self.wait_for_start()
+        told = self.program.stdout.readline()
+        if not told.endswith(b"\n"):
             raise self.ended()
-        # What a start has put aside and cut off its log is told.
-        for line in self.last_said() if not self.is_heard else ():
+        return Answer(asked.popleft(), told[:-1].decode())
+
+    def wait_for_start(self) -> None:
+        """Waits for the first answer. Shows how far a start is that takes long, and tells what one has put aside and cut off its log."""
+        while not self.is_heard:
+            self.is_heard = any(select.select([self.program.stdout], [], [], 1))
+            if sys.stderr.isatty():
+                print(f"\r{'' if self.is_heard else self.last_said()[-1]}\x1b[K\r", end="", file=sys.stderr, flush=True)
+        for line in self.last_said():
             if line.endswith(" cut off") or " put aside in " in line:
                 warn(line)
-        self.is_heard = True
-        self.unread += part
-        whole, end, rest = self.unread.rpartition(b"\n")
-        self.unread = rest if end else self.unread
-        return whole.decode().split("\n") if end else []
 
     def last_said(self) -> list[str]:
         """The last lines that the program has said on standard error."""
@@ -213,7 +202,7 @@ class Session:
 
     def again(self) -> "Session":
         """A store without a file, that is asked nothing yet, for the lines of this one to be run again."""
-        return Session(None, vars(self.sizes), is_recorded=False)
+        return Session(None, self.sizes._asdict(), is_recorded=False)
 
     def set_moment(self) -> None:
         """From now on the store's moment is that of the clock."""

@@ -1,5 +1,6 @@
 """A prompt for commands over one running store."""
 
+import atexit
 import contextlib
 import os
 import re
@@ -34,7 +35,7 @@ class Shell:
 
     def __init__(self, session: Session):
         self.session, self.folder, self.is_in_lines = session, "/", False
-        self.parser = Words(prog="")
+        self.parser = Words(prog="", allow_abbrev=False)
         own = (
             Command("cd", self.cd, "leads to a directory: paths that don't begin with a slash are below it", "cd /photos", (
                 word("path", nargs="?", default="/", metavar="PATH"),)),
@@ -65,7 +66,7 @@ class Shell:
     def cd(self, session: Session, asked: Namespace) -> None:
         path = line_path(asked.path, self.folder)
         if not is_directory(session, path):
-            raise Failed(f"{shown(path)}: a directory is needed there", path)
+            raise Failed(f"{shown(path)}: a directory is needed there")
         self.folder = path
 
     def help(self, session: Session, asked: Namespace) -> None:
@@ -77,7 +78,7 @@ class Shell:
     def run_line(self, typed: str) -> int:
         """As do, with words on standard error where something is wrong."""
         try:
-            return attempt(self.session, lambda: self.do(typed))
+            return attempt(lambda: self.do(typed))
         except ValueError as wrong:
             warn(f"{typed}: {wrong}")
             return MISUSED
@@ -104,6 +105,8 @@ class Shell:
 def typed_lines(shell: Shell) -> Iterator[str]:
     """The lines that somebody types at a prompt."""
     with contextlib.suppress(OSError):
+        HISTORY.parent.mkdir(parents=True, exist_ok=True)
+        atexit.register(readline.write_history_file, HISTORY)
         readline.read_history_file(HISTORY)
     readline.set_completer(shell.complete)
     readline.set_completer_delims(" ")
@@ -117,19 +120,14 @@ def typed_lines(shell: Shell) -> Iterator[str]:
                 print()
     except EOFError:
         print()
-    finally:
-        with contextlib.suppress(OSError):
-            HISTORY.parent.mkdir(parents=True, exist_ok=True)
-            readline.write_history_file(HISTORY)
 
 
 def run(session: Session, asked: Namespace) -> int | None:
     """At a terminal it goes on where something is wrong. A script ends there, and its line's number is told."""
     shell = Shell(session)
     is_script = bool(asked.file) or not sys.stdin.isatty()
-    sys.stdin.reconfigure(encoding="utf-8", errors="surrogateescape")
-    how = {"encoding": "utf-8", "errors": "surrogateescape"}
-    with local(asked.file), open(asked.file, **how) if asked.file else contextlib.nullcontext(sys.stdin) as source, contextlib.suppress(EOFError):
+    with local(asked.file), open(asked.file) if asked.file else contextlib.nullcontext(sys.stdin) as source, contextlib.suppress(EOFError):
+        source.reconfigure(encoding="utf-8", errors="surrogateescape")
         for number, typed in enumerate((line.rstrip("\n") for line in source) if is_script else typed_lines(shell), 1):
             if (status := shell.run_line(typed)) and is_script:
                 warn(f"line {number}: {typed}")

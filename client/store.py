@@ -47,12 +47,6 @@ def stat(session: Session, path: str) -> Entry:
     return read_entry(path, session.ask("stat", path))
 
 
-def found(session: Session, path: str) -> Entry | None:
-    """What stands at a path, if anything does."""
-    answer = session.told(f"stat {path}", NOT_FOUND)
-    return read_entry(path, answer.value) if answer.is_ok else None
-
-
 def stats(session: Session, paths: Iterable[str]) -> Iterator[Entry | Refused]:
     """What stands at paths, in their order, or what refuses to tell it."""
     paths = list(paths)
@@ -110,8 +104,7 @@ def paths_of(entries: Iterable[Entry]) -> dict[int, list[str]]:
 
 
 def is_directory(session: Session, path: str) -> bool:
-    entry = found(session, path)
-    return entry is not None and entry.is_directory
+    return session.told(f"stat {path}", NOT_FOUND).text == "ok dir"
 
 
 def read_bytes(session: Session, path: str, start: int, size: int) -> Iterator[bytes]:

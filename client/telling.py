@@ -20,11 +20,7 @@ LINK = re.compile(r"\[([^]]*)\]\([^)]*\)")
 
 
 class Failed(Exception):
-    """What was asked for can't be done, with the reason, and the paths of which one may be where nothing stands."""
-
-    def __init__(self, reason: str, *missing: str):
-        super().__init__(reason)
-        self.missing = missing
+    """What was asked for can't be done, with the reason."""
 
 
 class NoSpace(Failed):
@@ -48,14 +44,14 @@ def told() -> dict[int, dict[str, str]]:
 class Refused(Failed):
     """A line was refused that is about something."""
 
-    def __init__(self, answer: str, about: str, *paths: str):
+    def __init__(self, answer: str, about: str):
         _, number, _, *detail = answer.split(" ")
         self.number, self.detail = int(number), " ".join(detail)
         row = told()[self.number]
         self.says = f"{row['what it says']} ({answer.removeprefix('refused ')})"
         # What to do is told by the commands of this client, where the words for lines wouldn't do.
         to_do = row.get("what to do with chunkfs") or row.get("what to do", "")
-        super().__init__(f"{about}: {self.says} {to_do}".strip(), *paths if self.number == NOT_FOUND else ())
+        super().__init__(f"{about}: {self.says} {to_do}".strip())
 
 
 def like(name: str, names: Iterable[str]) -> str:

@@ -2,11 +2,11 @@
 
 import itertools
 import os
+import re
 import sys
 from argparse import Namespace
-from collections import Counter
 from collections.abc import Iterable, Iterator
-from contextlib import ExitStack, contextmanager
+from contextlib import ExitStack, closing, contextmanager
 from pathlib import Path
 from typing import BinaryIO, NamedTuple
 
@@ -14,15 +14,16 @@ from client.attempts import each_path, for_each, targets
 from client.names import bytes_of, child, escaped, last, line_path, parent, shown
 from client.progress import Progress
 from client.session import Session
-from client.store import LINE_BYTES, Entry, file_sha256, found, need, read_bytes, read_names, sha256_of, stat, told_below
-from client.telling import Failed, Refused, local, warn, write
+from client.store import LINE_BYTES, Entry, file_sha256, need, read_bytes, read_names, sha256_of, stat, told_below
+from client.telling import NOT_FOUND, Failed, Refused, local, warn, write
 
 # So many files are on their way at once before they are given their names.
 FILES_AT_ONCE = 256
 # A file stands under such a name until all of it is there.
 COMING = "._COPYING_"
 MOST_NAME_BYTES = 200
-MOST_ELEMENTS = 64
+# What follows the name of a store's file in the names of others that are made beside it.
+OWN = re.compile(r"(\.new|\.cut(\.\d+)?)?")
 TAIL_BYTES = 1_024
 
 
@@ -78,10 +79,18 @@ def write_lines(path: str, start: int, parts: Iterable[bytes]) -> Iterator[str]:
         start += len(part)
 
 
-def local_tree(file: Path, path: str) -> Iterator[Local]:
-    """What stands at a place of this machine and below it, with its paths in the store. Each file can be read."""
+def local_tree(name: str) -> list[Local]:
+    """What stands at a place of this machine and below it, by paths that are relative to where it goes. All of it can be put into a store."""
+    with local(name):
+        os.stat(name)
+    return list(walk_local(Path(name), ""))
+
+
+def walk_local(file: Path, path: str) -> Iterator[Local]:
     if file.name.endswith(COMING):
         raise Failed(f"{file}: names that end in {COMING} are those of files that come")
+    if len(bytes_of(last(path))) > MOST_NAME_BYTES:
+        raise Failed(f"{file}: a name has {MOST_NAME_BYTES} bytes at most as it stands in lines")
     if file.is_dir():
         yield Local(file, path)
         with local(file):
@@ -90,7 +99,7 @@ def local_tree(file: Path, path: str) -> Iterator[Local]:
             if inner.is_symlink() and inner.is_dir():
                 warn(f"{inner}: a link to a directory is passed over")
             else:
-                yield from local_tree(inner, child(path, escaped(inner.name)))
+                yield from walk_local(inner, f"{path}/{escaped(inner.name)}")
     elif file.is_file():
         with opened(file) as source:
             yield Local(file, path, os.fstat(source.fileno()).st_size)
@@ -98,25 +107,13 @@ def local_tree(file: Path, path: str) -> Iterator[Local]:
         raise Failed(f"{file}: neither a file nor a directory stands there")
 
 
-def check_names(coming: list[Local]) -> None:
-    """Each path has one that comes there, and can be one of the store."""
-    for path, count in Counter(one.path for one in coming).items():
-        elements = path.split("/")[1:]
-        if count > 1:
-            raise Failed(f"{shown(path)}: more than one would come there")
-        if len(elements) > MOST_ELEMENTS or any(len(bytes_of(element)) > MOST_NAME_BYTES for element in elements):
-            raise Failed(f"{shown(path)}: a name has {MOST_NAME_BYTES} bytes at most as it stands in lines, and a path {MOST_ELEMENTS} elements")
-
-
 def standing_at(session: Session, files: list[Local], folders: list[str], is_forced: bool) -> set[str]:
     """What stands already where files are to come. Only where that is meant they may be in the place of other files."""
     parents = sorted({parent(one.path) for one in files})
     standing: dict[str, bool] = {}
     for folder, answer in zip(parents, session.ask_all(f"ls {folder}" for folder in parents)):
-        if folder not in folders and not answer.is_ok:
-            raise answer.refusal
-        names = read_names(answer.value) if answer.is_ok else {}
-        standing |= {child(folder, name): is_folder for name, is_folder in names.items()}
+        if answer.is_ok or folder not in folders:
+            standing |= {child(folder, name): is_folder for name, is_folder in read_names(answer.value).items()}
     for one in files:
         if one.path in standing and (standing[one.path] or not is_forced):
             raise Failed(f"{shown(one.path)}: something stands there already" + ("" if is_forced else "; -f puts a file in its place"))
@@ -135,17 +132,26 @@ def put_files(session: Session, files: list[Local], standing: set[str], asked: N
     session.try_all(itertools.chain.from_iterable(renames))
 
 
+def is_own(session: Session, file: Path) -> bool:
+    """Whether a file is one of those in which the store itself is kept."""
+    own, real = os.path.realpath(session.file or os.devnull), os.path.realpath(file)
+    return real.startswith(own) and OWN.fullmatch(real, len(own)) is not None
+
+
 def put(session: Session, asked: Namespace) -> None:
-    coming: list[Local] = []
-    names = (escaped(os.path.basename(os.path.abspath(source))) for source in asked.sources)
-    for source, path in zip(asked.sources, targets(session, asked, names)):
-        coming += local_tree(source, path)
-    check_names(coming)
-    folders = [one.path for one in coming if one.size is None]
-    files = [one for one in coming if one.size is not None]
+    names = (escaped(os.path.basename(os.path.abspath(tree[0].file))) for tree in asked.sources)
+    coming: dict[str, Local] = {}
+    for tree, top in zip(asked.sources, targets(session, asked, names)):
+        if top in coming:
+            raise Failed(f"{shown(top)}: more than one would come there")
+        coming |= {top + one.path: one._replace(path=top + one.path) for one in tree}
+    folders = [path for path, one in coming.items() if one.size is None]
+    files = [one for one in coming.values() if one.size is not None and not is_own(session, one.file)]
+    if len(folders) + len(files) < len(coming):
+        warn(f"{session.file}: the store isn't put into itself")
     standing = standing_at(session, files, folders, asked.force)
     session.try_all(f"mkdir {folder}" for folder in folders)
-    with Progress(sum(one.size for one in files)) as progress:
+    with closing(Progress(sum(one.size for one in files))) as progress:
         for at in range(0, len(files), FILES_AT_ONCE):
             put_files(session, files[at : at + FILES_AT_ONCE], standing, asked, progress)
 
@@ -171,9 +177,9 @@ def get(session: Session, asked: Namespace) -> int:
         with arriving(file, asked.force) as out:
             out.writelines(progress.counted(read_bytes(session, entry.path, 0, entry.size)))
 
-    looked = for_each(session, asked.sources, look_at)
-    with Progress(sum(told.size for told, _ in coming if isinstance(told, Entry))) as progress:
-        return max(looked, for_each(session, coming, save))
+    looked = for_each(asked.sources, look_at)
+    with closing(Progress(sum(told.size for told, _ in coming if isinstance(told, Entry)))) as progress:
+        return max(looked, for_each(coming, save))
 
 
 def file_size(session: Session, path: str) -> int:
@@ -187,7 +193,7 @@ def file_size(session: Session, path: str) -> int:
 def cat(session: Session, asked: Namespace, path: str) -> None:
     """Writes a file, or so many bytes of its end as are asked for."""
     size = file_size(session, path)
-    for part in read_bytes(session, path, max(0, size - asked.bytes) if "bytes" in asked else 0, size):
+    for part in read_bytes(session, path, max(0, size - abs(asked.bytes)) if "bytes" in asked else 0, size):
         write(part)
 
 
@@ -197,8 +203,8 @@ def append(session: Session, asked: Namespace) -> None:
     path = line_path(asked.path, asked.folder)
     with local("standard input"), ExitStack() as stack:
         sources = [stack.enter_context(opened(file)) for file in asked.files] or [sys.stdin.buffer]
-        progress = stack.enter_context(Progress(sum(file.stat().st_size for file in asked.files)))
-        if found(session, path) is None:
+        progress = stack.enter_context(closing(Progress(sum(file.stat().st_size for file in asked.files))))
+        if not session.told(f"stat {path}", NOT_FOUND).is_ok:
             session.ask("create", path)
         parts = itertools.chain.from_iterable(map(pieces, sources))
         for line in write_lines(path, file_size(session, path), progress.counted(parts)):

@@ -7,10 +7,10 @@ from argparse import Namespace
 from datetime import datetime
 
 from client.attempts import each_path
-from client.names import child, hidden_parts, last, old_path, parent, shown
+from client.names import child, hidden_parts, last, named, old_path, parent, shown
 from client.session import Session
 from client.store import NO_REPLICA, Entry, report_all, stats
-from client.telling import NOT_FOUND, Failed, Refused, like, say
+from client.telling import NOT_FOUND, Failed, Refused, say
 
 # What was deleted longer ago than this is removed for good by a scan.
 KEPT_SECONDS = 259_200
@@ -53,7 +53,7 @@ def trash(session: Session, asked: Namespace) -> None:
     for path, told in removed(session).items():
         size = "?" if isinstance(told, Refused) else "dir" if told.is_directory else told.size
         moment = datetime.fromtimestamp(hidden_parts(path)[0])
-        say(f"{moment:%Y-%m-%d %H:%M:%S} {size:>12} {shown(old_path(path))} {shown(path)}")
+        say(f"{moment:%Y-%m-%d %H:%M:%S} {size:>12} {shown(old_path(path))} {named(path)}")
 
 
 @each_path
@@ -63,8 +63,7 @@ def undelete(session: Session, asked: Namespace, path: str) -> None:
         # What it stood in may have been deleted too, and has to come back first.
         fitting = {old_path(hidden): hidden for hidden in removed(session) if parent(hidden) == old_path(parent(hidden))}
         if path not in fitting:
-            near = like(shown(path), map(shown, fitting)) or "; `trash` lists what is"
-            raise Failed(f"{shown(path)}: nothing of that name is in the trash{near}")
+            raise Failed(f"{shown(path)}: nothing of that name is in the trash; `trash` lists what is")
         path = fitting[path]
     say(f"{shown(session.ask('undelete', path))} is back")
 

@@ -5,7 +5,6 @@ from argparse import Namespace
 from collections import Counter
 from collections.abc import Iterable
 from pathlib import Path
-from typing import NamedTuple
 
 from client.names import shown
 from client.session import AHEAD_LINES, Answer, Session
@@ -13,19 +12,9 @@ from client.store import heal, paths_of, phase, report_all, walk
 from client.telling import WELL, WRONG, Failed, Refused, say
 from client.transfer import opened
 
-NOT_QUIET, UNRESTORED = 15, 16
+UNRESTORED = 16
 PREPARES = ("rollingUpgrade prepare", "prepare-commit")
 ROLLBACKS = ("rollingUpgrade rollback", "rollback-commit")
-BEGINNINGS = ("rollingUpgrade rollback", "rollback-begin")
-
-
-class Look(NamedTuple):
-    """What a rollback finds: a line for each chunk of the prepare, a line for each that no server has as it was, and as which line of the store,
-    without marks, a rollback was begun last."""
-
-    told: list[str]
-    lost: list[str]
-    begun: int
 
 
 def runs_to_prepare(again: Session, lines: Iterable[str], epoch: int) -> None:
@@ -41,9 +30,10 @@ def runs_to_prepare(again: Session, lines: Iterable[str], epoch: int) -> None:
     raise Failed(f"the lines of the store have no prepare of epoch {epoch}")
 
 
-def what_a_rollback_finds(session: Session) -> Look:
-    """How many servers have each chunk of the prepare as it was, and which chunks none has. The lines of the store are run again in one without a
-    file, that one is rolled back, and its servers are asked. The store itself isn't touched. While it rolls back its epoch is already the next."""
+def what_a_rollback_finds(session: Session) -> tuple[list[str], list[str], int]:
+    """A line for each chunk of the prepare, with how many servers have it as it was, a line for each that none has, and as which line of the store,
+    without marks, a rollback was begun last. The lines of the store are run again in one without a file, that one is rolled back, and its servers
+    are asked. The store itself isn't touched. While it rolls back its epoch is already the next."""
     name, epoch = phase(session)
     with session.again() as again:
         runs_to_prepare(again, session.history(), epoch if name == "upgrade" else epoch - 1)
@@ -58,15 +48,15 @@ def what_a_rollback_finds(session: Session) -> Look:
             servers[int(answer.line.split(" ")[2])] += answer.is_ok
     if refusal:
         servers[int(refusal.detail)] = 0
-    of = f"of {again.sizes.servers} servers as it was at the prepare"
-    told = [f"chunk {handle}, on {servers[handle]} {of}: {paths}" for handle, paths in chunks.items()]
+    all_of = f"{again.sizes.servers} servers as it was at the prepare"
+    told = [f"chunk {handle}, on {servers[handle]} of {all_of}: {paths}" for handle, paths in chunks.items()]
     lost = [f"chunk {handle} has no sound replica of the prepare: {paths}" for handle, paths in chunks.items() if not servers[handle]]
-    return Look(told, lost, begun)
+    return told, lost, begun
 
 
 def begins_a_rollback(answer: Answer) -> bool:
     """Whether a line has begun a rollback, which may have been refused at its commit."""
-    return answer.line.rstrip() in BEGINNINGS and (answer.is_ok or answer.refusal.number == UNRESTORED)
+    return answer.line.rstrip() in (ROLLBACKS[0], "rollback-begin") and (answer.is_ok or answer.refusal.number == UNRESTORED)
 
 
 def line_before(file: Path, begun: int) -> int:
@@ -97,12 +87,9 @@ def make_whole(session: Session) -> None:
 
 
 def prepare(session: Session, asked: Namespace) -> None:
-    answer = session.told(PREPARES[0], NOT_QUIET)
-    if not answer.is_ok:
-        # What servers report settles what wasn't quiet.
-        report_all(session)
-        answer = session.told(PREPARES[0])
-    say(f"an upgrade stands, epoch {answer.value}: all that changes from now on can be taken back")
+    # What servers report settles what wasn't quiet.
+    report_all(session)
+    say(f"an upgrade stands, epoch {session.ask(PREPARES[0])}: all that changes from now on can be taken back")
 
 
 def status(session: Session, asked: Namespace) -> int | None:
@@ -110,23 +97,23 @@ def status(session: Session, asked: Namespace) -> int | None:
     say(f"phase {name}, epoch {epoch}")
     if name not in ("upgrade", "rolling"):
         return None
-    look = what_a_rollback_finds(session)
-    say("\n".join(look.told))
+    told, lost, begun = what_a_rollback_finds(session)
+    say("\n".join(told))
     if name == "rolling":
         say("a rollback is begun: until it is done the store answers nothing else")
-    if not look.lost:
+    if not lost:
         say("a rollback would give all back")
         return WELL
     say("a rollback would be refused" + ("; `upgrade finalize` keeps what stands now" if name == "upgrade" else ""))
     if name == "rolling" and session.file:
-        before = f"head -n {line_before(session.file, look.begun)} {shlex.quote(str(session.file))}"
+        before = f"head -n {line_before(session.file, begun)} {shlex.quote(str(session.file))}"
         say(f"`{before} > COPY` makes the store before it, where `upgrade finalize` can be done")
     return WRONG
 
 
 def rollback(session: Session, asked: Namespace) -> None:
     name, _ = phase(session)
-    lost = what_a_rollback_finds(session).lost if name == "upgrade" and not asked.anyway else []
+    lost = what_a_rollback_finds(session)[1] if name == "upgrade" and not asked.anyway else []
     if lost:
         way = "Begun by --anyway, the store would answer nothing else, for good. `upgrade finalize` keeps what stands now."
         raise Failed("\n".join([f"a rollback can't be done. {way}", *lost]))

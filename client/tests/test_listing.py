@@ -56,4 +56,4 @@ class Listing(StoreCase):
         self.assertIn("7 NotEmpty", self.fs("rm", "/a", "/h", status=1))
         self.assertIn("nothing stands there", self.fs("rm", "/h", status=1))
         self.assertEqual(self.fs("rm", "-f", "/h"), "")
-        self.assertRegex(self.fs("rm", "-r", "/a"), r"/a is in the trash as /\.deleted\.\d{20}\.\d{20}\.a\n")
+        self.assertRegex(self.fs("rm", "-r", "/a"), r"/a is in the trash as lines:/\.deleted\.\d{20}\.\d{20}\.a\n")

@@ -37,12 +37,11 @@ class Words(StoreCase):
 
     def test_what_a_command_doesnt_take(self) -> None:
         self.fs("mkdir", "/a")
-        self.assertRegex(self.fs("ls", "--frob", status=2), r"STORE\s+ls\s")
         for words in (("ls", "--lon"), ("upgrade", "rollback", "--any"), ("fsck", "--rep"), ("upgrade", "status", "more")):
             self.assertIn("unrecognized arguments: ", self.fs(*words, status=2))
-        for wrong in ("-5", "x", ""):
-            self.assertIn(f"'{wrong}' is no count", self.fs("tail", "-c", wrong, "/a", status=2))
-        self.assertRegex(self.fs("shell", said=b"ls --frob\n", status=2), "usage: +ls ")
+        for wrong in ("1.5", "x", ""):
+            self.assertIn(f"invalid int value: '{wrong}'", self.fs("tail", "-c", wrong, "/a", status=2))
+        self.assertIn("unrecognized arguments: --frob", self.fs("shell", said=b"ls --frob\n", status=2))
 
     def test_a_mistyped_command_gives_one_that_is_like_it(self) -> None:
         self.assertEqual(self.fs("upgade", status=2), "chunkfs: no command 'upgade'; did you mean 'upgrade'?\n")
@@ -101,6 +100,6 @@ class Words(StoreCase):
     def test_a_store_in_memory(self) -> None:
         script = self.local("commands", b"append /f commands\ncat /f\nrm /f\ntrash\n")
         self.store = Path("--memory")
-        self.assertRegex(self.fs("shell", "-f", script), r"append /f commands\n(.|\n)* /f /\.deleted\.")
+        self.assertRegex(self.fs("shell", "-f", script), r"append /f commands\n(.|\n)* /f lines:/\.deleted\.")
         self.assertEqual(self.fs("mkdir", "/a"), "chunkfs: --memory: the store ends with this command, and nothing is kept\n")
         self.assertEqual(list(self.folder.iterdir()), [script])

@@ -1,6 +1,6 @@
 import unittest
 
-from client.names import escaped, hidden_parts, line_path, old_path, shown
+from client.names import escaped, hidden_parts, line_path, named, old_path, shown
 
 NAMES = ["notes", "two words", "a:b", "100%", "%20", "tab\there", "line\nend", "\udcff\udc80", "é", "é\udcc3", ".deleted.x", ".deleted", "."]
 HIDDEN = ".deleted.00000000000000000007.00000000000000000002.old name"
@@ -26,10 +26,18 @@ class Names(unittest.TestCase):
     def test_typed_paths(self) -> None:
         for typed, path in (("a b", "/x/a%20b"), ("/a/../b/", "/b"), ("//a", "/a"), ("..", "/"), (".", "/x"), ("lines:/100%", "/100%")):
             self.assertEqual(line_path(typed, "/x"), path)
-        hidden = HIDDEN.replace(" ", "")
-        self.assertEqual(line_path(f"/a/{hidden}"), f"/a/{hidden}")
+
+    def test_a_hidden_path_is_named_as_it_stands(self) -> None:
+        hidden = f"/a/{escaped('b c')}/{HIDDEN.replace(' ', '%20')}"
+        self.assertEqual(line_path(named(hidden)), hidden)
+        self.assertEqual(named("/a/b%20c"), "/a/b c")
+        # A file of this machine may have a name of that form. It isn't hidden in the store.
+        self.assertEqual(line_path(f"/a/{HIDDEN}"), f"/a/{escaped(HIDDEN)}")
+        self.assertEqual(named(line_path(f"/a/{HIDDEN}")), f"/a/{HIDDEN}")
+        self.assertEqual(line_path("b c", "/a%20b/" + HIDDEN.replace(" ", "")), f"/a%20b/{HIDDEN.replace(' ', '')}/b%20c")
 
     def test_hidden_names(self) -> None:
         self.assertEqual(hidden_parts(f"/a/{HIDDEN}"), (7, 2, "old name"))
         self.assertIsNone(hidden_parts("/a/.deleted.7.2.old"))
         self.assertEqual(old_path(f"/a/{HIDDEN}/b"), "/a/old name/b")
+        self.assertEqual(old_path(f"/a/x{HIDDEN}"), f"/a/x{HIDDEN}")

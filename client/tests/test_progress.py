@@ -1,4 +1,6 @@
+import io
 import unittest
+from contextlib import redirect_stderr
 
 from client.progress import Progress, human
 
@@ -12,6 +14,10 @@ class Shown(unittest.TestCase):
     def test_a_bar_grows_with_what_is_done(self) -> None:
         progress = Progress(100)
         self.assertEqual(list(progress.counted([b"a" * 20, b"b" * 30])), [b"a" * 20, b"b" * 30])
-        self.assertEqual(progress.line(10), f"[{'#' * 15}{' ' * 15}] 50 B of 100 B, 10 B/s")
-        progress.done += 60
-        self.assertIn("#" * 30 + "]", progress.line(10))
+        told = io.StringIO()
+        with redirect_stderr(told):
+            progress.show("")
+            progress.done += 60
+            progress.show("")
+        self.assertIn(f"[{'#' * 15}{' ' * 15}] 50 B of 100 B, ", told.getvalue())
+        self.assertIn(f"[{'#' * 30}] 110 B of 100 B, ", told.getvalue())

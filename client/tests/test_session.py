@@ -1,26 +1,12 @@
-import random
-import select
+from collections.abc import Iterator
 
-from client.session import Answer, Ended, Session, Sizes, next_piece, sizes_of
-from client.telling import Refused
+from client.session import Answer, Ended, Session, Sizes, sizes_of
+from client.telling import Failed, Refused
 from client.tests import TINY, StoreCase
 
 
 class Sessions(StoreCase):
     sizes = TINY
-
-    def test_only_long_lines_may_be_cut(self) -> None:
-        chance = random.Random(1)
-        lines = [b"x" * chance.choice((3, 50, 4_000, 4_095, 4_096, 9_000)) + b"\n" for _ in range(500)]
-        unsent, sent = b"".join(lines), []
-        while unsent:
-            sent.append(next_piece(unsent))
-            unsent = unsent[len(sent[-1]) :]
-        self.assertEqual(b"".join(sent), b"".join(lines))
-        for piece in sent:
-            self.assertTrue(piece.endswith(b"\n"))
-            self.assertTrue(len(piece) <= select.PIPE_BUF or piece.count(b"\n") == 1)
-        self.assertEqual(next_piece(b"y" * 5_000 + b"\nz\n"), b"y" * 5_000 + b"\n")
 
     def test_each_line_has_its_own_answer(self) -> None:
         with self.session() as session:
@@ -36,6 +22,23 @@ class Sessions(StoreCase):
             with self.assertRaises(Refused):
                 session.try_all(["mkdir /a", "ls /nothing", "mkdir /b"])
             self.assertEqual(session.ask("rollingUpgrade", "query"), "ordinary 0")
+
+    def test_a_failing_source_of_lines_leaves_no_answer(self) -> None:
+        def lines() -> Iterator[str]:
+            yield from ("mkdir /a", "ls /nothing")
+            raise Failed("no more lines")
+
+        with self.session() as session:
+            with self.assertRaisesRegex(Failed, "no more lines"):
+                session.try_all(lines())
+            self.assertEqual(session.ask("ls", "/"), "a/")
+
+    def test_an_interrupt_ends_the_program(self) -> None:
+        with self.assertRaises(KeyboardInterrupt):
+            with self.session() as session:
+                for answer in session.ask_all(f"mkdir /{number}" for number in range(100_000)):
+                    raise KeyboardInterrupt
+        self.assertIsNotNone(session.program.returncode)
 
     def test_long_answers(self) -> None:
         with Session(self.store, {}) as session:

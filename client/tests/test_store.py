@@ -1,4 +1,4 @@
-from client.store import Chunk, Entry, children, file_sha256, found, heal, phase, read_bytes, read_entry, sha256_of, stats, walk
+from client.store import Chunk, Entry, children, file_sha256, heal, is_directory, phase, read_bytes, read_entry, sha256_of, stat, stats, walk
 from client.telling import Refused
 from client.tests import TINY, StoreCase
 
@@ -18,7 +18,7 @@ class Stores(StoreCase):
             self.assertEqual(children(session, "/a"), {"b": True, "f": False})
             self.assertEqual([(entry.path, entry.size) for entry in walk(session, "/a")], [("/a", 0), ("/a/b", 0), ("/a/f", 20), ("/a/b/g", 0)])
             self.assertEqual(b"".join(read_bytes(session, "/a/f", 3, 20)), b"a" * 17)
-            self.assertIsNone(found(session, "/nothing"))
+            self.assertEqual([is_directory(session, path) for path in ("/a", "/a/f", "/nothing")], [True, False, False])
             with self.assertRaises(Refused):
                 list(walk(session, "/nothing"))
             one, other = stats(session, ["/h", "/nothing"])
@@ -31,6 +31,6 @@ class Stores(StoreCase):
         with self.session() as session:
             session.try_all(["create /f", "write /f 0 " + "61" * 40, "lose 0 1", "lose 1 2", "lose 2 3"])
             self.assertEqual(heal(session), (3, None))
-            self.assertEqual({len(chunk.servers) for chunk in found(session, "/f").chunks}, {3})
+            self.assertEqual({len(chunk.servers) for chunk in stat(session, "/f").chunks}, {3})
             session.try_all(["lose 0 1", "lose 1 1", "lose 2 1"])
             self.assertEqual(heal(session), (0, None))

@@ -62,8 +62,35 @@ class Transfers(StoreCase):
         self.assertIn("/f: more than one would come there", self.fs("put", "a/f", "b/f", "/", status=1))
         self.local(f"a/{'x' * 199} ", b"")
         self.assertIn("a name has 200 bytes at most", self.fs("put", "a", "/", status=1))
-        self.assertIn("more than one", self.fs("put", "a", "b/f", "./a", "/", status=1))
         self.assertEqual(self.fs("ls"), "")
+
+    def test_no_store_is_made_for_a_folder_that_cant_be_read_whole(self) -> None:
+        self.local("a/f", b"a")
+        (self.folder / "a" / "dangling").symlink_to("nothing")
+        self.assertEqual("chunkfs: a/dangling: neither a file nor a directory stands there\n", self.fs("put", "a", "/", status=1))
+        self.assertFalse(self.store.exists())
+
+    def test_the_store_isnt_put_into_itself(self) -> None:
+        self.local("f", b"f")
+        self.local("store.cut", b"cut")
+        self.local("store.cut.2", b"cut")
+        self.local("store.txt", b"no part of it")
+        self.local("d/linked", b"").unlink()
+        (self.folder / "d" / "linked").symlink_to(self.store)
+        for words in (("mkdir", "/a"), ("put", ".", "/all")):
+            self.fs(*words)
+        self.assertEqual(self.fs("find", "/all").split(), ["/all", "/all/d", "/all/f", "/all/store.txt"])
+        self.assertIn("the store isn't put into itself", self.fs("put", self.store, "/", status=0))
+        self.assertEqual(self.fs("ls"), "a/\nall/\n")
+
+    def test_a_name_that_looks_hidden(self) -> None:
+        name = f".deleted.{7:020}.{2:020}.x"
+        self.local(name, b"bytes")
+        self.fs("put", name, "/")
+        self.assertEqual(self.fs("ls"), f"{name}\n")
+        self.assertEqual(self.fs("cat", f"/{name}"), "bytes")
+        self.fs("get", f"/{name}", "out")
+        self.assertEqual((self.folder / "out").read_bytes(), b"bytes")
 
     def test_what_can_be_read_comes_out(self) -> None:
         self.lines("mkdir /d", "create /d/a", "write /d/a 0 61", "create /d/b", "write /d/b 0 62", *(f"damage {server} 1 0" for server in range(3)))
@@ -108,7 +135,7 @@ class Transfers(StoreCase):
         # (whoever runs the tests may read all)
         with patch("client.transfer.open", refuse, create=True):
             self.assertEqual("chunkfs: d/b: permission denied\n", self.fs("put", "d", "/", status=1))
-        self.assertEqual(self.fs("ls"), "")
+        self.assertFalse(self.store.exists())
 
     def test_a_disk_of_this_machine_that_is_full(self) -> None:
         """On a file system in memory, where one can be mounted."""

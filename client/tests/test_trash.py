@@ -21,10 +21,10 @@ class Trash(StoreCase):
         self.assertEqual(self.fs("cat", "/a/b/f"), "abc")
         self.assertEqual(self.listed(), [("0", "/g")])
         hidden = LISTED.search(self.fs("trash"))[4]
+        self.assertRegex(hidden, r"^lines:/\.deleted\.")
+        self.assertEqual(self.fs("cat", hidden), "")
         self.assertIn("/g is back", self.fs("undelete", hidden))
         self.assertIn("/g: nothing of that name is in the trash; `trash` lists what is", self.fs("undelete", "/g", status=1))
-        self.fs("rm", "/g")
-        self.assertEqual(self.fs("undelete", "/gg", status=1), "chunkfs: /gg: nothing of that name is in the trash; did you mean '/g'?\n")
 
     def test_the_last_of_a_name_comes_back(self) -> None:
         for text in (b"first", b"second"):
