@@ -209,11 +209,16 @@ def reports(n):
     return Kind("beat, its chunks", each, [f"beat {i}" for i in range(16)] * 4, n, [*TINY, "--servers", "16"])
 
 
+def scans(n):
+    """One scan that removes so many deleted files."""
+    return Kind("scan, its paths", [*files(n), *(f"rm /a/f{i}" for i in range(n)), "at 300000"], ["scan"], n)
+
+
 KINDS = [
     mkdirs, creates, moves, deletes, look_ups, stats, lists,
     new_blocks, old_blocks, appends, short_appends, reads,
     snapshots, snapshot_of_files, upgrades, upgrade_of_files, moves_rolled_back,
-    replicas, replicas_among_edits, reports,
+    replicas, replicas_among_edits, reports, scans,
 ]  # fmt: skip
 
 

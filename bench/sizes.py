@@ -200,6 +200,13 @@ def held_messages(n):
     return Size("messages held back", lines, ["ok", "ok", "ok 0"], options=SMALL)
 
 
+def scanned(n):
+    """Deleted files, all of which one scan removes. Before it the names take what they take."""
+    files = names("f", n)
+    lines = itertools.chain((f"create /{f}" for f in files), (f"rm /{f}" for f in files), ["at 300000", "scan", "scan", "ls /"])
+    return Size("deleted files, scanned at once", lines, [f"ok {n} 0", "ok 0 0", "ok"])
+
+
 SIZES = [
     (edits_since_prepare, MILLION),
     (mixed_edits_since_prepare, MILLION),
@@ -214,6 +221,7 @@ SIZES = [
     (writes_since_prepare, 100_000),
     (upgrades, 1_000),
     (healed, 100_000),
+    (scanned, MILLION),
     (requests, MILLION),
     (held_messages, MILLION),
 ]
