@@ -1,3 +1,4 @@
+mod Bits
 mod Changed
 pub mod Filtered
 mod Grouped

@@ -1,8 +1,8 @@
 -- Chunks by groups: those of whose settled views a server is a member, those that have a primary, those that have so many members.
-use Rattle.std.specs.Prelude.{◌≡◌, ◌⊎◌, ◌<◌, ◌-◌, ◌==◌, ℕ, Bool, true, false, List, [], length, nat_lt, slice_index_or, Option, Some, None, is_some, if◌then◌else◌, refl}
+use Rattle.std.specs.Prelude.{◌≡◌, ◌⊎◌, ◌<◌, ◌-◌, ◌==◌, ◌&&◌, ◌||◌, ℕ, Bool, true, false, List, [], length, nat_lt, slice_index_or, Option, Some, None, is_some, if◌then◌else◌, refl}
 use Rattle.std.specs.Ordering.{nat_cmp}
 use Rattle.std.specs.FinMap as fin
-use Rattle.gs_base.specs.Members.{is_member}
+use Rattle.gs_base.specs.Members.{has_bit, is_member}
 use Rattle.gs_base_table.specs.Slots.{live}
 use Rattle.gs_lease.specs.declared.lease.Lease.{Lease}
 use Rattle.gs_lease_table.specs.declared.tally.Brief.{Brief}
@@ -20,6 +20,14 @@ belongs group lease = belongs_by group (brief_of lease)
 abbrev pub is_in : ℕ → Option Brief → Bool
 is_in group None = false
 is_in group (Some brief) = belongs_by group brief
+
+-- bit i of a number says whether the chunk is in group i
+pub record AreBitsOf (brief : Option Brief) (groups : ℕ) : Type 0 where
+  pub each : (group : ℕ) → group < 34 → has_bit groups group ≡ is_in group brief
+
+-- one bit more, where it is to be
+abbrev pub Enters : ℕ → Bool → ℕ → ℕ → Type 0
+Enters group is old new = (i : ℕ) → has_bit new i ≡ ((is && (i == group)) || has_bit old i)
 
 -- a lease is there and passes
 abbrev pub passes : (Lease → Bool) → Option Lease → Bool
@@ -46,6 +54,11 @@ changed was is chunk chunks = if is then (if was then chunks else fin.insert chu
 pub record Changes (chunk : ℕ) (before after : Option Brief) (old new : List (List (ℕ × Option Bool))) : Type 0 where
   pub size : length new ≡ length old
   pub each : (group : ℕ) → group < length old → chunks_at new group ≡ changed (is_in group before) (is_in group after) chunk (chunks_at old group)
+
+-- the same, where bits say in which groups the chunk was and is to be
+pub record ChangesBits (chunk was is : ℕ) (old new : List (List (ℕ × Option Bool))) : Type 0 where
+  pub size : length new ≡ length old
+  pub each : (group : ℕ) → group < length old → chunks_at new group ≡ changed (has_bit was group) (has_bit is group) chunk (chunks_at old group)
 
 -- or none is kept any more
 abbrev pub Exchanges : ℕ → Option Brief → Option Brief → List (List (ℕ × Option Bool)) → List (List (ℕ × Option Bool)) → Type 0

@@ -1,13 +1,13 @@
 // Which chunks each server has, which have a primary, and which have so many members.
-ghost use Rattle.std.specs.Prelude.{[], ◌≡◌, ◌<◌, IfOk, IfSome, OnOk, length, slice_index_or, true};
+ghost use Rattle.std.specs.Prelude.{[], ◌≡◌, ◌<◌, IfOk, IfSome, OnOk, Some, length, slice_index_or, true};
 ghost use Rattle.std.specs.FinMap as fin;
 ghost use Rattle.std.specs.Ordering.{nat_cmp};
-ghost use Rattle.gs_base.specs.Members.{is_member};
+ghost use Rattle.gs_base.specs.Members.{has_bit};
 ghost use Rattle.gs_base_table.specs.Slots.{live};
-ghost use Rattle.gs_lease_table.specs.Groups.{AreEmpty, Changes, Exchanges, belongs_by, changed, is_in};
+ghost use Rattle.gs_lease_table.specs.Groups.{AreBitsOf, AreEmpty, ChangesBits, Enters, Exchanges, changed};
 
 use crate::tally::{Brief, stays};
-use gs_base::{Handle, Members, ServerId};
+use gs_base::Handle;
 use gs_base_table::Table;
 use std::alloc::{AllocError, Global};
 
@@ -24,34 +24,40 @@ pub(crate) struct Groups {
     pub(crate) sets: Vec<Table<Handle, bool>>,
 }
 
-/// Whether a server of a number is a member.
-fn has_member(members: Members, number: usize) -> bool
-    requires { number < 16 }
-    ensures { result ≡ is_member members number }
+/// Groups with one more, where a chunk is in it. A group is a bit of a number.
+fn entered(groups: u64, group: usize, is: bool) -> u64
+    requires { group < 64 }
+    ensures { Enters group is groups result }
 {
-    members.contains(ServerId::new(number as u64).unwrap())
+    if is { groups | 1 << group } else { groups }
 }
 
-/// Whether a chunk is in a group.
-fn belongs(brief: &Brief, group: usize) -> bool
-    ensures { result ≡ belongs_by group brief.now }
+/// Whether a group is one of these.
+fn has(groups: u64, group: usize) -> bool
+    requires { group < 64 }
+    ensures { result ≡ has_bit groups group }
 {
-    if group < PRIMARIES {
-        return has_member(brief.members, group);
+    groups >> group & 1 == 1
+}
+
+/// The groups that a chunk is in.
+fn groups_of(brief: &Brief) -> u64
+    ensures { AreBitsOf (Some brief.now) result }
+{
+    let groups = entered(brief.members.bits() as u64, PRIMARIES, brief.is_leased);
+    if 16 < brief.many {
+        return groups;
     }
-    if group == PRIMARIES {
-        return brief.is_leased;
-    }
-    brief.many == group - MEMBERLESS
+    entered(groups, MEMBERLESS + brief.many, true)
 }
 
 /// The same of a chunk that is perhaps there.
-fn is_in(brief: &Option<Brief>, group: usize) -> bool
-    ensures { result ≡ is_in group brief.now }
+fn told_groups(brief: &Option<Brief>) -> u64
+    ensures { AreBitsOf brief.now result }
 {
     match brief {
-        Some(brief) => belongs(brief, group),
-        None => false,
+        Some(brief) => groups_of(brief),
+        None => 0,
     }
 }
 
@@ -126,23 +132,16 @@ impl Groups {
     }
 
     /// Changes each group in which a chunk was or is to be, but not in both. Where memory is wanting some are perhaps changed.
-    fn change_each(
-        &mut self,
-        chunk: Handle,
-        before: &Option<Brief>,
-        after: &Option<Brief>,
-    ) -> Result<(), AllocError>
-        ensures { OnOk result (Changes chunk before.now after.now self.old.sets.items self.new.sets.items) }
+    fn change_each(&mut self, chunk: Handle, was: u64, is: u64) -> Result<(), AllocError>
+        requires { length self.old.sets.items ≡ 34 }
+        ensures { OnOk result (ChangesBits chunk was is self.old.sets.items self.new.sets.items) }
     {
-        if stays(before, after) {
-            return Ok(());
-        }
-        for group in 0..self.sets.len() {
+        for group in 0..GROUPS {
             change(
                 &mut self.sets[group],
                 chunk,
-                is_in(before, group),
-                is_in(after, group),
+                has(was, group),
+                has(is, group),
             )?;
         }
         Ok(())
@@ -152,7 +151,12 @@ impl Groups {
     pub(crate) fn exchange(&mut self, chunk: Handle, before: &Option<Brief>, after: &Option<Brief>)
         ensures { Exchanges chunk before.now after.now self.old.sets.items self.new.sets.items }
     {
-        if self.change_each(chunk, before, after).is_err() {
+        if stays(before, after) {
+            return;
+        }
+        let was = told_groups(before);
+        let is = told_groups(after);
+        if self.sets.len() != GROUPS || self.change_each(chunk, was, is).is_err() {
             self.sets.clear();
         }
     }
