@@ -84,8 +84,7 @@ def fsck(session: Session, asked: Namespace) -> int:
         say("\n".join(map(place, paths)))
         return WELL
     found, made, refused = repaired(session, tops) if asked.repair else (checked(session, tops), 0, None)
-    wanted, paths = session.sizes.replicas, paths_of(found.entries)
-    short = found.short(wanted)
+    wanted, paths, short = session.sizes.replicas, paths_of(found.entries), found.short(session.sizes.replicas)
     for entry in found.entries if asked.verbose else ():
         say(f"{place(entry.path)} {entry.size} bytes: {', '.join(map(chunk_text, entry.chunks)) or 'no chunk'}")
     for chunk in short:

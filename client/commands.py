@@ -1,13 +1,13 @@
 """The commands, with their words, and what runs each."""
 
-from argparse import Action, ArgumentParser, RawDescriptionHelpFormatter
+from argparse import ArgumentParser, RawDescriptionHelpFormatter
 from collections.abc import Iterable
 from pathlib import Path
 from typing import NamedTuple
 
 from client import check, listing, script, transfer, trash, upgrade
 from client.attempts import Run
-from client.telling import MISUSED, like, local
+from client.telling import local
 
 
 def there(name: str) -> Path:
@@ -31,6 +31,8 @@ SOURCES = word("sources", nargs="+", metavar="PATH")
 TARGET = word("target", metavar="TARGET", help="a directory that is there, or the new place itself")
 ONE = word("path", metavar="PATH")
 HUMAN = flag("-h", "--human", "sizes with units")
+# Commands that only look, of which nothing is kept.
+LOOKS = ("get", "cat", "tail", "ls", "du", "count", "tree", "find", "trash", "report", "export")
 FORCE = flag("-f", "--force", "puts files in the place of others")
 
 
@@ -90,14 +92,6 @@ COMMANDS = (
 )  # fmt: skip
 
 
-class Words(ArgumentParser):
-    """The words of a command line. One that is no command is told with the one that is like it."""
-
-    def _check_value(self, action: Action, value: str) -> None:
-        if action.choices is not None and value not in action.choices:
-            self.exit(MISUSED, f"chunkfs: no command '{value}'{like(value, action.choices)}\n")
-
-
 def add_commands(parser: ArgumentParser, commands: Iterable[Command], before: str, metavar: str = "COMMAND") -> dict[str, ArgumentParser]:
     """A parser of its own for each command, by its name, with what stands before it in its example. In it -h stands for sizes where it has them."""
     added = parser.add_subparsers(metavar=metavar, required=True)
@@ -107,7 +101,7 @@ def add_commands(parser: ArgumentParser, commands: Iterable[Command], before: st
         one.add_argument("--help", action="help", help="says this")
         for names, how in command.words:
             one.add_argument(*names, **how)
-        one.set_defaults(run=command.run, makes=command.makes)
+        one.set_defaults(run=command.run, makes=command.makes, looks=command.name in LOOKS)
         if command.steps:
             add_commands(one, command.steps, before, "STEP")
     return added.choices

@@ -9,7 +9,7 @@ import explain
 
 from client import shell
 from client.attempts import attempt
-from client.commands import COMMANDS, Command, Words, add_commands, there, word
+from client.commands import COMMANDS, Command, add_commands, there, word
 from client.session import Ended, Session, Sizes
 from client.telling import MISUSED, WRONG, Failed, local, warn
 
@@ -30,7 +30,7 @@ def open_missing() -> None:
 
 def words_of() -> ArgumentParser:
     """The words of the command line: a store, the sizes of a new one, and a command."""
-    parser = Words(prog="chunkfs", allow_abbrev=False, description="A client of a store that is kept in a file.", epilog="docs/CHUNKFS.md is its page.")
+    parser = ArgumentParser(prog="chunkfs", allow_abbrev=False, description="A client of a store that is kept in a file.", epilog="docs/CHUNKFS.md is its page.")
     for name, size in Sizes()._asdict().items():
         parser.add_argument(f"--{name}", type=int, metavar="N", help=f"of a new store, {size} where it isn't given")
     parser.add_argument("--lab", action="store_true", help="a shell's lines may harm the store too")
@@ -56,8 +56,9 @@ def main(words: list[str]) -> int:
                 raise Failed(f"{file}: no store stands there; put, append, mkdir, import and shell make one")
             if not file and asked.makes and asked.run != shell.run:
                 warn("--memory: the store ends with this command, and nothing is kept")
-            with Session(file, given, is_lab=asked.lab) as session:
-                session.set_moment()
+            with Session(file, given, ["--read-only"] * asked.looks + ["--lab"] * asked.lab) as session:
+                if not asked.looks:
+                    session.set_moment()
                 return attempt(lambda: asked.run(session, asked))
     except BrokenPipeError:
         # Whoever read the output has gone.
@@ -65,5 +66,3 @@ def main(words: list[str]) -> int:
     except (Failed, Ended) as failed:
         warn(str(failed))
         return WRONG
-    except KeyboardInterrupt:
-        return 130

@@ -4,6 +4,7 @@ It has the lines of the store itself. Its last line is the SHA-256 of all lines 
 `refused 34 BadLine` and changes nothing."""
 
 import hashlib
+import itertools
 import os
 from argparse import Namespace
 from collections import defaultdict, deque
@@ -63,7 +64,7 @@ def export(session: Session, asked: Namespace) -> None:
     if asked.to is None:
         deque(map(write, lines), maxlen=0)
     else:
-        with arriving(asked.to, asked.force) as out:
+        with arriving(session, asked.to, asked.force) as out:
             out.writelines(lines)
             out.flush()
             os.fsync(out.fileno())
@@ -92,7 +93,8 @@ class Files(dict[str, "hashlib._Hash"]):
         elif words[0] == "write":
             self[words[1]].update(bytes.fromhex(words[3]))
         elif words[0] == "rm":
-            for path in [path for path in self if f"{path}/".startswith(f"{words[-1]}/")]:
+            # What is deleted was made last.
+            for path in list(itertools.takewhile(lambda path: f"{path}/".startswith(f"{words[-1]}/"), reversed(self))):
                 self[told + path.removeprefix(words[-1])] = self.pop(path)
 
 

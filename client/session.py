@@ -18,17 +18,16 @@ from typing import NamedTuple
 import launch
 
 from client.names import bytes_of, shown
-from client.telling import Refused, local, warn
+from client.telling import Failed, Refused, local, warn
 
 # What comes together is put into the log by one write and synced once, up to so much.
 PIPE_BYTES = 1_048_576
-# So much is sent before its answers are waited for.
+# So much is sent before its answers are waited for, of lines that cost so much each beside their bytes and those that they read.
 AHEAD_BYTES = 4 * PIPE_BYTES
-AHEAD_LINES = 4_096
+LINE_COST = 1_024
 SAID_BYTES = 2_000
+READ = re.compile(r"read \S+ \d+ (\d{1,9})")
 SIZE = re.compile(r"--(servers|racks|replicas|chunk|block) (\d+)")
-# How the commands of this client call what lines ask for.
-CALLED = {"rollingUpgrade": "upgrade", "rollback-commit": "upgrade rollback", "scan": "expunge"}
 
 
 class Ended(Exception):
@@ -55,7 +54,7 @@ class Answer(NamedTuple):
         """Why the line is refused, told of its paths, or of what it asks for where it has none."""
         words = self.line.split(" ")
         paths = [shown(word) for word in words[1:] if word.startswith("/")]
-        return Refused(self.text, " to ".join(paths) or " ".join(CALLED.get(word, word) for word in words[:2]))
+        return Refused(self.text, " to ".join(paths) or " ".join(words[:2]))
 
 
 class Sizes(NamedTuple):
@@ -76,21 +75,29 @@ def sizes_of(file: Path | None, given: dict[str, int]) -> Sizes:
         return Sizes(**{name: int(size) for name, size in SIZE.findall(log.readline(1_000))})
 
 
+def cost_of(line: str) -> int:
+    """What a line and its answer take, where many wait."""
+    read = READ.fullmatch(line)
+    return LINE_COST + len(line) + (2 * int(read[1]) if read else 0)
+
+
 class Session:
     """A program that is asked lines, many of them before their answers come, so that its log is synced seldom."""
 
-    def __init__(self, file: Path | None, given: dict[str, int], is_recorded: bool = True, is_lab: bool = False):
-        """Starts the program that keeps a store in a file, or the one that needs none, with the sizes that are given for a new one. In a lab
-        lines that harm a store are answered too. One without a file answers them always."""
+    def __init__(self, file: Path | None, given: dict[str, int], flags: Iterable[str] = (), is_recorded: bool = True):
+        """Starts the program that keeps a store in a file, with such options of its own, or the one that needs no file. The sizes are those that are
+        given for a new store."""
         self.file, self.sizes = file, sizes_of(file, given)
         # The lines of a store that has no file, by which it can be run again.
         self.recorded: deque[str] = deque(maxlen=None if is_recorded and not file else 0)
         self.said = tempfile.TemporaryFile()
-        words = [launch.program_of("chunkkeep").path, file] if file else [launch.program_of("chunkstore").path]
-        words += [str(word) for name, size in given.items() for word in (f"--{name}", size)] + ["--lab"] * bool(file and is_lab)
+        words = [launch.program_of("chunkkeep").path, file, *flags] if file else [launch.program_of("chunkstore").path]
+        words += [str(word) for name, size in given.items() for word in (f"--{name}", size)]
         how = {"stdin": subprocess.PIPE, "stdout": subprocess.PIPE, "stderr": self.said, "pipesize": PIPE_BYTES}
         # What is typed at a terminal is for the client, which ends the program itself.
         self.program = subprocess.Popen(words, start_new_session=True, **how)
+        # Lines that aren't answered yet, each with the place for its answer.
+        self.asked: deque[tuple[str, deque[Answer]]] = deque()
         self.unsent: SimpleQueue[bytes] = SimpleQueue()
         self.sender, self.is_heard = Thread(target=self.send, daemon=True), False
         self.sender.start()
@@ -104,10 +111,8 @@ class Session:
             # Nobody reads its answers any more, for which it may wait.
             self.program.stdout.close()
         self.sender.join()
-        status = self.program.wait()
-        self.program.stdout.close()
-        with self.said:
-            if status and kind is None:
+        with self.said, self.program.stdout:
+            if self.program.wait() and kind is None:
                 raise self.ended()
 
     def send(self) -> None:
@@ -135,41 +140,42 @@ class Session:
         return [answer.value for answer in self.ask_all(lines)]
 
     def ask_all(self, lines: Iterable[str]) -> Iterator[Answer]:
-        """The answers to lines, in their order. Where somebody leaves off, what was sent is answered all the same, so that the next line is met
-        by its own answer."""
-        asked: deque[str] = deque()
+        """The answers to lines, in their order. Some lines are sent before their answers are waited for. Where somebody leaves off, or asks other
+        lines meanwhile, each line is met by its own answer all the same."""
+        own: deque[Answer] = deque()
+        ahead = 0
+        for line in lines:
+            self.ask_one(line, own)
+            ahead += cost_of(line)
+            while ahead > AHEAD_BYTES:
+                ahead -= cost_of(self.hear(own).line)
+                yield own.popleft()
+        while ahead:
+            ahead -= cost_of(self.hear(own).line)
+            yield own.popleft()
+
+    def ask_one(self, line: str, own: deque[Answer]) -> None:
+        if "\n" in line:
+            raise Failed(f"{line!r}: a line can't have an end of a line within it")
+        self.asked.append((line, own))
+        self.recorded.append(line)
+        self.unsent.put(bytes_of(f"{line}\n"))
+
+    def hear(self, own: deque[Answer]) -> Answer:
+        """The first answer of a place. What is told before it is put into places of its own."""
         try:
-            yield from self.exchange(lines, asked)
+            self.wait_for_start()
+            while not own:
+                told = self.program.stdout.readline()
+                if not told.endswith(b"\n"):
+                    raise self.ended()
+                line, place = self.asked.popleft()
+                place.append(Answer(line, told[:-1].decode()))
+            return own[0]
         except KeyboardInterrupt:
             # Nobody waits for what was asked. The store goes on from wherever its program is killed.
             self.program.kill()
-            asked.clear()
             raise
-        finally:
-            while asked and not self.program.stdout.closed:
-                self.answer(asked)
-
-    def exchange(self, lines: Iterable[str], asked: deque[str]) -> Iterator[Answer]:
-        ahead = 0
-        for line in lines:
-            asked.append(line)
-            self.recorded.append(line)
-            self.unsent.put(bytes_of(f"{line}\n"))
-            ahead += len(line)
-            while ahead > AHEAD_BYTES or len(asked) > AHEAD_LINES:
-                ahead -= len(asked[0])
-                yield self.answer(asked)
-        while asked:
-            yield self.answer(asked)
-
-    def answer(self, asked: deque[str]) -> Answer:
-        """The answer to the first of some lines, which isn't among them any more."""
-        if not self.is_heard:
-            self.wait_for_start()
-        told = self.program.stdout.readline()
-        if not told.endswith(b"\n"):
-            raise self.ended()
-        return Answer(asked.popleft(), told[:-1].decode())
 
     def wait_for_start(self) -> None:
         """Waits for the first answer. Shows how far a start is that takes long, and tells what one has put aside and cut off its log."""
@@ -177,9 +183,9 @@ class Session:
             self.is_heard = any(select.select([self.program.stdout], [], [], 1))
             if sys.stderr.isatty():
                 print(f"\r{'' if self.is_heard else self.last_said()[-1]}\x1b[K\r", end="", file=sys.stderr, flush=True)
-        for line in self.last_said():
-            if line.endswith(" cut off") or " put aside in " in line:
-                warn(line)
+            for line in self.last_said() if self.is_heard else ():
+                if line.endswith(" cut off") or " put aside in " in line:
+                    warn(line)
 
     def last_said(self) -> list[str]:
         """The last lines that the program has said on standard error."""

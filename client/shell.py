@@ -7,12 +7,12 @@ import re
 import readline
 import shlex
 import sys
-from argparse import Namespace
+from argparse import ArgumentParser, Namespace
 from collections.abc import Iterator
 from pathlib import Path
 
 from client.attempts import attempt
-from client.commands import COMMANDS, Command, Words, add_commands, word
+from client.commands import COMMANDS, Command, add_commands, word
 from client.names import line_path, shown
 from client.session import Session
 from client.store import children, is_directory
@@ -20,6 +20,8 @@ from client.telling import MISUSED, WELL, WRONG, Failed, local, say, warn
 
 # What has a meaning of its own in a typed line.
 SPECIAL = re.compile(r"[\s\\'\"#]")
+# The word that is typed last: its spaces stand after backslashes.
+WORD = re.compile(r"(?:\\.|[^\s\\])*$")
 HISTORY = Path(os.environ.get("XDG_STATE_HOME") or Path.home() / ".local" / "state") / "chunkfs" / "history"
 
 
@@ -35,7 +37,7 @@ class Shell:
 
     def __init__(self, session: Session):
         self.session, self.folder, self.is_in_lines = session, "/", False
-        self.parser = Words(prog="", allow_abbrev=False)
+        self.parser = ArgumentParser(prog="", allow_abbrev=False)
         own = (
             Command("cd", self.cd, "leads to a directory: paths that don't begin with a slash are below it", "cd /photos", (
                 word("path", nargs="?", default="/", metavar="PATH"),)),
@@ -89,16 +91,19 @@ class Shell:
     def complete(self, text: str, state: int) -> str | None:
         """The word with which a typed one may go on: a command, or a path in the store."""
         if state == 0:
-            self.fitting = []
-            with contextlib.suppress(Failed):
-                self.fitting = sorted(name for name in self.words(text) if name.startswith(text))
+            typed = readline.get_line_buffer()[: readline.get_endidx()]
+            word, self.fitting = WORD.search(typed)[0], []
+            # Nothing is told of what stands in quotes that are open.
+            with contextlib.suppress(Failed, ValueError):
+                split(typed)
+                self.fitting = sorted(name[len(word) - len(text) :] for name in self.words(typed, word) if name.startswith(word))
         return self.fitting[state] if state < len(self.fitting) else None
 
-    def words(self, text: str) -> list[str]:
-        if not readline.get_line_buffer()[: readline.get_begidx()].strip():
+    def words(self, typed: str, word: str) -> list[str]:
+        if word == typed.lstrip():
             return [f"{name} " for name in self.commands]
-        before = text[: text.rfind("/") + 1]
-        names = children(self.session, line_path(before, self.folder))
+        before = word[: word.rfind("/") + 1]
+        names = children(self.session, line_path("".join(split(before)), self.folder))
         return [before + SPECIAL.sub(r"\\\g<0>", shown(name)) + "/" * is_directory for name, is_directory in names.items()]
 
 

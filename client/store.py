@@ -12,8 +12,6 @@ from client.telling import NOT_FOUND, Failed, Refused
 
 # The bytes of a line that writes or reads: whole blocks of the greatest size, which fit into a line as hexadecimal digits.
 LINE_BYTES = 7 * 65_536
-# So many answers of that size are waited for where somebody leaves off.
-READS_AHEAD = 16
 NO_REPLICA = 28
 
 
@@ -110,12 +108,11 @@ def is_directory(session: Session, path: str) -> bool:
 def read_bytes(session: Session, path: str, start: int, size: int) -> Iterator[bytes]:
     """The bytes of a file from a place on, up to its size, all of which have to come."""
     lines = (f"read {path} {at} {min(LINE_BYTES, size - at)}" for at in range(start, size, LINE_BYTES))
-    while some := list(itertools.islice(lines, READS_AHEAD)):
-        for answer in session.ask_all(some):
-            part = bytes.fromhex(answer.value)
-            if len(part) != int(answer.line.split(" ")[3]):
-                raise Failed(f"{shown(path)}: fewer bytes come than its size says")
-            yield part
+    for answer in session.ask_all(lines):
+        part = bytes.fromhex(answer.value)
+        if len(part) != int(answer.line.split(" ")[3]):
+            raise Failed(f"{shown(path)}: fewer bytes come than its size says")
+        yield part
 
 
 def sha256_of(parts: Iterable[bytes]) -> str:
@@ -146,7 +143,5 @@ def heal(session: Session) -> tuple[int, str | None]:
     report_all(session)
     for made in itertools.count():
         answer = session.told("replicate")
-        if not answer.is_ok:
-            return made, answer.refusal.says
-        if answer.value == "none":
-            return made, None
+        if not answer.is_ok or answer.value == "none":
+            return made, None if answer.is_ok else answer.refusal.says

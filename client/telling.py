@@ -1,13 +1,12 @@
 """What people are told: what commands print, and why something can't be done. What the store refuses is told by docs/REFUSALS.md."""
 
-import difflib
 import errno
 import functools
 import os
 import re
 import sys
 from collections import defaultdict
-from collections.abc import Iterable, Iterator
+from collections.abc import Iterator
 from contextlib import contextmanager
 
 from client import ROOT
@@ -52,11 +51,6 @@ class Refused(Failed):
         # What to do is told by the commands of this client, where the words for lines wouldn't do.
         to_do = row.get("what to do with chunkfs") or row.get("what to do", "")
         super().__init__(f"{about}: {self.says} {to_do}".strip())
-
-
-def like(name: str, names: Iterable[str]) -> str:
-    """The question whether another name was meant, where one of those that there are is like it."""
-    return "".join(f"; did you mean '{near}'?" for near in difflib.get_close_matches(name, names, 1))
 
 
 @contextmanager

@@ -6,7 +6,7 @@ import re
 import sys
 from argparse import Namespace
 from collections.abc import Iterable, Iterator
-from contextlib import ExitStack, closing, contextmanager
+from contextlib import closing, contextmanager
 from pathlib import Path
 from typing import BinaryIO, NamedTuple
 
@@ -22,6 +22,8 @@ FILES_AT_ONCE = 256
 # A file stands under such a name until all of it is there.
 COMING = "._COPYING_"
 MOST_NAME_BYTES = 200
+MOST_ELEMENTS = 64
+TOO_LONG = f"a name has {MOST_NAME_BYTES} bytes at most as it stands in lines, and a path {MOST_ELEMENTS} elements"
 # What follows the name of a store's file in the names of others that are made beside it.
 OWN = re.compile(r"(\.new|\.cut(\.\d+)?)?")
 TAIL_BYTES = 1_024
@@ -38,9 +40,8 @@ class Local(NamedTuple):
     def coming(self) -> str:
         """The path that it has while it comes."""
         name = last(self.path)
-        if len(bytes_of(name + COMING)) > MOST_NAME_BYTES:
-            name = sha256_of([bytes_of(name)])
-        return child(parent(self.path), name + COMING)
+        coming = name if is_short(name + COMING) else sha256_of([bytes_of(name)])
+        return child(parent(self.path), coming + COMING)
 
 
 @contextmanager
@@ -58,11 +59,19 @@ def file_pieces(file: Path) -> Iterator[bytes]:
         yield from pieces(source)
 
 
+def is_own(session: Session, file: Path) -> bool:
+    """Whether a file is one of those in which the store itself is kept."""
+    own, real = os.path.realpath(session.file or os.devnull), os.path.realpath(file)
+    return real.startswith(own) and OWN.fullmatch(real, len(own)) is not None
+
+
 @contextmanager
-def arriving(file: Path, is_forced: bool) -> Iterator[BinaryIO]:
+def arriving(session: Session, file: Path, is_forced: bool) -> Iterator[BinaryIO]:
     """A file of this machine that comes, and has its name once all of it is there."""
+    if is_own(session, file):
+        raise Failed(f"{file}: the store itself is kept there")
     with local(file):
-        if file.exists() and not is_forced:
+        if os.path.lexists(file) and not is_forced:
             raise Failed(f"{file}: something stands there already; -f puts a file in its place")
         coming = file.parent / f"{sha256_of([os.fsencode(file.name)])[:32]}{COMING}"
         try:
@@ -79,6 +88,10 @@ def write_lines(path: str, start: int, parts: Iterable[bytes]) -> Iterator[str]:
         start += len(part)
 
 
+def is_short(path: str) -> bool:
+    return path.count("/") <= MOST_ELEMENTS and len(bytes_of(last(path))) <= MOST_NAME_BYTES
+
+
 def local_tree(name: str) -> list[Local]:
     """What stands at a place of this machine and below it, by paths that are relative to where it goes. All of it can be put into a store."""
     with local(name):
@@ -89,8 +102,8 @@ def local_tree(name: str) -> list[Local]:
 def walk_local(file: Path, path: str) -> Iterator[Local]:
     if file.name.endswith(COMING):
         raise Failed(f"{file}: names that end in {COMING} are those of files that come")
-    if len(bytes_of(last(path))) > MOST_NAME_BYTES:
-        raise Failed(f"{file}: a name has {MOST_NAME_BYTES} bytes at most as it stands in lines")
+    if not is_short(path):
+        raise Failed(f"{file}: {TOO_LONG}")
     if file.is_dir():
         yield Local(file, path)
         with local(file):
@@ -132,12 +145,6 @@ def put_files(session: Session, files: list[Local], standing: set[str], asked: N
     session.try_all(itertools.chain.from_iterable(renames))
 
 
-def is_own(session: Session, file: Path) -> bool:
-    """Whether a file is one of those in which the store itself is kept."""
-    own, real = os.path.realpath(session.file or os.devnull), os.path.realpath(file)
-    return real.startswith(own) and OWN.fullmatch(real, len(own)) is not None
-
-
 def put(session: Session, asked: Namespace) -> None:
     names = (escaped(os.path.basename(os.path.abspath(tree[0].file))) for tree in asked.sources)
     coming: dict[str, Local] = {}
@@ -145,6 +152,8 @@ def put(session: Session, asked: Namespace) -> None:
         if top in coming:
             raise Failed(f"{shown(top)}: more than one would come there")
         coming |= {top + one.path: one._replace(path=top + one.path) for one in tree}
+    if too_long := [path for path in coming if not is_short(path)]:
+        raise Failed(f"{shown(too_long[0])}: {TOO_LONG}")
     folders = [path for path, one in coming.items() if one.size is None]
     files = [one for one in coming.values() if one.size is not None and not is_own(session, one.file)]
     if len(folders) + len(files) < len(coming):
@@ -174,7 +183,7 @@ def get(session: Session, asked: Namespace) -> int:
             with local(file):
                 file.mkdir(exist_ok=True)
             return
-        with arriving(file, asked.force) as out:
+        with arriving(session, file, asked.force) as out:
             out.writelines(progress.counted(read_bytes(session, entry.path, 0, entry.size)))
 
     looked = for_each(asked.sources, look_at)
@@ -201,11 +210,9 @@ def append(session: Session, asked: Namespace) -> None:
     """Puts bytes of files, or of standard input, at the end of a file. One line is answered before the next is asked, so that no gap is left where
     one is refused."""
     path = line_path(asked.path, asked.folder)
-    with local("standard input"), ExitStack() as stack:
-        sources = [stack.enter_context(opened(file)) for file in asked.files] or [sys.stdin.buffer]
-        progress = stack.enter_context(closing(Progress(sum(file.stat().st_size for file in asked.files))))
-        if not session.told(f"stat {path}", NOT_FOUND).is_ok:
-            session.ask("create", path)
-        parts = itertools.chain.from_iterable(map(pieces, sources))
+    if not session.told(f"stat {path}", NOT_FOUND).is_ok:
+        session.ask("create", path)
+    parts = itertools.chain.from_iterable(map(file_pieces, asked.files)) if asked.files else pieces(sys.stdin.buffer)
+    with local("standard input"), closing(Progress(sum(file.stat().st_size for file in asked.files))) as progress:
         for line in write_lines(path, file_size(session, path), progress.counted(parts)):
             session.ask(line)

@@ -4,6 +4,7 @@ No line lists hidden names. So the lines of the store are run again in a store w
 deleted, and the store itself is asked which of them stand."""
 
 from argparse import Namespace
+from bisect import bisect_left
 from datetime import datetime
 
 from client.attempts import each_path
@@ -28,12 +29,16 @@ def moves_of(line: str, told: str) -> list[tuple[str, str]]:
 
 def hidden_paths(session: Session) -> list[str]:
     """Each place where something deleted may stand."""
-    places: set[str] = set()
+    places: list[str] = []
     with session.again() as again:
         for answer in again.ask_all(session.history()):
             for before, after in moves_of(answer.line, answer.text[3:]) if answer.is_ok else ():
-                places |= {after + place.removeprefix(before) for place in places if place.startswith(f"{before}/")}
-                places |= {after} if hidden_parts(after) else set()
+                # What stands below a path stands together in the order of texts.
+                below = places[bisect_left(places, f"{before}/") : bisect_left(places, f"{before}0")]
+                for place in [after + place.removeprefix(before) for place in below] + [after] * bool(hidden_parts(after)):
+                    at = bisect_left(places, place)
+                    if places[at : at + 1] != [place]:
+                        places.insert(at, place)
     return sorted(places, key=lambda path: hidden_parts(path)[1])
 
 

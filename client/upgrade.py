@@ -2,12 +2,11 @@
 
 import shlex
 from argparse import Namespace
-from collections import Counter
-from collections.abc import Iterable
-from pathlib import Path
+from collections import Counter, deque
+from collections.abc import Iterator
 
 from client.names import shown
-from client.session import AHEAD_LINES, Answer, Session
+from client.session import Answer, Session
 from client.store import heal, paths_of, phase, report_all, walk
 from client.telling import WELL, WRONG, Failed, Refused, say
 from client.transfer import opened
@@ -17,16 +16,18 @@ PREPARES = ("rollingUpgrade prepare", "prepare-commit")
 ROLLBACKS = ("rollingUpgrade rollback", "rollback-commit")
 
 
-def runs_to_prepare(again: Session, lines: Iterable[str], epoch: int) -> None:
-    """Runs lines in a store without a file up to the prepare that began an epoch. No line after it is sent."""
-    waiting = []
+def up_to_prepare(lines: Iterator[str]) -> Iterator[str]:
     for line in lines:
-        waiting.append(line)
-        if line in PREPARES or len(waiting) == AHEAD_LINES:
-            answers = list(again.ask_all(waiting))
-            if line in PREPARES and answers[-1].text == f"ok {epoch}":
-                return
-            waiting = []
+        yield line
+        if line in PREPARES:
+            return
+
+
+def runs_to_prepare(again: Session, lines: Iterator[str], epoch: int) -> None:
+    """Runs lines in a store without a file up to the prepare that began an epoch. No line after it is sent."""
+    while last := deque(again.ask_all(up_to_prepare(lines)), maxlen=1):
+        if last[0].line in PREPARES and last[0].text == f"ok {epoch}":
+            return
     raise Failed(f"the lines of the store have no prepare of epoch {epoch}")
 
 
@@ -57,15 +58,6 @@ def what_a_rollback_finds(session: Session) -> tuple[list[str], list[str], int]:
 def begins_a_rollback(answer: Answer) -> bool:
     """Whether a line has begun a rollback, which may have been refused at its commit."""
     return answer.line.rstrip() in (ROLLBACKS[0], "rollback-begin") and (answer.is_ok or answer.refusal.number == UNRESTORED)
-
-
-def line_before(file: Path, begun: int) -> int:
-    """At which line of its file, marks too, a copy of a store ends that is the store before one of its lines: at the mark before that one's batch.
-    A file of form 1 needs no mark there."""
-    with opened(file) as lines:
-        is_marked = next(lines).startswith(b"chunkkeep 2 ")
-        marks = [at for at, line in enumerate(lines, 2) if line.startswith(b"#") and int(line.split()[1]) < begun]
-    return max(marks, default=1 if is_marked else begun)
 
 
 def rolled_back(session: Session, name: str) -> Refused | None:
@@ -106,7 +98,10 @@ def status(session: Session, asked: Namespace) -> int | None:
         return WELL
     say("a rollback would be refused" + ("; `upgrade finalize` keeps what stands now" if name == "upgrade" else ""))
     if name == "rolling" and session.file:
-        before = f"head -n {line_before(session.file, begun)} {shlex.quote(str(session.file))}"
+        # A copy that ends at the mark before that line's batch is the store before it. A file of form 1 may have no mark there, and needs none.
+        with opened(session.file) as lines:
+            marks = [at for at, line in enumerate(lines, 1) if line.startswith(b"#") and int(line.split()[1]) < begun]
+        before = f"head -n {max(marks, default=begun)} {shlex.quote(str(session.file))}"
         say(f"`{before} > COPY` makes the store before it, where `upgrade finalize` can be done")
     return WRONG
 

@@ -61,7 +61,7 @@ class StoreCase(unittest.TestCase):
             session.try_all(lines)
 
     def session(self) -> Session:
-        return Session(self.store, {} if self.store.exists() else self.sizes, is_lab=True)
+        return Session(self.store, {} if self.store.exists() else self.sizes, ["--lab"])
 
     def local(self, name: str, content: bytes) -> Path:
         """A file of this machine."""

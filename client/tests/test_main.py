@@ -43,11 +43,10 @@ class Words(StoreCase):
             self.assertIn(f"invalid int value: '{wrong}'", self.fs("tail", "-c", wrong, "/a", status=2))
         self.assertIn("unrecognized arguments: --frob", self.fs("shell", said=b"ls --frob\n", status=2))
 
-    def test_a_mistyped_command_gives_one_that_is_like_it(self) -> None:
-        self.assertEqual(self.fs("upgade", status=2), "chunkfs: no command 'upgade'; did you mean 'upgrade'?\n")
-        self.assertEqual(self.fs("upgrade", "stauts", status=2), "chunkfs: no command 'stauts'; did you mean 'status'?\n")
-        self.assertEqual(self.fs("quite-other", status=2), "chunkfs: no command 'quite-other'\n")
-        self.assertIn("chunkfs: no command 'hlep'; did you mean 'help'?\n", self.fs("shell", said=b"hlep\n", status=2))
+    def test_what_is_no_command_is_told_with_those_that_are(self) -> None:
+        self.assertIn("invalid choice: 'upgade' (choose from 'put', 'get',", self.fs("upgade", status=2))
+        self.assertIn("invalid choice: 'stauts' (choose from 'prepare', 'status',", self.fs("upgrade", "stauts", status=2))
+        self.assertIn("invalid choice: 'hlep'", self.fs("shell", said=b"hlep\n", status=2))
 
     def test_a_store_that_cant_be_one(self) -> None:
         self.store = self.folder

@@ -1,6 +1,9 @@
+import signal
 from collections.abc import Iterator
+from unittest.mock import Mock, patch
 
 from client.session import Answer, Ended, Session, Sizes, sizes_of
+from client.store import walk
 from client.telling import Failed, Refused
 from client.tests import TINY, StoreCase
 
@@ -33,12 +36,46 @@ class Sessions(StoreCase):
                 session.try_all(lines())
             self.assertEqual(session.ask("ls", "/"), "a/")
 
-    def test_an_interrupt_ends_the_program(self) -> None:
+    def test_lines_that_are_asked_meanwhile_meet_their_own_answers(self) -> None:
+        with self.session() as session:
+            session.try_all(f"create /f{number}" for number in range(20))
+            begun = session.ask_all(f"stat /f{number}" for number in range(20))
+            self.assertEqual(next(begun).line, "stat /f0")
+            self.assertEqual(session.ask("rollingUpgrade", "query"), "ordinary 0")
+            self.assertEqual([answer.line for answer in begun], [f"stat /f{number}" for number in range(1, 20)])
+
+    def test_who_is_refused_and_still_held_meets_no_answer_of_before(self) -> None:
+        self.lines(*(f"create /{number}" for number in range(300)), "create /x", "write /x 0 61", *(f"lose {server} 1" for server in range(3)))
+        told = self.fs("shell", said=b"lines beat 0\nlines beat 1\nlines beat 2\n")
+        with self.session() as session:
+            with self.assertRaises(Refused) as caught:
+                list(walk(session, "/"))
+            self.assertEqual(session.ask("rollingUpgrade", "query"), "ordinary 0", told)
+            del caught
+
+    def test_a_line_has_no_end_within_it(self) -> None:
+        with self.session() as session:
+            session.ask("mkdir", "/a")
+            with self.assertRaisesRegex(Failed, "can't have an end of a line"):
+                session.told("ls /a\nrm -r /a")
+            self.assertEqual(session.ask("ls", "/"), "a/")
+        self.assertIn("can't have an end of a line", self.fs("ls", "lines:/a\nrm -r /a", status=1))
+        self.assertEqual(self.fs("ls"), "a/\n")
+
+    def test_an_interrupt_while_an_answer_is_awaited_kills_the_program(self) -> None:
         with self.assertRaises(KeyboardInterrupt):
             with self.session() as session:
-                for answer in session.ask_all(f"mkdir /{number}" for number in range(100_000)):
-                    raise KeyboardInterrupt
-        self.assertIsNotNone(session.program.returncode)
+                session.ask("mkdir", "/a")
+                with patch.object(session.program, "stdout", Mock(readline=Mock(side_effect=KeyboardInterrupt))):
+                    session.ask("ls", "/")
+        self.assertEqual(session.program.returncode, -signal.SIGKILL)
+
+    def test_who_only_looks_leaves_the_file_as_it_is(self) -> None:
+        self.lines("create /f", "write /f 0 616263", "rm /f", "create /g")
+        before = self.store.read_bytes()
+        for words in (["ls", "-l", "/"], ["cat", "/g"], ["get", "/g", "out"], ["du"], ["count"], ["tree"], ["find", "/"], ["trash"], ["report"], ["export"]):
+            self.fs(*words)
+            self.assertEqual(self.store.read_bytes(), before, words)
 
     def test_long_answers(self) -> None:
         with Session(self.store, {}) as session:
@@ -75,8 +112,8 @@ class Sessions(StoreCase):
     def test_what_a_refusal_is_about(self) -> None:
         for line, about in (
             ("mv /a%20b /c", "/a b to /c: "),
-            ("scan", "expunge: "),
-            ("rollingUpgrade finalize", "upgrade finalize: "),
+            ("scan", "scan: "),
+            ("rollingUpgrade finalize", "rollingUpgrade finalize: "),
             ("rm -r /d", "/d: "),
         ):
             with self.assertRaises(Refused) as caught:

@@ -64,6 +64,8 @@ class Shells(StoreCase):
         self.assertIn("two words", terminal.await_text("/> "))
         terminal.type("ls -l /photos/tw\t\n")
         self.assertIn("/photos/two words\r\n", terminal.await_text("/> "))
+        terminal.type("ls -l /photos/two\\ w\t\n")
+        self.assertIn("/photos/two words\r\n", terminal.await_text("/> "))
         terminal.type("undel\t/nothing\n")
         self.assertIn("nothing of that name", terminal.await_text("/> "))
         terminal.type("cd photos\n")
@@ -81,7 +83,7 @@ class Shells(StoreCase):
         terminal.type("help ls\n")
         self.assertIn("what stands in a directory", terminal.await_text("/photos> "))
         terminal.type("frob\n")
-        self.assertIn("no command 'frob'", terminal.await_text("/photos> "))
+        self.assertIn("invalid choice: 'frob'", terminal.await_text("/photos> "))
         self.assertEqual(terminal.status("\x04"), 0)
         self.assertIn("cd photos\n", (self.folder / "chunkfs" / "history").read_text())
 

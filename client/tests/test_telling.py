@@ -6,7 +6,7 @@ import unittest
 
 from client.commands import COMMANDS
 from client.main import words_of
-from client.telling import Failed, Refused, like, local, told
+from client.telling import Failed, Refused, local, told
 from client.tests import StoreCase
 
 QUOTED = re.compile("`([^`]+)`")
@@ -83,7 +83,3 @@ class Machine(StoreCase):
             done = subprocess.run(piped, shell=True, capture_output=True)
             self.assertEqual(done.stderr, b"", words)
             self.assertEqual(done.stdout.count(b"\n"), 1)
-
-    def test_what_is_like_a_name(self) -> None:
-        self.assertEqual(like("upgade", ["upgrade", "undelete"]), "; did you mean 'upgrade'?")
-        self.assertEqual(like("x", ["upgrade"]), "")

@@ -83,6 +83,26 @@ class Transfers(StoreCase):
         self.assertIn("the store isn't put into itself", self.fs("put", self.store, "/", status=0))
         self.assertEqual(self.fs("ls"), "a/\nall/\n")
 
+    def test_nothing_comes_in_the_place_of_the_store(self) -> None:
+        self.fs("append", "/f", said=b"f")
+        before = self.store.read_bytes()
+        for words in (["get", "-f", "/f", self.store], ["export", "-f", "--to", self.store], ["export", "-f", "--to", f"{self.store}.cut"]):
+            self.assertIn("the store itself is kept there", self.fs(*words, status=1))
+        self.assertEqual(self.store.read_bytes(), before)
+        (self.folder / "dangling").symlink_to("nothing")
+        self.assertIn("something stands there already", self.fs("get", "/f", "dangling", status=1))
+        self.assertTrue((self.folder / "dangling").is_symlink())
+
+    def test_a_path_that_is_too_long(self) -> None:
+        deep = "/".join(["d"] * 63)
+        self.local(f"{deep}/f", b"")
+        self.fs("mkdir", "/a/b")
+        self.assertIn("a path 64 elements", self.fs("put", "d", "/a/b", status=1))
+        self.assertEqual(self.fs("find", "/"), "/\n/a\n/a/b\n")
+        (self.folder / deep / deep).mkdir(parents=True)
+        self.assertIn("a path 64 elements", self.fs("put", "d", "/", status=1))
+        self.assertEqual(self.fs("ls", "/"), "a/\n")
+
     def test_a_name_that_looks_hidden(self) -> None:
         name = f".deleted.{7:020}.{2:020}.x"
         self.local(name, b"bytes")

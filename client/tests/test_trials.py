@@ -7,6 +7,7 @@ import shutil
 import signal
 import subprocess
 import time
+from contextlib import suppress
 from pathlib import Path
 
 from client import ROOT
@@ -90,10 +91,10 @@ class Trials(StoreCase):
         """A put that is killed after some time, alone or with the store's program."""
         run = subprocess.Popen(self.command("put", "-f", "tree", "/"), start_new_session=True, **{**QUIET, "stderr": subprocess.DEVNULL})
         time.sleep(seconds)
-        if is_alone:
-            run.kill()
-        else:
-            os.killpg(run.pid, signal.SIGKILL)
+        programs = [] if is_alone else Path(f"/proc/{run.pid}/task/{run.pid}/children").read_text().split()
+        for pid in (run.pid, *map(int, programs)):
+            with suppress(ProcessLookupError):
+                os.kill(pid, signal.SIGKILL)
         run.wait()
         self.await_free()
 
