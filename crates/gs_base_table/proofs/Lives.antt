@@ -1,7 +1,7 @@
 -- What lives in a table's slots, after a slot is written.
-use Rattle.std.proofs.Common.{◌≡◌, suc, ◌≤◌, length, arith, List, [], ◌∷◌, Option, Some, None, Bool, true, false, cond, Result, Ok, Err, map, refl, ap, sym, ◌∙◌, subst}
+use Rattle.std.proofs.Common.{◌≡◌, suc, ◌≤◌, length, arith, List, [], ◌∷◌, Option, Some, None, Bool, true, false, cond, map, refl, ap, sym, ◌∙◌}
 use Rattle.std.proofs.lemmas.Bool.{false≢true}
-use Rattle.std.specs.Prelude.{is_none, is_some, OnOk, OnErr, OnSome, IfOk}
+use Rattle.std.specs.Prelude.{is_none, is_some, OnSome}
 use Rattle.std.specs.declared.cmp.Ordering.{Ordering}
 use Rattle.std.specs.declared.cmp.Ordering.TheVariants.{Less, Equal, Greater}
 use Rattle.std.specs.Ordering.{eq_by_cmp, is_eq}
@@ -142,24 +142,17 @@ module _ {K V : Type 0} {R : K → K → Ordering} (o : IsTotalOrder R) where
   entries-live same [] rising = no_length (fin.entries fin.empty) (sym (fin.len-entries fin.empty) ∙ fin.len-empty R V)
   entries-live same (e ∷ es) rising = one_more same e.0 e.1 es rising.0 (entries-live same es rising.1)
 
--- a write at a key that has room
-pub wrote : {K V E : Type 0} {R : K → K → Ordering} (es : List (K × Option V)) (k : K) (P : Type 0) (r : Result (Option V) E) → HasRoom R es k → OnOk r P → OnErr r (fin.find R k es ≡ None) → P
-wrote es k P (Ok x) room ok absent = ok
-wrote es k P (Err e) room ok absent = absurd (false≢true (sym (ap is_some absent) ∙ room.slot))
-
 pub has_slot : {V : Type 0} (o : Option (Option V)) (b : Bool) → b ≡ is_some o → b ≡ false → o ≡ None
 has_slot None b is no_slot = refl
 has_slot (Some x) b is no_slot = absurd (false≢true (sym no_slot ∙ is))
 
+-- a key that has room is found
+pub found_slot : {K V : Type 0} {R : K → K → Ordering} (es : List (K × Option V)) (k : K) → HasRoom R es k → fin.find R k es ≡ None → ⊥
+found_slot es k room none = false≢true (sym (ap is_some none) ∙ room.slot)
+
 pub on_some : {A : Type 0} (o : Option A) (P : Type 0) → P → OnSome o P
 on_some None P h = tt
 on_some (Some x) P h = h
-
-pub on_ok : {A E : Type 0} (r : Result A E) (x : A) (Q : Type 0) → r ≡ Ok x → OnOk r Q → Q
-on_ok r x Q is h = subst (λ r'. OnOk r' Q) is h
-
-pub if_ok : {A E : Type 0} (r : Result A E) (x : A) (P : A → Type 0) → r ≡ Ok x → IfOk r P → P x
-if_ok r x P is h = subst (λ r'. IfOk r' P) is h
 
 -- where nothing lives there is nothing to take out
 pub remove_absent : {K V : Type 0} {R : K → K → Ordering} → IsTotalOrder R → fin.IsAntisymmetric R → (m : fin.FinMap R V) (k : K) → fin.get m k ≡ None → fin.remove m k ≡ m

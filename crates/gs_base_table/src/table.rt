@@ -9,6 +9,7 @@ use crate::key::Key;
 use std::alloc::{AllocError, Global};
 use std::collections::BTreeMap;
 use std::marker::Model;
+use std::mem::replace;
 
 /// A map in which room is made for a key first, so that putting a value at it takes no memory. It is seen as its slots;
 /// what lives in them is the map that callers speak of.
@@ -90,6 +91,18 @@ impl<K: Key + Drop, V: Drop> Table<K, V> {
         }
     }
 
+    /// Writes the slot of a key that has one, where it stands, and answers what it held. It takes no memory.
+    fn swap(&mut self, key: K, value: Option<V>) -> Option<V>
+        requires { HasRoom K.cmp self.old key }
+        ensures written { IsWritten K.cmp self.old self.new key value }
+        ensures was { result ≡ option_flatten (fin.find K.cmp key self.old) }
+    {
+        let Some(slot) = self.slots.get_mut(&key) else {
+            return None;
+        };
+        replace(slot, value)
+    }
+
     /// Makes room for a key.
     pub fn reserve(&mut self, key: K) -> Result<(), AllocError>
         ensures same { live K.cmp self.new ≡ live K.cmp self.old }
@@ -119,7 +132,7 @@ impl<K: Key + Drop, V: Drop> Table<K, V> {
         ensures put { live K.cmp self.new ≡ fin.insert (live K.cmp self.old) key value }
         ensures keeps { KeepsRoom K.cmp self.old self.new }
     {
-        self.write(key, Some(value)).unwrap()
+        self.swap(key, Some(value))
     }
 
     /// Takes out what stands at a key, and leaves its room. It takes no memory.
@@ -131,7 +144,7 @@ impl<K: Key + Drop, V: Drop> Table<K, V> {
         if !self.has(key) {
             return None;
         }
-        self.write(key, None).unwrap()
+        self.swap(key, None)
     }
 
     /// Takes out what stands at a key, and gives up its room. It takes no memory.
