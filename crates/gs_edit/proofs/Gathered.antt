@@ -48,6 +48,21 @@ removed_back p i node t u m n hs is back are up =
     subst (λ (j : TreeInverse). TakesBack j (get t) (get u) → NamesTakenBack (inverses.Tree j) (names_of t m) (names_of u n)) (sym is)
     (λ b. record { fits = b.fits; tree = b.back; refs = ap (λ l. accepted (raised_each n l)) are ∙ ap accepted up }) back
 
+-- no removal that the tree refuses leaves its place
+pub remove_stays : (p : Path) (e : Refusal) (t u : FinMap path_cmp (Entry ℕ)) (m l n : Counts) (hs : List ℕ) → hs ≡ chunks_under p (entries t) → lowered_each m hs ≡ Ok l → n ≡ m → tree.FollowsPlain {I = Unit {0}} (remove (get t) p) (Err e) (get t) (get u) → Applies {I = Unit {0}} (edits.Remove p) (names_of t m) (Err e) (names_of u n)
+remove_stays p e t u m l n hs are low is h =
+    let rows = applies-remove {I = Unit {0}} p (Err e) t u h in (
+      elim rows.0 [
+        | inl same ↦ inl (ap (λ r. cond (is_ok r) (with_counts (edited (edits.Remove p) (entries t)) r) (Err BadLine)) (ap (lowered_each m) (sym are) ∙ low) ∙ ap (λ r. with_counts r (Ok l)) same)
+        | inr memory ↦ inr memory
+      ],
+      same_names u t n m (tree_of_rows u t rows.1) is,
+    )
+
+-- references that are given back
+pub given_back : (old given : Counts) (r : Result (Unit {0}) Refusal) (new : Counts) (hs : List ℕ) → raised_each old hs ≡ Ok given → refs.CountsDo (raised_each old hs) r old new → new ≡ given
+given_back old given r new hs is h = follows_ok (raised_each old hs) r old new given is h
+
 pub snapshot_applies : (from to : Path) (i : TreeInverse) (t u : FinMap path_cmp (Entry ℕ)) (m n : Counts) (hs : List ℕ) → hs ≡ visible_chunks_under from (entries t) → raised_each m hs ≡ Ok n → tree.FollowsPlain (snapshot (is_copied_too_deep (entries t) from) (get t) from to) (Ok i) (get t) (get u) → renamed (edits.Snapshot from to) (names_of t m) ≡ Ok (entries u, n)
 snapshot_applies from to i t u m n hs are up h =
     ap (with_counts (edited (edits.Snapshot from to) (entries t))) (ap (raised_each m) (sym are) ∙ up)

@@ -10,5 +10,5 @@ mod scan;
 
 pub use edit::{Edit, Inverse};
 pub use listed::{EditKind, ListedInverse, listed_inverses_undo_the_same};
-pub use names::Names;
+pub use names::{Names, TakenOut};
 pub use scan::Scan;

@@ -1,4 +1,4 @@
-ghost use Rattle.std.specs.Prelude.{◌≡◌, ◌&&◌, ℕ, Vec, Err, true, false, not, ◌==◌, IfOk, IfErr, is_none, slice_get};
+ghost use Rattle.std.specs.Prelude.{◌≡◌, ◌&&◌, ℕ, Vec, Err, Ok, true, false, not, ◌==◌, IfOk, IfErr, is_none, slice_get};
 ghost use Rattle.gs_edit.specs.Edits.{holds_chunk, has_reference};
 ghost use Rattle.std.specs.FinMap as fin_map;
 ghost use Rattle.gs_tree.specs.Edits.{chunks_in};
@@ -8,9 +8,11 @@ ghost use Rattle.gs_edit.specs.View.{names_of};
 ghost use Rattle.gs_edit.specs.Listed.{kind_of, is_of_kind};
 ghost use Rattle.gs_edit.specs.declared.listed.EditKind.TheVariants as kinds;
 ghost use Rattle.gs_edit.specs.Scan.{Scans};
-ghost use Rattle.gs_edit.specs.Places.{AppliesMove, IsClosed, is_move};
+ghost use Rattle.gs_edit.specs.Places.{AppliesMove, IsClosed, IsNotRemoved, TakesOut, is_move};
 ghost use Rattle.gs_tree.specs.Inverses.{IsMoved, TakesBack};
-ghost use Rattle.gs_tree.specs.Places.{KeepsPlace, given_up, returned, without_place};
+ghost use Rattle.gs_refs.specs.Counts.{Counts, raised_each};
+ghost use Rattle.gs_tree.specs.Find.{at};
+ghost use Rattle.gs_tree.specs.Places.{KeepsPlace, given_up, put_back, returned, without_place};
 ghost use Rattle.gs_tree.specs.Plain.{Same};
 ghost use Rattle.gs_edit.specs.View.{NamesView};
 
@@ -22,6 +24,13 @@ use gs_refs::Refs;
 use gs_tree::{Node, Status, Tree, TreeInverse};
 use std::alloc::{AllocError, Global};
 use std::marker::Model;
+
+/// What was taken out of names, and the chunks that stood in it.
+#[derive(Drop)]
+pub struct TakenOut {
+    pub node: Node,
+    pub chunks: Vec<Handle>,
+}
 
 /// What takes an edit back that leaves the references.
 pub(crate) fn kept(made: Result<TreeInverse, Refusal>) -> Result<Inverse, Refusal>
@@ -146,6 +155,30 @@ fn remove(tree: &mut Tree, refs: &mut Refs, alloc: Global, path: &Path) -> Resul
     }
     match tree.remove(path) {
         Ok(inverse) => Ok(Inverse::Tree(inverse)),
+        Err(refusal) => {
+            let _ = refs.raise_each(&chunks);
+            Err(refusal)
+        }
+    }
+}
+
+/// The same, but an empty directory keeps the place of what is taken out.
+fn remove_to_place(
+    tree: &mut Tree,
+    refs: &mut Refs,
+    alloc: Global,
+    path: &Path,
+) -> Result<TakenOut, Refusal>
+    ensures made { IfOk result (λ out. TakesOut path.now (names_of tree.old refs.old) out.node out.chunks.items (names_of tree.new refs.new)) }
+    ensures refused { IfErr result (λ e. IsNotRemoved path.now (names_of tree.old refs.old) e (names_of tree.new refs.new)) }
+{
+    let chunks = tree.chunks_under(alloc, path)?;
+    match refs.lower_each(&chunks) {
+        Ok(()) => {}
+        Err(_) => return Err(Refusal::BadLine),
+    }
+    match tree.remove_keeping_place(path) {
+        Ok(node) => Ok(TakenOut { node, chunks }),
         Err(refusal) => {
             let _ = refs.raise_each(&chunks);
             Err(refusal)
@@ -517,6 +550,26 @@ impl Names {
         ensures refs { self.new.refs ≡ self.old.refs }
     {
         self.tree.return_to_place(from, to);
+    }
+
+    /// Removes as `apply` does, but an empty directory keeps the place of what is taken out, until `give_up_place` takes it
+    /// out or `put_back` takes the removal back. Neither takes memory.
+    pub fn remove_keeping_place(&mut self, path: &Path) -> Result<TakenOut, Refusal>
+        ensures made { IfOk result (λ out. TakesOut path.now self.old out.node out.chunks.items self.new) }
+        ensures refused { IfErr result (λ e. IsNotRemoved path.now self.old e self.new) }
+    {
+        remove_to_place(&mut self.tree, &mut self.refs, self.alloc, path)
+    }
+
+    /// Takes a removal back whose place is kept: what was taken out stands there again, and its chunks have their references.
+    /// The root stays, and the tree does where nothing stands at the path.
+    pub fn put_back(&mut self, path: &Path, out: TakenOut)
+        ensures tree { Same (fin_map.get self.new.tree) (put_back path.now (at out.node) (fin_map.get self.old.tree)) }
+        ensures refs { (counts : Counts) → raised_each self.old.refs out.chunks.items ≡ Ok counts → self.new.refs ≡ counts }
+    {
+        let TakenOut { node, chunks } = out;
+        let _ = self.refs.raise_each(&chunks);
+        self.tree.put_back(path, node);
     }
 
     /// The names with what stands at a path moved to another (`Tree::with_moved`): a move that was made on equal names is

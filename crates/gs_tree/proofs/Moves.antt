@@ -254,7 +254,7 @@ pub beside_same : (p par : Path) (x name : Name) → p ≡ par ++ x ∷ [] → s
 beside_same p par x name split same =
     ap (λ q. parent q ++ name ∷ []) split ∙ ap (λ q. q ++ name ∷ []) (parent-append par x) ∙ ap (λ n. par ++ n ∷ []) (sym (one_name x name same)) ∙ sym split
 
-root_alone : (q : Path) → at {A = ℕ} (([], Dir) ∷ []) q ≡ rooted q
+pub root_alone : (q : Path) → at {A = ℕ} (([], Dir) ∷ []) q ≡ rooted q
 root_alone [] = refl
 root_alone (x ∷ q) = refl
 

@@ -8,7 +8,7 @@ use Rattle.gs_tree.specs.Plain.{Plain, IsFree, after, with_at, without}
 use Rattle.gs_tree.specs.Edits.{moved}
 use Rattle.gs_tree.specs.Inverses.{TakesBack}
 use Rattle.gs_tree.specs.Follows.{FollowsPlain}
-use Rattle.gs_tree.specs.Places.{KeepsPlace, given_up, without_place, can_return, returned}
+use Rattle.gs_tree.specs.Places.{KeepsPlace, given_up, without_place, can_return, put_back, returned}
 use Rattle.gs_tree.specs.declared.inverse.TreeInverse.{TreeInverse}
 use Rattle.gs_tree.specs.declared.inverse.TreeInverse.TheVariants.{Made, Moved, Removed, Added, Changed, Copied}
 use Rattle.gs_tree.proofs.Laws.{landed, not_above, begins_either}
@@ -119,3 +119,7 @@ root_returned [] [] m = refl
 root_returned [] (y ∷ to) m = refl
 root_returned (x ∷ from) [] m = refl
 root_returned (x ∷ from) (y ∷ to) m = either_way (can_return (x ∷ from) (y ∷ to) m) (m [])
+
+pub root_put_back : (p : Path) (node m : Plain ℕ) → put_back p node m [] ≡ m []
+root_put_back [] node m = refl
+root_put_back (x ∷ p) node m = either_way (is_some (m (x ∷ p))) (m [])

@@ -1,16 +1,20 @@
 -- What is taken out with all under it, and put back.
-use Rattle.std.proofs.Common.{◌≡◌, ◌≢◌, ℕ, true, false, cond, [], ◌++◌, refl, sym, ap, ◌∙◌, append-nil}
-use Rattle.std.specs.Prelude.{Option, Some, None, Ok, Err, is_some, is_none}
+use Rattle.std.proofs.Common.{◌≡◌, ◌≢◌, ℕ, Bool, true, false, cond, [], ◌∷◌, ◌++◌, inl, refl, sym, ap, ◌∙◌, append-nil, subst}
+use Rattle.std.specs.Prelude.{Option, Some, None, Result, Ok, Err, is_some, is_none}
+use Rattle.gs_base.specs.declared.refusal.Refusal.{Refusal}
 use Rattle.gs_base.specs.declared.refusal.Refusal.TheVariants.{NotFound, NotHidden}
 use Rattle.gs_path.specs.Path.{Path, begins}
 use Rattle.gs_tree.specs.Plain.{Plain, IsFree, after, with_at, without, Same}
+use Rattle.gs_tree.specs.Entry.{Dir}
 use Rattle.gs_tree.specs.Find.{Rows, at, DirsAbove}
+use Rattle.gs_tree.specs.Follows.{FollowsPlain}
+use Rattle.gs_tree.specs.Places.{IsNotTakenOut, IsTakenOut, put_back}
 use Rattle.gs_tree.specs.Edits.{remove, old_name, parent}
 use Rattle.gs_tree.specs.Inverses.{TakesBack}
 use Rattle.gs_tree.specs.declared.inverse.TreeInverse.TheVariants.{Removed, Copied}
 use Rattle.gs_tree.proofs.Splice.{begins_parts}
 use Rattle.gs_tree.proofs.Laws.{begins_append, free_at, with_at-append}
-use Rattle.gs_tree.proofs.Moves.{dir_above, not_itself}
+use Rattle.gs_tree.proofs.Moves.{dir_above, not_itself, root_alone, some_is}
 
 pub remove-is : (m : Plain ℕ) (p : Path) → is_none (old_name p) ≡ false → is_none (m p) ≡ false → remove m p ≡ Ok (without p m)
 remove-is m p hidden some = ap (λ b. cond b (Err NotHidden) (cond (is_none (m p)) (Err NotFound) (Ok (without p m)))) hidden ∙ ap (λ b. cond b (Err NotFound) (Ok (without p m))) some
@@ -46,3 +50,38 @@ takes_copied m new part p ne free some is = record {
 -- the same tree with an equal part
 pub with_part : (p : Path) (one two m : Plain ℕ) → Same one two → (q : Path) → with_at p one m q ≡ with_at p two m q
 with_part p one two m same q = ap (λ (part : Plain ℕ). with_at p part m q) (λ i r. same r i)
+
+-- ---- an empty directory keeps the place
+
+pub taken_out : (m new : Plain ℕ) (node dir : Rows ℕ) (p p' : Path) → p' ≡ p → dir ≡ ([], Dir) ∷ [] → is_none (old_name p) ≡ false → true ≡ is_some (m p') → ((q : Path) → m (p' ++ q) ≡ at node q) → ((q : Path) → new q ≡ with_at p' (at dir) m q) → IsTakenOut p (at node) m new
+taken_out m new node dir p p' e is hidden some part now = subst (λ (s : Path). is_none (old_name s) ≡ false → IsTakenOut s (at node) m new) e made hidden
+  where
+    made : is_none (old_name p') ≡ false → IsTakenOut p' (at node) m new
+    made h = record {
+      hidden = h;
+      stood = some_is (m p') (sym some);
+      part = part;
+      now = λ q. now q ∙ ap (λ (d : Plain ℕ). with_at p' d m q) (λ i r. (ap (λ (rows : Rows ℕ). at rows r) is ∙ root_alone r) i);
+    }
+
+-- nothing stands there
+pub not_taken : (m new : Plain ℕ) (p p' : Path) → p' ≡ p → is_none (old_name p) ≡ false → ((q : Path) → m (p' ++ q) ≡ None) → ((q : Path) → new q ≡ m q) → IsNotTakenOut p m NotFound new
+not_taken m new p p' e hidden part now = subst (λ (r : Result (Plain ℕ) Refusal). FollowsPlain {I = Unit {0}} r (Err NotFound) m new) (sym is) (inl refl, now)
+  where
+    gone : m p ≡ None
+    gone = ap m (sym (append-nil p)) ∙ ap (λ s. m (s ++ [])) (sym e) ∙ part []
+
+    is : remove m p ≡ Err NotFound
+    is = ap (λ b. cond b (Err NotHidden) (cond (is_none (m p)) (Err NotFound) (Ok (without p m)))) hidden ∙ ap (λ v. cond (is_none v) (Err NotFound) (Ok (without p m))) gone
+
+-- it goes back to its place, and not to the root
+by_path : (node m : Plain ℕ) (p q : Path) → p ≢ [] → put_back p node m q ≡ cond (is_some (m p)) (with_at p node m q) (m q)
+by_path node m [] q ne = absurd (ne refl)
+by_path node m (x ∷ p) q ne = refl
+
+pub back_in : (m new node : Plain ℕ) (p p' : Path) (some : Bool) → p' ≡ p → p ≢ [] → some ≡ is_some (m p') → ((q : Path) → new q ≡ cond some (with_at p' node m q) (m q)) → (q : Path) → new q ≡ put_back p node m q
+back_in m new node p p' some e ne found now q =
+    now q ∙ ap (λ b. cond b (with_at p' node m q) (m q)) found ∙ ap (λ s. cond (is_some (m s)) (with_at s node m q) (m q)) e ∙ sym (by_path node m p q ne)
+
+pub root_stays : (m node : Plain ℕ) (p q : Path) → p ≡ [] → m q ≡ put_back p node m q
+root_stays m node p q is = ap (λ s. put_back s node m q) (sym is)

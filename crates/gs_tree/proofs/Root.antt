@@ -1,6 +1,6 @@
 -- The root is a directory, and stays one.
 use Rattle.std.proofs.Common.{◌≡◌, ◌≢◌, ℕ, Bool, true, false, cond, [], ◌∷◌, length, take, add-one, arith, nat_lt, refl, sym, ap, ◌∙◌}
-use Rattle.std.specs.Prelude.{Option, Some, None, Result, Ok, Err, is_some, is_none}
+use Rattle.std.specs.Prelude.{Option, Some, None, Result, Ok, Err, IfErr, IfOk, is_some, is_none}
 use Rattle.std.proofs.lemmas.Bool.{ltb-true}
 use Rattle.gs_base.specs.declared.refusal.Refusal.{Refusal}
 use Rattle.gs_base.specs.declared.refusal.Refusal.TheVariants.{BadPath, NotFound, Exists, NotADirectory, IntoItself, IsRoot, NotHidden}
@@ -9,7 +9,9 @@ use Rattle.gs_tree.specs.Entry.{Dir, File}
 use Rattle.gs_tree.specs.Plain.{Plain, without}
 use Rattle.gs_tree.specs.Edits.{mkdirs, create, made, rename, placed, moved, hide, hidden_path, unhide, unhidden, beside, old_name, remove, snapshot, copied, with_dirs, with_entry, chunks_in, is_file, file_above, same_path, target_of, parent}
 use Rattle.gs_tree.specs.Inverses.{Fits, after_undo, first_made}
+use Rattle.gs_tree.specs.Find.{Rows, at}
 use Rattle.gs_tree.specs.Follows.{FollowsPlain, Undoes}
+use Rattle.gs_tree.specs.Places.{IsNotTakenOut, IsTakenOut}
 use Rattle.gs_tree.specs.declared.inverse.TreeInverse.{TreeInverse}
 use Rattle.gs_tree.specs.declared.inverse.TreeInverse.TheVariants.{Made, Moved, Removed, Added, Changed, Copied}
 
@@ -76,6 +78,11 @@ unhide-root m (x ∷ p) root = named (old_name (x ∷ p))
 pub remove-root : (m : Plain ℕ) (p : Path) → m [] ≡ Some Dir → KeepsRoot (remove m p)
 remove-root m [] root = tt
 remove-root m (x ∷ p) root = tested (is_none (old_name (x ∷ p))) NotHidden _ (λ _. tested (is_none (m (x ∷ p))) NotFound (Ok (without (x ∷ p) m)) (λ _. root))
+
+pub root_taken : (r : Result (Rows ℕ) Refusal) (p : Path) (old new : Plain ℕ) → IfOk r (λ node. IsTakenOut p (at node) old new) → IfErr r (λ e. IsNotTakenOut p old e new) → old [] ≡ Some Dir → new [] ≡ Some Dir
+root_taken (Err e) p old new made refused root = root_follows {I = Unit {0}} (remove old p) (Err e) old new (remove-root old p root) refused root
+root_taken (Ok node) [] old new made refused root = absurd (let k : true ≡ false = made.hidden in cc)
+root_taken (Ok node) (x ∷ p) old new made refused root = made.now [] ∙ root
 
 copied-root : (m : Plain ℕ) (from to : Path) → to ≢ [] → copied from to m [] ≡ m []
 copied-root m from [] ne = absurd (ne refl)

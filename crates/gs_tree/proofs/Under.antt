@@ -15,6 +15,7 @@ use Rattle.gs_tree.specs.Find.{Rows, at}
 use Rattle.gs_tree.specs.Edits.{same_path, visible, snapshot, copied, placed, parent, is_file}
 use Rattle.gs_tree.specs.Inverses.{IsRemoved, removed_chunks}
 use Rattle.gs_tree.specs.Follows.{FollowsPlain}
+use Rattle.gs_tree.specs.Places.{IsTakenOut}
 use Rattle.gs_tree.specs.declared.inverse.TreeInverse.{TreeInverse}
 use Rattle.gs_tree.specs.Chunks.{all_chunks, chunks_under, visible_chunks_under, visible_under, by_path, part_chunks}
 use Rattle.gs_tree.proofs.Splice.{begins_parts}
@@ -153,3 +154,8 @@ snapshot_chunks (Ok i) is_deep old new from to h =
 pub remove_chunks : (r : Result TreeInverse Refusal) (old : FinMap path_cmp (Entry ℕ)) (p : Path) → IfOk r (λ i. IsRemoved (get old) p i) → IfOk r (λ i. removed_chunks i ≡ chunks_under p (entries old))
 remove_chunks (Err e) old p h = tt
 remove_chunks (Ok i) old p (node, (same, is)) = ap removed_chunks is ∙ sym (chunks_under-part old p node same)
+
+-- and those of what left its place
+pub taken_chunks : (r : Result (Rows ℕ) Refusal) (old : FinMap path_cmp (Entry ℕ)) (new : Plain ℕ) (p : Path) → IfOk r (λ node. IsTakenOut p (at node) (get old) new) → IfOk r (λ node. part_chunks node ≡ chunks_under p (entries old))
+taken_chunks (Err e) old new p h = tt
+taken_chunks (Ok node) old new p h = sym (chunks_under-part old p node h.part)

@@ -1,9 +1,9 @@
--- An empty directory that keeps the place of what was moved, until the move stands or is taken back.
-use Rattle.std.specs.Prelude.{◌≢◌, ◌&&◌, ℕ, Bool, not, cond, [], Result, Ok, Err, is_some}
+-- An empty directory that keeps the place of what was moved or taken out, until that stands or is taken back.
+use Rattle.std.specs.Prelude.{◌≡◌, ◌≢◌, ◌&&◌, ℕ, Bool, false, not, cond, [], Result, Ok, Err, is_some, is_none}
 use Rattle.gs_base.specs.declared.refusal.Refusal.{Refusal}
 use Rattle.gs_path.specs.Path.{Path, begins}
-use Rattle.gs_tree.specs.Plain.{Plain, Same, rooted, part_at, without}
-use Rattle.gs_tree.specs.Edits.{moved, same_path}
+use Rattle.gs_tree.specs.Plain.{Plain, Same, rooted, part_at, with_at, without}
+use Rattle.gs_tree.specs.Edits.{moved, old_name, remove, same_path}
 use Rattle.gs_tree.specs.Follows.{FollowsPlain}
 use Rattle.gs_tree.specs.declared.inverse.TreeInverse.{TreeInverse}
 use Rattle.gs_tree.specs.declared.inverse.TreeInverse.TheVariants.{Made, Moved, Removed, Added, Changed, Copied}
@@ -46,3 +46,18 @@ can_return from to m = not (begins to from) && (not (begins from to) && (is_some
 -- what was moved goes back to the place that was kept, if it can
 abbrev pub returned : Path → Path → Plain ℕ → Plain ℕ
 returned from to m q = cond (can_return from to m) (moved to from (without from m) q) (m q)
+
+-- What is hidden at a path was taken out, with all under it, and an empty directory stands in its place.
+pub record IsTakenOut (p : Path) (node old new : Plain ℕ) : Type 0 where
+  pub hidden : is_none (old_name p) ≡ false
+  pub stood : is_none (old p) ≡ false
+  pub part : Same (part_at p old) node
+  pub now : Same new (with_at p rooted old)
+
+-- or it wasn't, with the refusal of a removal, and nothing has changed
+abbrev pub IsNotTakenOut : Path → Plain ℕ → Refusal → Plain ℕ → Type 0
+IsNotTakenOut p old e new = FollowsPlain {I = Unit {0}} (remove old p) (Err e) old new
+
+-- what was taken out stands again at a path that isn't the root, if its place was kept there
+abbrev pub put_back : Path → Plain ℕ → Plain ℕ → Plain ℕ
+put_back p part m q = cond (not (same_path p []) && is_some (m p)) (with_at p part m q) (m q)

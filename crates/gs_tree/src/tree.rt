@@ -2,14 +2,14 @@ ghost use Rattle.std.specs.Prelude.{◌≡◌, [], false, IfOk, IfErr, MatchBool
 ghost use Rattle.std.specs.FinMap as fin_map;
 ghost use Rattle.gs_path.specs.Path.{begins};
 ghost use Rattle.gs_tree.specs.Find.{at, is_too_deep, is_copied_too_deep};
-ghost use Rattle.gs_tree.specs.Places.{KeepsPlace, FollowsButPlace, given_up, returned, without_place};
+ghost use Rattle.gs_tree.specs.Places.{KeepsPlace, FollowsButPlace, IsNotTakenOut, IsTakenOut, given_up, put_back, returned, without_place};
 ghost use Rattle.gs_tree.specs.Plain.{Same, part_at, rooted};
 ghost use Rattle.gs_tree.specs.Entry.{Dir};
 ghost use Rattle.gs_tree.specs.Edits.{mkdirs, create, rename, hide, unhide, remove, add_chunk, set_chunk, snapshot};
 ghost use Rattle.gs_tree.specs.Inverses.{TakesBack, LeavesChunks, IsMade, IsMoved, IsChanged, IsRemoved, takes_memory, removed_chunks};
 ghost use Rattle.gs_tree.specs.Follows.{FollowsPlain, Moves, Undoes};
 ghost use Rattle.gs_tree.specs.Listing.{HasVisible, HasVisibleBut, Lists, StandsAs};
-ghost use Rattle.gs_tree.specs.Chunks.{chunks_under, rows_under, visible_chunks_under};
+ghost use Rattle.gs_tree.specs.Chunks.{chunks_under, part_chunks, rows_under, visible_chunks_under};
 ghost use Rattle.std.specs.List.{list_all};
 ghost use Rattle.gs_tree.specs.Build.{rooted_rows, is_short, is_tree, rows_of_entries, Builds};
 
@@ -21,7 +21,7 @@ use crate::listing::list_in;
 use crate::making::{create_in, mkdirs_in};
 use crate::moving::{give_up, give_up_place, hide_in, rename_in, return_to, unhide_in, with_moved};
 use crate::node::{Leaf, Listed, Node};
-use crate::removing::remove_in;
+use crate::removing::{put_back_in, remove_in, remove_to_place};
 use crate::snapshots::snapshot_in;
 use crate::undoing::{drop_chunk, drop_copy, move_back, plant, reset_chunk, unmake};
 use gs_base::{Handle, Moment, Refusal};
@@ -216,6 +216,24 @@ impl Tree {
         ensures chunks { IfOk result (λ i. removed_chunks i ≡ chunks_under path.now (fin_map.entries self.old)) }
     {
         remove_in(&mut self.root, self.alloc, path)
+    }
+
+    /// The same, but an empty directory keeps the place of what is taken out, until `give_up_place` takes it out or
+    /// `put_back` takes the removal back. Neither takes memory.
+    pub fn remove_keeping_place(&mut self, path: &Path) -> Result<Node, Refusal>
+        ensures made { IfOk result (λ node. IsTakenOut path.now (at node) (fin_map.get self.old) (fin_map.get self.new)) }
+        ensures refused { IfErr result (λ e. IsNotTakenOut path.now (fin_map.get self.old) e (fin_map.get self.new)) }
+        ensures chunks { IfOk result (λ node. part_chunks node ≡ chunks_under path.now (fin_map.entries self.old)) }
+    {
+        remove_to_place(&mut self.root, self.alloc, path)
+    }
+
+    /// Puts what was taken out back in the place that was kept, which takes no memory. The root stays, and nothing changes
+    /// where nothing stands at the path.
+    pub fn put_back(&mut self, path: &Path, node: Node)
+        ensures { Same (fin_map.get self.new) (put_back path.now (at node) (fin_map.get self.old)) }
+    {
+        put_back_in(&mut self.root, path, node);
     }
 
     /// Adds a chunk at the end of a file.
