@@ -34,8 +34,7 @@ def each_path(act: Callable[[Session, Namespace, str], None]) -> Run:
     """A command that does the same with each path that is given, or with the folder in which one is."""
 
     def run(session: Session, asked: Namespace) -> int:
-        paths = [line_path(path, asked.folder) for path in asked.paths or ["."]]
-        return for_each(paths, functools.partial(act, session, asked))
+        return for_each([line_path(path, asked.folder) for path in asked.paths or ["."]], functools.partial(act, session, asked))
 
     return functools.wraps(act)(run)
 

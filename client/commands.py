@@ -7,13 +7,15 @@ from typing import NamedTuple
 
 from client import check, listing, script, transfer, trash, upgrade
 from client.attempts import Run
-from client.telling import local
+from client.telling import Failed, local
 
 
 def there(name: str) -> Path:
-    """What stands on this machine under a name that is given. It has to be there before a store is made for it."""
+    """A file of this machine under a name that is given. It has to be there before a store is made for it."""
     with local(name):
         Path(name).stat()
+    if Path(name).is_dir():
+        raise Failed(f"{name}: is a directory")
     return Path(name)
 
 

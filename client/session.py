@@ -111,7 +111,7 @@ class Session:
             # Nobody reads its answers any more, for which it may wait.
             self.program.stdout.close()
         self.sender.join()
-        with self.said, self.program.stdout:
+        with self.said, contextlib.closing(self.program.stdout):
             if self.program.wait() and kind is None:
                 raise self.ended()
 

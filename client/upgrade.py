@@ -86,13 +86,11 @@ def prepare(session: Session, asked: Namespace) -> None:
 
 def status(session: Session, asked: Namespace) -> int | None:
     name, epoch = phase(session)
-    say(f"phase {name}, epoch {epoch}")
+    say(f"phase {name}, epoch {epoch}" + (": until the rollback is done the store answers nothing else" if name == "rolling" else ""))
     if name not in ("upgrade", "rolling"):
         return None
     told, lost, begun = what_a_rollback_finds(session)
     say("\n".join(told))
-    if name == "rolling":
-        say("a rollback is begun: until it is done the store answers nothing else")
     if not lost:
         say("a rollback would give all back")
         return WELL
