@@ -66,4 +66,4 @@ class Checks(StoreCase):
         told = self.fs("report")
         self.assertIn("phase upgrade, epoch 1\n3 files, 3 chunks, 1 short of 3 replicas\nserver 0, rack 0: 3 chunks, 21 B\n", told)
         self.assertIn("server 1, rack 0: 2 chunks, 17 B\n", told)
-        self.assertRegex(told, rf"\nlog {self.store}: \S+ K\n\Z")
+        self.assertRegex(told, rf"\nlog {self.store}: \S+ [BK]\n\Z")

@@ -23,13 +23,16 @@ class Terminal:
             os.execve(words[0], words, {**os.environ, "XDG_STATE_HOME": state, "TERM": "dumb", "INPUTRC": os.devnull})
         self.told = ""
 
-    def await_text(self, text: str) -> str:
-        """What stands there up to a text, once that comes."""
+    def await_text(self, text: str, typed: str = "") -> str:
+        """What stands there up to a text, once that comes. Where nothing comes for some time, something is typed again."""
         limit = time.monotonic() + SECONDS
         while text not in self.told:
-            if time.monotonic() > limit or not select.select([self.end], [], [], SECONDS)[0]:
+            if time.monotonic() > limit:
                 raise AssertionError(f"{text!r} doesn't come after {self.told!r}")
-            self.told += os.read(self.end, 4_096).decode()
+            if select.select([self.end], [], [], SECONDS_BETWEEN)[0]:
+                self.told += os.read(self.end, 4_096).decode()
+            else:
+                self.type(typed)
         before, self.told = self.told.split(text, 1)
         return before
 
@@ -141,6 +144,6 @@ class Shells(StoreCase):
         terminal.type("mkdir /never")
         terminal.await_text("mkdir /never")
         terminal.type("\x03")
-        terminal.await_text("/> ")
+        terminal.await_text("/> ", "\x03")
         self.assertEqual(terminal.status("\x04"), 0)
         self.assertEqual(self.fs("ls"), "a/\n")

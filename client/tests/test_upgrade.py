@@ -2,7 +2,6 @@ import re
 import subprocess
 
 from client.tests import TINY, StoreCase
-from client.upgrade import line_before
 
 
 class Upgrades(StoreCase):
@@ -80,9 +79,13 @@ class Upgrades(StoreCase):
         self.assertIn("finalized, epoch 2", self.fs("upgrade", "finalize"))
 
     def test_where_a_file_of_form_1_is_cut(self) -> None:
-        store = self.local("log", b"chunkkeep 1 --servers 3\nmkdir /a\nmkdir /b\nrollback-begin\n")
-        self.assertEqual(line_before(store, 3), 3)
-        self.assertEqual(line_before(self.local("log", b"chunkkeep 2 --servers 3\nmkdir /a\n# 1 x y\nmkdir /b\n# 2 x y\n"), 2), 3)
+        self.lines("rollingUpgrade prepare", "mkdir /d", "lose 0 1", "lose 1 1", "lose 2 1", "rollback-begin")
+        self.assertIn("16 Unrestored", self.fs("upgrade", "rollback", status=1))
+        lines = [line for line in self.store.read_bytes().splitlines(True) if not line.startswith(b"#")]
+        self.store.write_bytes(b"".join(lines).replace(b"chunkkeep 2", b"chunkkeep 1", 1))
+        self.cut_copy(self.fs("upgrade", "status", status=1))
+        self.assertEqual(self.fs("ls"), "d/\nf\ng\n")
+        self.assertIn("finalized, epoch 2", self.fs("upgrade", "finalize"))
 
     def test_a_copy_within_the_upgrade_counts(self) -> None:
         self.fs("upgrade", "prepare")
