@@ -28,6 +28,8 @@ LINE_COST = 1_024
 SAID_BYTES = 2_000
 READ = re.compile(r"read \S+ \d+ (\d{1,9})")
 SIZE = re.compile(r"--(servers|racks|replicas|chunk|block) (\d+)")
+# How the commands of this client call what lines ask for.
+CALLED = {"rollingUpgrade": "upgrade", "rollback-commit": "upgrade rollback", "scan": "expunge"}
 
 
 class Ended(Exception):
@@ -54,7 +56,7 @@ class Answer(NamedTuple):
         """Why the line is refused, told of its paths, or of what it asks for where it has none."""
         words = self.line.split(" ")
         paths = [shown(word) for word in words[1:] if word.startswith("/")]
-        return Refused(self.text, " to ".join(paths) or " ".join(words[:2]))
+        return Refused(self.text, " to ".join(paths) or " ".join(CALLED.get(word, word) for word in words[:2]))
 
 
 class Sizes(NamedTuple):

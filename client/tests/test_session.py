@@ -112,8 +112,8 @@ class Sessions(StoreCase):
     def test_what_a_refusal_is_about(self) -> None:
         for line, about in (
             ("mv /a%20b /c", "/a b to /c: "),
-            ("scan", "scan: "),
-            ("rollingUpgrade finalize", "rollingUpgrade finalize: "),
+            ("scan", "expunge: "),
+            ("rollingUpgrade finalize", "upgrade finalize: "),
             ("rm -r /d", "/d: "),
         ):
             with self.assertRaises(Refused) as caught:
