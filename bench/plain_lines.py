@@ -181,12 +181,12 @@ OF_CALLS = {
     "rm": ("Locked", "Unsure"),
     "undelete": ("Locked", "Unsure"),
     "snapshot": ("Locked", "NoReplica", "Unsure"),
-    "ls": ("Locked", "NoReplica"),
+    "ls": ("Locked", "NoReplica", "Unsure"),
     "extend": ("Locked", "NoReplica", "Unsure"),
     "find": ("Locked", "NoReplica"),
     "scan": ("Unsure",),
     "replicate": ("Locked", "NoReplica", "Unsure"),
-    "query": ("NoReplica",),
+    "query": ("NoReplica", "Unsure"),
     "prepare-begin": ("Pending", "Unsure"),
     "prepare-commit": ("NotQuiet", "Unsure"),
     "finalize": ("Unsure",),
@@ -245,12 +245,8 @@ class Judge:
         match question.word:
             case "mkdir" | "create" | "mv" | "rm" | "undelete" | "snapshot" | "ls":
                 return self.asks(state, Call(question.word, arguments))
-            case "stat":
-                return self.at_stat(state, *arguments)
-            case "read":
-                return self.at_file(state, arguments[0], lambda texts: self.at_read(state, texts, *arguments[1:]))
-            case "digest":
-                return self.at_file(state, arguments[0], lambda texts: self.at_digest(state, texts, *arguments[1:]))
+            case "stat" | "read" | "digest":
+                return self.looks(state, question)
             case "write":
                 return self.at_file(state, arguments[0], lambda texts: self.at_write(state, texts, *arguments))
             case "append":
@@ -331,6 +327,19 @@ class Judge:
                 yield state
         else:
             yield from does(texts)
+
+    def looks(self, state: State, question: Question) -> Iterator[State]:
+        """A file is looked at. Where nobody is sure of that, nothing was done."""
+        path, *numbers = question.arguments
+        if self.is_put_off(["Unsure"]):
+            yield state
+        match question.word:
+            case "stat":
+                yield from self.at_stat(state, path)
+            case "read":
+                yield from self.at_file(state, path, lambda texts: self.at_read(state, texts, *numbers))
+            case _:
+                yield from self.at_file(state, path, lambda texts: self.at_digest(state, texts, *numbers))
 
     def lengths(self, texts: tuple[Text, ...]) -> list[int]:
         """How many bytes a file may be seen to have: each chunk but the last is full."""

@@ -19,6 +19,8 @@ TAKEN_WHILE_ROLLING = ("query", "rollback-commit")
 CHANGES = ("mkdir", "create", "mv", "rm", "undelete", "snapshot", "extend")
 # Calls that may wait at the master for chunks.
 WAITING = ("snapshot", "extend")
+# Calls that only look.
+LOOKS = ("ls", "query")
 MOST_CHUNKS = 4096
 MOST_STATES = 6000
 
@@ -235,7 +237,10 @@ def overtaken(state: State, call: Call, late: tuple[Call, ...], size: int) -> li
 
 
 def unsure(state: State, call: Call, size: int) -> Iterator[State]:
-    """A call of which nobody is sure is late, or it is done, or it waits."""
+    """A call of which nobody is sure is late, or it is done, or it waits. One that only looks has done nothing."""
+    if call.name in LOOKS:
+        yield state
+        return
     yield replace(state, late=(*state.late, call))
     yield from overtaken(state, call, (), size)
     if call.name in WAITING:

@@ -3,3 +3,4 @@ pub mod Asked
 pub mod Resting
 pub mod Behind
 pub mod Replied
+pub mod Served

@@ -8,6 +8,7 @@ ghost use Rattle.gs_laws_chunks.specs.answers.Asked.{BeginsAsked, ScriptsAsked, 
 ghost use Rattle.gs_laws_chunks.specs.answers.Behind.{ListsAreByCommits};
 ghost use Rattle.gs_laws_chunks.specs.answers.Replied.{BeginsReplied, StaysReplied};
 ghost use Rattle.gs_laws_chunks.specs.answers.Resting.{StaysStill};
+ghost use Rattle.gs_laws_chunks.specs.answers.Served.{BeginsServed, RefusalsAreMade, ScriptsServed, StaysServed};
 
 use gs_block::promises::configurations_have_sizes;
 
@@ -28,6 +29,22 @@ fn of_each_reply_its_client_has_asked<D>()
 /// The master isn't started again meanwhile, and no failure of a disk is arranged.
 fn an_answer_is_made_for_its_call<D>()
     ensures { (seen : D → List ℕ) (failures : D → ℕ) (armed : DiskId → ℕ → MasterPlace D → MasterPlace D) → AnswersAreMade seen failures armed }
+{}
+
+/// Each message that asks a server for an edit, or for a part of a chunk, is of a request that its client has asked. So is each by which a server refuses an edit, or tells of a part.
+/// So it is over each run of a store that has begun new, in which all that is asked is within its types, whatever disks of the master fail; and so it is of what a script leaves.
+fn of_each_request_to_a_server_its_client_has_asked<D>()
+    ensures begun { (seen : D → List ℕ) (failures : D → ℕ) (armed : DiskId → ℕ → MasterPlace D → MasterPlace D) → BeginsServed seen failures armed }
+    ensures kept { (seen : D → List ℕ) (failures : D → ℕ) (armed : DiskId → ℕ → MasterPlace D → MasterPlace D) → StaysServed seen failures armed }
+    ensures scripts { ScriptsServed D }
+{
+    configurations_have_sizes();
+}
+
+/// A refusal that a client gets to a call that is answered at once was told in the turn of that very call, since the client asked. Or the master tells it without judging the call: the call is an older one (19), a disk has failed (32), or one fails at the record of the refusal (29).
+/// No server says anything of the number of a call. The master isn't started again meanwhile, and no failure of a disk is arranged.
+fn a_refusal_is_made_for_its_call<D>()
+    ensures { (seen : D → List ℕ) (failures : D → ℕ) (armed : DiskId → ℕ → MasterPlace D → MasterPlace D) → RefusalsAreMade seen failures armed }
 {}
 
 /// Whatever a client has as its reply, a message was sent that says it, for the number that the client has used last: an answer, what an edit came to, a part of a chunk, or a refusal. So it is over each run, whatever comes, and in which order.

@@ -5,3 +5,4 @@ pub mod Resting
 pub mod Sparing
 pub mod Behind
 pub mod Replied
+pub mod Served

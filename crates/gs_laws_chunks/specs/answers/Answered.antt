@@ -47,10 +47,10 @@ spares_master (Comes event) = spares event.happening
     spares happening = true
 spares_master (Takes client) = true
 
--- ---- an answer is made
+-- ---- a reply is made
 
--- A message comes to the master by which this is called. The call doesn't wait, and is new to a master that stands: that keeps no reply to this request, or to a later one of its client. And it answers so.
-pub record AnswersNow {D : Type 0} (now : History D) (event : Event) (outcome : Upshot) (req : ReqId) (call : Call) (answer : Answer) : Type 0 where
+-- A message comes to the master by which this is called. The call doesn't wait, and is new to a master that stands: that keeps no reply to this request, or to a later one of its client. And it says this.
+pub record SaysNow {D : Type 0} (now : History D) (event : Event) (outcome : Upshot) (req : ReqId) (call : Call) (result : Result Answer Refusal) : Type 0 where
   pub id : MsgId
   pub message : Message
   pub comes : event.happening ≡ happenings.Deliver id
@@ -64,11 +64,15 @@ pub record AnswersNow {D : Type 0} (now : History D) (event : Event) (outcome : 
   pub new : numbered (last_reply master.state req.client) req.number ≡ New
   pub reply : Message
   pub sent : Contains (sent_by outcome) reply
-  pub says : reply.body ≡ bodies.Reply req (Ok answer)
+  pub says : reply.body ≡ bodies.Reply req result
+
+-- it answers so
+abbrev pub AnswersNow : {D : Type 0} → History D → Event → Upshot → ReqId → Call → Answer → Type 0
+AnswersNow now event outcome req call answer = SaysNow now event outcome req call (Ok answer)
 
 module _ {D : Type 0} (seen : D → List ℕ) (failures : D → ℕ) (armed : DiskId → ℕ → MasterPlace D → MasterPlace D) where
   -- so it is at one of some steps
-  pub record WasAnswered (steps : List Step) (old new : History D) (req : ReqId) (call : Call) (answer : Answer) : Type 0 where
+  pub record WasSaid (steps : List Step) (old new : History D) (req : ReqId) (call : Call) (result : Result Answer Refusal) : Type 0 where
     pub before : List Step
     pub now : History D
     pub event : Event
@@ -79,18 +83,24 @@ module _ {D : Type 0} (seen : D → List ℕ) (failures : D → ℕ) (armed : Di
     pub first : RunsTo seen failures armed before old now
     pub happens : Happens seen failures armed event now said next
     pub rest : RunsTo seen failures armed after next new
-    pub answers : AnswersNow now event happens.outcome req call answer
+    pub answers : SaysNow now event happens.outcome req call result
+
+  abbrev pub WasAnswered : List Step → History D → History D → ReqId → Call → Answer → Type 0
+  WasAnswered steps old new req call answer = WasSaid steps old new req call (Ok answer)
 
   -- a run passes a world where that is the one behind one of its steps
   abbrev pub Passes : (h : History D) (steps : List Step) (old new : History D) → RunsTo seen failures armed steps old new → Type 0
   Passes h [] old new is = ⊥
   Passes h (step ∷ steps) old new (mid, goes, rest) = (h ≡ mid) ⊎ Passes h steps mid new rest
 
-  -- each world on the way to the event of an answer is such, and so is the one behind that event, and each from then on
-  pub record GoesBy (Such : History D → Type 0) (steps : List Step) (old new : History D) (req : ReqId) (call : Call) (answer : Answer) (made : WasAnswered steps old new req call answer) : Type 0 where
+  -- each world on the way to the event of a reply is such, and so is the one behind that event, and each from then on
+  pub record SaidBy (Such : History D → Type 0) (steps : List Step) (old new : History D) (req : ReqId) (call : Call) (result : Result Answer Refusal) (made : WasSaid steps old new req call result) : Type 0 where
     pub first : (h : History D) → Passes h made.before old made.now made.first → Such h
     pub next : Such made.next
     pub rest : (h : History D) → Passes h made.after made.next new made.rest → Such h
+
+  abbrev pub GoesBy : (Such : History D → Type 0) (steps : List Step) (old new : History D) (req : ReqId) (call : Call) (answer : Answer) → WasAnswered steps old new req call answer → Type 0
+  GoesBy Such steps old new req call answer made = SaidBy Such steps old new req call (Ok answer) made
 
   -- ---- what is to hold
 

@@ -23,7 +23,7 @@ use Rattle.gs_shell_grammar.specs.Grammar as lines
 use Rattle.gs_tree.specs.Edits.{chunks_in}
 use Rattle.gs_tree.specs.Entry.{Dir, File}
 use Rattle.gs_tree.specs.Find.{at}
-use Rattle.gs_laws_scripts.specs.explained.Lines.{IsOfStore}
+use Rattle.gs_laws_scripts.specs.explained.Lines.{IsNoLook, IsOfStore}
 use Rattle.gs_laws_scripts.specs.explained.Machine.{Machine, Text, new_machine, new_text, settled_each, text_at, with_rows}
 use Rattle.gs_laws_scripts.specs.explained.Told.{Each, IsExplained, TellsStatus}
 
@@ -45,7 +45,7 @@ module _ (size block : ℕ) (places : ℕ → Path × ℕ) where
   abbrev pub TellsChunk : Machine → Path → ℕ → Result Said Refusal → Type 0
   TellsChunk now p index (Ok (says.Location handle view epoch)) = (places handle ≡ (p, index)) × (index < length (chunks_in (at now.plain.tree p)))
   TellsChunk now p index (Ok said) = ⊥
-  TellsChunk now p index (Err refusal) = IsOfStore refusal ⊎ ((refusal ≡ refusals.Range) × (length (chunks_in (at now.plain.tree p)) ≤ index))
+  TellsChunk now p index (Err refusal) = IsNoLook refusal ⊎ ((refusal ≡ refusals.Range) × (length (chunks_in (at now.plain.tree p)) ≤ index))
 
   -- What a request is answered of what stands: the status of a file, where a chunk is, the digest of a block. The machine stays.
   abbrev pub TellsDigest : Machine → Request → Reply → Machine → Type 0

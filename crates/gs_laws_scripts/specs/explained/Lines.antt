@@ -45,6 +45,10 @@ is_of_store n = (nat_le 10 n && nat_le n 12) || ((nat_le 15 n && nat_le n 22) ||
 abbrev pub IsOfStore : Refusal → Type 0
 IsOfStore refusal = is_of_store (number_of refusal) ≡ true
 
+-- What only looks may be refused so, whatever stands: by the store, or since nobody is sure of it. It has done nothing then.
+abbrev pub IsNoLook : Refusal → Type 0
+IsNoLook refusal = IsOfStore refusal ⊎ (refusal ≡ refusals.Unsure)
+
 -- Either the store refuses, and nothing is done. Or nobody is sure, and this may have happened.
 abbrev pub IsPutOff : {A : Type 0} (MayBe : Machine → Type 0) (old : Machine) → Result A Refusal → Machine → Type 0
 IsPutOff MayBe old result new = (refusal : Refusal) × (result ≡ Err refusal) × ((IsOfStore refusal × (new ≡ old)) ⊎ ((refusal ≡ refusals.Unsure) × MayBe new))
@@ -61,10 +65,10 @@ abbrev pub swept_each : List Path → Machine → Machine
 swept_each [] m = m
 swept_each (p ∷ paths) m = swept_each paths (swept p m)
 
--- A call of which nobody is sure is late, or it is done, or it waits. A scan may also have removed some entries, where a disk failed. A call that only looks is never unsure.
+-- A call of which nobody is sure is late, or it is done, or it waits. A scan may also have removed some entries, where a disk failed. A call that only looks has done nothing.
 abbrev pub MayBeDone : Call → Machine → Machine → Type 0
-MayBeDone (calls.List p) old new = ⊥
-MayBeDone calls.Query old new = ⊥
+MayBeDone (calls.List p) old new = new ≡ old
+MayBeDone calls.Query old new = new ≡ old
 MayBeDone calls.Scan old new = (new ≡ record old { late = old.late ++ calls.Scan ∷ [] }) ⊎ ((new ≡ (called calls.Scan old).1) ⊎ ((paths : List Path) × (new ≡ swept_each paths old)))
 MayBeDone call old new =
     (new ≡ record old { late = old.late ++ call ∷ [] }) ⊎ ((new ≡ overtaking call [] (called call old)) ⊎ ((may_wait call ≡ true) × (new ≡ record old { waiting = old.waiting ++ call ∷ [] })))
@@ -129,11 +133,11 @@ step_of steps.RollbackCommit = calls.RollbackCommit
 
 -- ---- lines of files
 
--- What a line finds at its path, after some of what is owed is paid. Or the store refuses to look, as it does while it rolls back.
+-- What a line finds at its path, after some of what is owed is paid. Or it doesn't come to look: the store refuses, as it does while it rolls back, or nobody is sure.
 abbrev pub OnPath : ℕ → Result Path Refusal → (Path → Option (Entry Text) → Machine → Result Answer Refusal → Machine → Type 0) → Machine → Result Answer Refusal → Machine → Type 0
 OnPath size (Err refusal) Does old answer new = (answer ≡ Err refusal) × (new ≡ old)
 OnPath size (Ok p) Does old answer new = (payments : List Payment) × (now : Machine) × (now ≡ paid_now size payments old)
-    × (((refusal : Refusal) × (answer ≡ Err refusal) × IsOfStore refusal × (new ≡ now)) ⊎ ((is_rolling now.phase ≡ false) × Does p (at now.plain.tree p) now answer new))
+    × (((refusal : Refusal) × (answer ≡ Err refusal) × IsNoLook refusal × (new ≡ now)) ⊎ ((is_rolling now.phase ≡ false) × Does p (at now.plain.tree p) now answer new))
 
 -- the same of a file alone
 abbrev pub OfFile : (Path → List Text → Machine → Result Answer Refusal → Machine → Type 0) → Path → Option (Entry Text) → Machine → Result Answer Refusal → Machine → Type 0

@@ -32,7 +32,7 @@ use Rattle.gs_shell_grammar.specs.Grammar as lines
 use Rattle.gs_tree.specs.Edits.{chunks_in}
 use Rattle.gs_tree.specs.Entry.{Dir, File}
 use Rattle.gs_tree.specs.Find.{at}
-use Rattle.gs_laws_scripts.specs.explained.Lines.{Adds, Edits, IsOfStore, IsSeenFull, Leads, MayBe, done, is_too_long}
+use Rattle.gs_laws_scripts.specs.explained.Lines.{Adds, Edits, IsNoLook, IsOfStore, IsSeenFull, Leads, MayBe, done, is_too_long}
 use Rattle.gs_laws_scripts.specs.explained.Machine.{Machine, Payment, Text, fits, is_preparing, is_rolling, new_machine, new_text, paid_now, settled_each, text_at, with_rows}
 use Rattle.gs_laws_scripts.specs.explained.Machine as machines
 use Rattle.std.proofs.Common.{arith, inl}
@@ -54,7 +54,7 @@ TellsStatus now p (Ok (says.Status statuses.Directory)) = (is_rolling now.phase 
 TellsStatus now p (Ok (says.Status (statuses.File chunks))) =
     (is_rolling now.phase ≡ false) × (texts : List Text) × (at now.plain.tree p ≡ Some (File texts)) × (length chunks ≡ length texts) × (length texts ≤ most_chunks)
 TellsStatus now p (Ok said) = ⊥
-TellsStatus now p (Err refusal) = IsOfStore refusal ⊎ ((refusal ≡ refusals.NotFound) × (is_rolling now.phase ≡ false) × (at now.plain.tree p ≡ None))
+TellsStatus now p (Err refusal) = IsNoLook refusal ⊎ ((refusal ≡ refusals.NotFound) × (is_rolling now.phase ≡ false) × (at now.plain.tree p ≡ None))
 
 -- A chunk is added right after the last one, or is found. Or that is refused, or may be done.
 abbrev pub TellsAdded : ℕ → Machine → Path → ℕ → Result Said Refusal → Machine → Type 0
@@ -114,7 +114,7 @@ module _ (size : ℕ) (places : ℕ → Path × ℕ) where
   abbrev pub TellsPlace : Machine → Path → ℕ → Result Said Refusal → Type 0
   TellsPlace now p index (Ok (says.Location handle view epoch)) = places handle ≡ (p, index)
   TellsPlace now p index (Ok said) = ⊥
-  TellsPlace now p index (Err refusal) = IsOfStore refusal
+  TellsPlace now p index (Err refusal) = IsNoLook refusal
 
   -- One for writing has a primary, and is given while no prepare is under way.
   abbrev pub TellsPrimary : Machine → Path → ℕ → Result Said Refusal → Type 0

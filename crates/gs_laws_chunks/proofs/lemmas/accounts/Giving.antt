@@ -1,4 +1,4 @@
--- What a server gives of a chunk, it gives in answer to a fetch.
+-- What a server gives of a chunk, or refuses to give, it tells in answer to a fetch.
 use Rattle.std.proofs.Common.{◌≡◌, refl, sym, ap, subst, ℕ, Bool, true, false, cond, List, [], ◌∷◌, ◌++◌, map, Option, Some, None, Result, Ok, Err, length}
 use Rattle.std.specs.Prelude.{◌==◌, ◌+◌, flat_map, nat_le, nat_lt}
 use Rattle.std.specs.FinMap as fin
@@ -51,14 +51,18 @@ use Rattle.gs_laws_parts.proofs.lemmas.server.Lists.{all_flat}
 abbrev pub IsFetchOf : Body → ReqId → Type 0
 IsFetchOf body req = (chunk : ℕ) × (stamp : Stamp) × (epoch : ℕ) × (asked : Asked) × (body ≡ bodies.About chunk (chunks.Fetch req stamp epoch asked))
 
--- if something is given, this holds of its request
-abbrev pub GivesIf : (ReqId → Type 0) → Body → Type 0
-GivesIf P (bodies.Bytes req (Ok given)) = P req
-GivesIf P body = Unit {0}
+-- if something is given, this holds of its request; and that if it is refused
+abbrev pub GivesOr : (P Q : ReqId → Type 0) → Body → Type 0
+GivesOr P Q (bodies.Bytes req (Ok given)) = P req
+GivesOr P Q (bodies.Bytes req (Err refusal)) = Q req
+GivesOr P Q body = Unit {0}
 
-module _ (P : ReqId → Type 0) (h : Here) where
+abbrev pub GivesIf : (ReqId → Type 0) → Body → Type 0
+GivesIf P body = GivesOr P (λ req. Unit {0}) body
+
+module _ (P Q : ReqId → Type 0) (h : Here) where
   abbrev AreFetched : List Message → Type 0
-  AreFetched messages = AllByRecursion (λ (m : Message). GivesIf P m.body) messages
+  AreFetched messages = AllByRecursion (λ (m : Message). GivesOr P Q m.body) messages
 
   both_sent : (xs ys : List Message) → AreFetched xs → AreFetched ys → AreFetched (xs ++ ys)
   both_sent [] ys first second = second
@@ -139,9 +143,9 @@ module _ (P : ReqId → Type 0) (h : Here) where
         either_sent (wants_bytes e) (supplies h.me h.handle server l) []
         (either_sent (list_any (λ member. member == server) l.grant.members) (with_bytes h.me h.handle l server found) [] (supplied l server found) tt) tt
 
-    gives_says : (req : ReqId) (m : Result Given Refusal) → P req → Says (fetching.gives h p req m)
-    gives_says req (Ok found) fetched = (fetched, tt)
-    gives_says req (Err e) fetched = (tt, bad_sent p.slot (damaged_block e))
+    gives_says : (req : ReqId) (m : Result Given Refusal) → P req → Q req → Says (fetching.gives h p req m)
+    gives_says req (Ok found) fetched refused = (fetched, tt)
+    gives_says req (Err e) fetched refused = (refused, bad_sent p.slot (damaged_block e))
 
     from_says : (from : NodeId) (part : ℕ → Part) → ((server : ℕ) → Says (part server)) → Says (from_server from part)
     from_says (nodes.Server server) part each = each server
@@ -201,7 +205,7 @@ module _ (P : ReqId → Type 0) (h : Here) where
         (taken_says from stamp number op (apply stamp number req (in_replica op) (bytes_or_none bytes) p.slot)))
 
     -- any message
-    chunk_gives : (from : NodeId) (chunk : Chunk) → ((req : ReqId) (stamp : Stamp) (epoch : ℕ) (asked : Asked) → chunk ≡ chunks.Fetch req stamp epoch asked → P req) → Says (about_chunk h p from chunk)
+    chunk_gives : (from : NodeId) (chunk : Chunk) → ((req : ReqId) (stamp : Stamp) (epoch : ℕ) (asked : Asked) → chunk ≡ chunks.Fetch req stamp epoch asked → P req × Q req) → Says (about_chunk h p from chunk)
     chunk_gives from (chunks.Create stamp) fetches =
         or_says (other_epoch h stamp.epoch) (messages.unpromised h p stamp) (messages.promises h p stamp (slots.create h.block h.chunk stamp p.slot)) (unpromised_says stamp) (promises_says stamp (slots.create h.block h.chunk stamp p.slot))
     chunk_gives from (chunks.Advance stamp) fetches =
@@ -224,7 +228,8 @@ module _ (P : ReqId → Type 0) (h : Here) where
     chunk_gives from (chunks.Nack stamp refusal) fetches = from_says from (λ server. holding.nack h p server stamp refusal) (λ server.
         or_says (unless_leased stamp p.slot p.lease) unanswered (supplies_to h refusal server p.lease) (λ e. tt) (supplies_says refusal server p.lease))
     chunk_gives from (chunks.Fetch req stamp epoch asked) fetches =
-        or_says (other_epoch h epoch) (fetching.refuses h p req) (fetching.gives h p req (fetching.given stamp asked p.slot)) (λ e. (tt, bad_sent p.slot (damaged_block e))) (gives_says req (fetching.given stamp asked p.slot) (fetches req stamp epoch asked refl))
+        or_says (other_epoch h epoch) (fetching.refuses h p req) (fetching.gives h p req (fetching.given stamp asked p.slot)) (λ e. ((fetches req stamp epoch asked refl).1, bad_sent p.slot (damaged_block e)))
+        (gives_says req (fetching.given stamp asked p.slot) (fetches req stamp epoch asked refl).0 (fetches req stamp epoch asked refl).1)
     chunk_gives from (chunks.CopyOut stamp target with_sealed) fetches =
         or_says (other_epoch h stamp.epoch) (messages.unpromised h p stamp) (messages.sends_copy h p stamp target (moves.copy_out stamp with_sealed p.slot)) (unpromised_says stamp) (sends_says stamp target (moves.copy_out stamp with_sealed p.slot))
     chunk_gives from (chunks.CopyIn stamp image sealed) fetches =
@@ -238,44 +243,71 @@ module _ (P : ReqId → Type 0) (h : Here) where
 
 -- ---- a server
 
-module _ (P : ReqId → Type 0) where
-  copy_gives : (h new : Here) (source target : Place) (stamp : Stamp) (o : Option Refusal) (m : Result Slot Refusal) → AllByRecursion (λ (m : Message). GivesIf P m.body) (messages.or_copy o (messages.not_copied h source new stamp) (messages.copies h source new target stamp m)).target.sent
-  copy_gives h new source target stamp (Some e) m = (tt, bad_sent P h source.slot (damaged_block e))
-  copy_gives h new source target stamp None (Err e) = (tt, bad_sent P h source.slot (damaged_block e))
+module _ (P Q : ReqId → Type 0) where
+  copy_gives : (h new : Here) (source target : Place) (stamp : Stamp) (o : Option Refusal) (m : Result Slot Refusal) → AllByRecursion (λ (m : Message). GivesOr P Q m.body) (messages.or_copy o (messages.not_copied h source new stamp) (messages.copies h source new target stamp m)).target.sent
+  copy_gives h new source target stamp (Some e) m = (tt, bad_sent P Q h source.slot (damaged_block e))
+  copy_gives h new source target stamp None (Err e) = (tt, bad_sent P Q h source.slot (damaged_block e))
   copy_gives h new source target stamp None (Ok s) = (tt, tt)
 
-  learn_gives : (s : Server) (epoch : ℕ) (end : EpochEnd) → AllByRecursion (λ (m : Message). GivesIf P m.body) (servers.learn s epoch end).sent
+  learn_gives : (s : Server) (epoch : ℕ) (end : EpochEnd) → AllByRecursion (λ (m : Message). GivesOr P Q m.body) (servers.learn s epoch end).sent
   learn_gives s epoch end = by_case (epoch == s.kept.epoch) (epoch == s.kept.epoch + 1)
     where
-      by_case : (a b : Bool) → AllByRecursion (λ (m : Message). GivesIf P m.body) (cond a (learned s epoch end s) (cond b (learned s epoch end (with_leases (leases_after end s.dropped.leases) (with_store (stores.learned epoch end (store_of s)) s)))
+      by_case : (a b : Bool) → AllByRecursion (λ (m : Message). GivesOr P Q m.body) (cond a (learned s epoch end s) (cond b (learned s epoch end (with_leases (leases_after end s.dropped.leases) (with_store (stores.learned epoch end (store_of s)) s)))
           (record { after = s; sent = tell s.me nodes.Master (bodies.Behind s.kept.epoch) ∷ []; said = Some (refusals.Epoch s.kept.epoch) }))).sent
       by_case true b = (tt, tt)
       by_case false true = (tt, tt)
       by_case false false = (tt, tt)
 
-  pub tick_gives : (s : Server) (moment : Moment) → AllByRecursion (λ (m : Message). GivesIf P m.body) (servers.tick s moment).sent
-  tick_gives s moment = all_flat (λ (m : Message). GivesIf P m.body) (λ (e : ℕ × PrimaryLease). cond (is_over moment e.1) [] (reminds s.me e.0 e.1)) (fin.entries s.dropped.leases) (λ e there. by_case e (is_over moment e.1))
+  pub ticks_give : (s : Server) (moment : Moment) → AllByRecursion (λ (m : Message). GivesOr P Q m.body) (servers.tick s moment).sent
+  ticks_give s moment = all_flat (λ (m : Message). GivesOr P Q m.body) (λ (e : ℕ × PrimaryLease). cond (is_over moment e.1) [] (reminds s.me e.0 e.1)) (fin.entries s.dropped.leases) (λ e there. by_case e (is_over moment e.1))
     where
-      by_case : (e : ℕ × PrimaryLease) (b : Bool) → AllByRecursion (λ (m : Message). GivesIf P m.body) (cond b [] (reminds s.me e.0 e.1))
+      by_case : (e : ℕ × PrimaryLease) (b : Bool) → AllByRecursion (λ (m : Message). GivesOr P Q m.body) (cond b [] (reminds s.me e.0 e.1))
       by_case e true = tt
-      by_case e false = reminds_sent P (here_of s moment e.0 None) e.1 e.1.outbox
+      by_case e false = reminds_sent P Q (here_of s moment e.0 None) e.1 e.1.outbox
 
 -- whatever it hears
-pub handled_gives : (s : Server) (from : NodeId) (body : Body) (moment : Moment) → AllByRecursion (λ (m : Message). GivesIf (IsFetchOf body) m.body) (handle_body s from body moment).sent
-handled_gives s from (bodies.About handle said) moment =
-    chunk_gives (IsFetchOf (bodies.About handle said)) (here_of s moment handle (request_in said)) (place_of handle s) from said (λ req stamp epoch asked is. (handle, stamp, epoch, asked, ap (bodies.About handle) is))
-handled_gives s from (bodies.Push req bytes) moment = tt
-handled_gives s from (bodies.MakeCopy handle at new_handle stamp) moment =
+pub handled_tells : (s : Server) (from : NodeId) (body : Body) (moment : Moment) → AllByRecursion (λ (m : Message). GivesOr (IsFetchOf body) (IsFetchOf body) m.body) (handle_body s from body moment).sent
+handled_tells s from (bodies.About handle said) moment =
+    chunk_gives (IsFetchOf (bodies.About handle said)) (IsFetchOf (bodies.About handle said)) (here_of s moment handle (request_in said)) (place_of handle s) from said
+    (λ req stamp epoch asked is. ((handle, stamp, epoch, asked, ap (bodies.About handle) is), (handle, stamp, epoch, asked, ap (bodies.About handle) is)))
+handled_tells s from (bodies.Push req bytes) moment = tt
+handled_tells s from (bodies.MakeCopy handle at new_handle stamp) moment =
     let h : Here = here_of s moment handle None in
-    copy_gives (IsFetchOf (bodies.MakeCopy handle at new_handle stamp)) h (here_of s moment new_handle None) (place_of handle s) (place_of new_handle s) stamp (other_epoch h stamp.epoch) (moves.make_copy at stamp (place_of handle s).slot (place_of new_handle s).slot)
-handled_gives s from (bodies.Epoch epoch end) moment = learn_gives (IsFetchOf (bodies.Epoch epoch end)) s epoch end
-handled_gives s from (bodies.Call req call) moment = tt
-handled_gives s from (bodies.Reply req result) moment = tt
-handled_gives s from (bodies.Done req result) moment = tt
-handled_gives s from (bodies.Bytes req result) moment = tt
-handled_gives s from (bodies.Report epoch replicas) moment = tt
-handled_gives s from (bodies.Learned epoch handles) moment = tt
-handled_gives s from (bodies.Behind epoch) moment = tt
+    let Of : ReqId → Type 0 = IsFetchOf (bodies.MakeCopy handle at new_handle stamp) in
+    copy_gives Of Of h (here_of s moment new_handle None) (place_of handle s) (place_of new_handle s) stamp (other_epoch h stamp.epoch) (moves.make_copy at stamp (place_of handle s).slot (place_of new_handle s).slot)
+handled_tells s from (bodies.Epoch epoch end) moment = learn_gives (IsFetchOf (bodies.Epoch epoch end)) (IsFetchOf (bodies.Epoch epoch end)) s epoch end
+handled_tells s from (bodies.Call req call) moment = tt
+handled_tells s from (bodies.Reply req result) moment = tt
+handled_tells s from (bodies.Done req result) moment = tt
+handled_tells s from (bodies.Bytes req result) moment = tt
+handled_tells s from (bodies.Report epoch replicas) moment = tt
+handled_tells s from (bodies.Learned epoch handles) moment = tt
+handled_tells s from (bodies.Behind epoch) moment = tt
+
+-- of what is given alone
+given_alone : (P Q : ReqId → Type 0) (body : Body) → GivesOr P Q body → GivesIf P body
+given_alone P Q (bodies.Bytes req (Ok given)) gives = gives
+given_alone P Q (bodies.Bytes req (Err refusal)) gives = tt
+given_alone P Q (bodies.About handle said) gives = tt
+given_alone P Q (bodies.Push req bytes) gives = tt
+given_alone P Q (bodies.MakeCopy handle at new_handle stamp) gives = tt
+given_alone P Q (bodies.Epoch epoch end) gives = tt
+given_alone P Q (bodies.Call req call) gives = tt
+given_alone P Q (bodies.Reply req result) gives = tt
+given_alone P Q (bodies.Done req result) gives = tt
+given_alone P Q (bodies.Report epoch replicas) gives = tt
+given_alone P Q (bodies.Learned epoch handles) gives = tt
+given_alone P Q (bodies.Behind epoch) gives = tt
+
+all_given_alone : (P Q : ReqId → Type 0) (messages : List Message) → AllByRecursion (λ (m : Message). GivesOr P Q m.body) messages → AllByRecursion (λ (m : Message). GivesIf P m.body) messages
+all_given_alone P Q [] all = tt
+all_given_alone P Q (m ∷ messages) all = (given_alone P Q m.body all.0, all_given_alone P Q messages all.1)
+
+pub handled_gives : (s : Server) (from : NodeId) (body : Body) (moment : Moment) → AllByRecursion (λ (m : Message). GivesIf (IsFetchOf body) m.body) (handle_body s from body moment).sent
+handled_gives s from body moment = all_given_alone (IsFetchOf body) (IsFetchOf body) (handle_body s from body moment).sent (handled_tells s from body moment)
+
+pub tick_gives : (P : ReqId → Type 0) (s : Server) (moment : Moment) → AllByRecursion (λ (m : Message). GivesIf P m.body) (servers.tick s moment).sent
+tick_gives P s moment = ticks_give P (λ req. Unit {0}) s moment
 
 -- ---- a server that has no replica
 
@@ -290,6 +322,6 @@ pub without_none : (s : Server) (from : NodeId) (chunk : ℕ) (req : ReqId) (sta
 without_none s from chunk req stamp epoch asked moment none =
     let h : Here = here_of s moment chunk (Some req) in
     let p : Place = place_of chunk s in
-    let refused : (e : Refusal) → Says (λ req. ⊥) h (fetching.refuses h p req e) = λ e. (tt, bad_sent (λ req. ⊥) h p.slot (damaged_block e)) in
-    or_says (λ req. ⊥) h (other_epoch h epoch) (fetching.refuses h p req) (fetching.gives h p req (fetching.given stamp asked p.slot)) refused
-    (subst (λ r. Says (λ req. ⊥) h (fetching.gives h p req r)) (sym (none_given stamp asked p.slot none)) (refused refusals.NoReplica))
+    let refused : (e : Refusal) → Says (λ req. ⊥) (λ req. Unit {0}) h (fetching.refuses h p req e) = λ e. (tt, bad_sent (λ req. ⊥) (λ req. Unit {0}) h p.slot (damaged_block e)) in
+    or_says (λ req. ⊥) (λ req. Unit {0}) h (other_epoch h epoch) (fetching.refuses h p req) (fetching.gives h p req (fetching.given stamp asked p.slot)) refused
+    (subst (λ r. Says (λ req. ⊥) (λ req. Unit {0}) h (fetching.gives h p req r)) (sym (none_given stamp asked p.slot none)) (refused refusals.NoReplica))

@@ -1,4 +1,4 @@
--- An answer that a client gets was made for its call, since it asked.
+-- A reply that a client gets was made for its call, since it asked.
 use Rattle.std.proofs.Common.{if◌then◌else◌, ◌≡◌, ◌∙◌, ◌⊎◌, inl, inr, ◌-◌, ◌<◌, ◌≤◌, ◌==◌, ◌++◌, append_assoc, ℕ, zero, suc, Bool, true, false, cond, List, [], ◌∷◌, length, Option, Some, None, MatchOption, Result, Ok, Err, refl, sym, ap, subst, arith, nat_le, slice_get, slice_set}
 use Rattle.std.specs.Prelude.{Contains, nat_lt, take}
 use Rattle.std.specs.FinMap as fin
@@ -34,7 +34,7 @@ use Rattle.gs_master_spec.specs.Durable.{Durable}
 use Rattle.gs_master_spec.specs.Handling.{Again, New, Numbered, Older, call_turn, from_node, handle, new_call, numbered, replied_again, taken_as, tick, waits_still}
 use Rattle.gs_master_spec.specs.Outcomes.{IsCut, IsDone, caller_of, cut, unsure}
 use Rattle.gs_master_spec.specs.Replies.{client_cmp, later}
-use Rattle.gs_master_spec.specs.State.{State, Turn, is_failed, is_unopened, last_reply, reply_to, unmoved}
+use Rattle.gs_master_spec.specs.State.{State, Turn, is_failed, is_unopened, last_reply, unmoved}
 use Rattle.gs_master_spec.specs.Volatile.{Volatile, is_pending}
 use Rattle.gs_master_spec.specs.declared.reply.KeptReply.{KeptReply}
 use Rattle.gs_laws_moves.specs.answers.AtOnce.{AnswersAlone, KeepsBut, OneSays, SaysAlone, is_answered_at_once}
@@ -60,9 +60,11 @@ use Rattle.gs_world.specs.Runs.{Comes, Goes, RunsTo, Step, Takes}
 use Rattle.gs_world.specs.Sent.{Sent}
 use Rattle.gs_laws_lift.proofs.lemmas.stores.Posting.{posted_all, sent_then}
 use Rattle.gs_laws_lift.specs.stores.Going.{AllSent, Posts}
-use Rattle.gs_laws_chunks.specs.answers.Answered.{AnswersAreMade, AnswersNow, AsksFresh, GoesBy, Passes, WasAnswered, sent_by, spares_master}
+use Rattle.gs_laws_chunks.specs.answers.Answered.{AnswersAreMade, AsksFresh, Passes, SaidBy, SaysNow, WasSaid, sent_by, spares_master}
 use Rattle.gs_laws_chunks.specs.answers.Asked.{AreAsked, HasAsked, KeepsOfAt, SaysOf}
 use Rattle.gs_client.specs.Nodes.{pushes, with_bytes}
+use Rattle.gs_msg.specs.declared.body.Given.{Given as Part_given}
+use Rattle.gs_replica.specs.declared.op.EditOutcome.{EditOutcome}
 use Rattle.gs_laws_chunks.proofs.lemmas.answers.Asked.{AllSaid, Numbered_all, found_now, Waits, hearing_same, hears_left, lacking_only, own_id, request_said, servers_said, still_numbered, ticks_left}
 use Rattle.gs_laws_chunks.proofs.lemmas.answers.Parts.{Armed, Asked, Heard, Opened, Part, Rested, Served, Ticked, Told, asking, hearing, part_of, with_client}
 
@@ -95,39 +97,53 @@ one_there req result (m ∷ messages) (inr one) = (let found = one_there req res
 
 -- ---- a request
 
+-- the refusals that the master tells without a turn of the call's own
+abbrev pub IsAnyway : (Result Answer Refusal → Type 0) → Type 0
+IsAnyway Made = Made (Err refusals.Old) × Made (Err refusals.Device) × Made (Err refusals.Unsure)
+
+-- it is such a refusal
+abbrev pub SparedIn : (Refusal → Type 0) → Result Answer Refusal → Type 0
+SparedIn Spared (Ok answer) = ⊥
+SparedIn Spared (Err refusal) = Spared refusal
+
+-- a server refuses nothing to this request, unless this is given
+abbrev pub RefusesIf : ReqId → Type 0 → Body → Type 0
+RefusesIf req Given (bodies.Done other (Err refusal)) = other ≡ req → Given
+RefusesIf req Given (bodies.Bytes other (Err refusal)) = other ≡ req → Given
+RefusesIf req Given body = Unit {0}
+
 module _ (req : ReqId) (call : Call) where
   -- what is said to this request, and called under it
-  abbrev pub Says : (Answer → Type 0) → Body → Type 0
-  Says Made (bodies.Reply other (Ok answer)) = other ≡ req → Made answer
+  abbrev pub Says : (Result Answer Refusal → Type 0) → Body → Type 0
+  Says Made (bodies.Reply other result) = other ≡ req → Made result
   Says Made (bodies.Call other calls) = other ≡ req → calls ≡ call
   Says Made body = Unit {0}
 
   -- a reply to it that is kept
-  abbrev KeptSo : (Answer → Type 0) → fin.FinMap client_cmp KeptReply → Type 0
-  KeptSo Made replies = (reply : KeptReply) (answer : Answer) → fin.get replies req.client ≡ Some reply → reply.number ≡ req.number → reply.result ≡ Ok answer → Made answer
+  abbrev KeptSo : (Result Answer Refusal → Type 0) → fin.FinMap client_cmp KeptReply → Type 0
+  KeptSo Made replies = (reply : KeptReply) → fin.get replies req.client ≡ Some reply → reply.number ≡ req.number → Made reply.result
 
-  pub record StateSo (Made : Answer → Type 0) (s : State) : Type 0 where
+  pub record StateSo (Made : Result Answer Refusal → Type 0) (s : State) : Type 0 where
     pub durable : KeptSo Made s.durable.replies
     pub memory : KeptSo Made s.volatile.replies
     pub waits : is_pending s.volatile.pending req ≡ true → ⊥
 
-  abbrev pub PlaceSo : {D : Type 0} → (Answer → Type 0) → MasterPlace D → Type 0
+  abbrev pub PlaceSo : {D : Type 0} → (Result Answer Refusal → Type 0) → MasterPlace D → Type 0
   PlaceSo Made (Standing m) = StateSo Made m.state
   PlaceSo Made place = Unit {0}
 
-  -- what its client has
-  abbrev pub NodeSo : (Answer → Type 0) → Node → Type 0
-  NodeSo Made n = (answer : Answer) → n.last ≡ req.number → n.reply ≡ Some (replies.Answer answer) → Made answer
+  -- what its client has: an answer, or a refusal
+  abbrev pub NodeSo : (Result Answer Refusal → Type 0) → Node → Type 0
+  NodeSo Made n = (result : Result Answer Refusal) → n.last ≡ req.number → n.reply ≡ Some (answered replies.Answer result) → Made result
 
-  abbrev pub ClientSo : (Answer → Type 0) → List Node → Type 0
+  abbrev pub ClientSo : (Result Answer Refusal → Type 0) → List Node → Type 0
   ClientSo Made clients = (n : Node) → client_in clients req.client ≡ Some n → NodeSo Made n
 
-  abbrev AllSays : (Answer → Type 0) → List Message → Type 0
+  abbrev AllSays : (Result Answer Refusal → Type 0) → List Message → Type 0
   AllSays Made messages = AllByRecursion (λ (m : Message). Says Made m.body) messages
 
-  says_more : (Made Then : Answer → Type 0) → ((answer : Answer) → Made answer → Then answer) → (body : Body) → Says Made body → Says Then body
-  says_more Made Then more (bodies.Reply other (Ok answer)) says = λ is. more answer (says is)
-  says_more Made Then more (bodies.Reply other (Err refusal)) says = tt
+  says_more : (Made Then : Result Answer Refusal → Type 0) → ((result : Result Answer Refusal) → Made result → Then result) → (body : Body) → Says Made body → Says Then body
+  says_more Made Then more (bodies.Reply other result) says = λ is. more result (says is)
   says_more Made Then more (bodies.Call other calls) says = says
   says_more Made Then more (bodies.About chunk said) says = tt
   says_more Made Then more (bodies.Push other bytes) says = tt
@@ -139,7 +155,7 @@ module _ (req : ReqId) (call : Call) where
   says_more Made Then more (bodies.Learned epoch handles) says = tt
   says_more Made Then more (bodies.Behind epoch) says = tt
 
-  server_says : (Made : Answer → Type 0) (body : Body) → IsByServer body → Says Made body
+  server_says : (Made : Result Answer Refusal → Type 0) (body : Body) → IsByServer body → Says Made body
   server_says Made (bodies.Reply other result) by = absurd by
   server_says Made (bodies.Call other calls) by = absurd by
   server_says Made (bodies.About chunk said) by = tt
@@ -154,9 +170,8 @@ module _ (req : ReqId) (call : Call) where
 
   -- ---- a turn that answers others
 
-  other_says : (Made : Answer → Type 0) (P : ReqId → Type 0) → ((other : ReqId) → P other → other ≡ req → ⊥) → (body : Body) → RepliesTo P body → Says Made body
-  other_says Made P apart (bodies.Reply other (Ok answer)) is = λ same. absurd (apart other is same)
-  other_says Made P apart (bodies.Reply other (Err refusal)) is = tt
+  other_says : (Made : Result Answer Refusal → Type 0) (P : ReqId → Type 0) → ((other : ReqId) → P other → other ≡ req → ⊥) → (body : Body) → RepliesTo P body → Says Made body
+  other_says Made P apart (bodies.Reply other result) is = λ same. absurd (apart other is same)
   other_says Made P apart (bodies.Call other calls) is = absurd is
   other_says Made P apart (bodies.About chunk said) is = tt
   other_says Made P apart (bodies.Push other bytes) is = tt
@@ -168,15 +183,15 @@ module _ (req : ReqId) (call : Call) where
   other_says Made P apart (bodies.Learned epoch handles) is = tt
   other_says Made P apart (bodies.Behind epoch) is = tt
 
-  module _ (Made : Answer → Type 0) where
+  module _ (Made : Result Answer Refusal → Type 0) where
     request_is : (reply : KeptReply) → reply.number ≡ req.number → answered_by req.client reply ≡ req
     request_is reply same = λ i. record { client = req.client; number = same i }
 
     other_kept : (P : ReqId → Type 0) → ((other : ReqId) → P other → other ≡ req → ⊥) → (old new : fin.FinMap client_cmp KeptReply) → KeepsOn P old new → KeptSo Made old → KeptSo Made new
-    other_kept P apart old new on kept reply answer has number is = by (on req.client reply has)
+    other_kept P apart old new on kept reply has number = by (on req.client reply has)
       where
-        by : (fin.get old req.client ≡ Some reply) ⊎ P (answered_by req.client reply) → Made answer
-        by (inl before) = kept reply answer before number is
+        by : (fin.get old req.client ≡ Some reply) ⊎ P (answered_by req.client reply) → Made reply.result
+        by (inl before) = kept reply before number
         by (inr p) = absurd (apart (answered_by req.client reply) p (request_is reply number))
 
     -- no call of this request comes, and it doesn't wait
@@ -194,7 +209,7 @@ module _ (req : ReqId) (call : Call) where
     cut_memory : (s : State) (xs : List PlainEntry) (place : ℕ) → StateSo Made s → KeptSo Made (cut s xs place).durable.replies → StateSo Made (cut s xs place)
     cut_memory s xs place so durable = (let same = volatile_still (take place xs) s in record {
       durable = durable;
-      memory = λ reply answer has. so.memory reply answer (ap (λ (v : Volatile). fin.get v.replies req.client) (sym same) ∙ has);
+      memory = λ reply has. so.memory reply (ap (λ (v : Volatile). fin.get v.replies req.client) (sym same) ∙ has);
       waits = λ there. so.waits (ap (λ (v : Volatile). is_pending v.pending req) (sym same) ∙ there);
     })
 
@@ -202,24 +217,24 @@ module _ (req : ReqId) (call : Call) where
     other_cut s caller t place within only so other_calls =
         cut_memory s t.records place so (other_kept (IsConcerned s caller) (apart_from s caller so.waits other_calls) s.durable.replies (cut s t.records place).durable.replies (only.cuts place within) so.durable)
 
-    unsure_says : (caller : Option ReqId) → AllSays Made (unsure caller)
-    unsure_says None = tt
-    unsure_says (Some other) = (tt, tt)
+    unsure_says : Made (Err refusals.Unsure) → (caller : Option ReqId) → AllSays Made (unsure caller)
+    unsure_says so None = tt
+    unsure_says so (Some other) = ((λ same. so), tt)
 
-    refusal_says : (caller : Option ReqId) → AllSays Made (refusal_of_call caller)
-    refusal_says None = tt
-    refusal_says (Some other) = (tt, tt)
+    refusal_says : Made (Err refusals.Device) → (caller : Option ReqId) → AllSays Made (refusal_of_call caller)
+    refusal_says so None = tt
+    refusal_says so (Some other) = ((λ same. so), tt)
 
     only_says : (s : State) (caller : Option ReqId) (t : Turn) → AnswersOnly (IsConcerned s caller) s t → StateSo Made s → (caller ≡ Some req → ⊥) → AllSays Made t.sent
     only_says s caller t only so other_calls = all_one _ (λ (m : Message). Says Made m.body) t.sent (λ m is. other_says Made (IsConcerned s caller) (apart_from s caller so.waits other_calls) m.body is) only.sent
 
   -- ---- its own call
 
-  module _ (Made Then : Answer → Type 0) (more : (answer : Answer) → Made answer → Then answer) where
+  module _ (Made Then : Result Answer Refusal → Type 0) (more : (result : Result Answer Refusal) → Made result → Then result) where
     state_more : (s : State) → StateSo Made s → StateSo Then s
     state_more s so = record {
-      durable = λ reply answer has number is. more answer (so.durable reply answer has number is);
-      memory = λ reply answer has number is. more answer (so.memory reply answer has number is);
+      durable = λ reply has number. more reply.result (so.durable reply has number);
+      memory = λ reply has number. more reply.result (so.memory reply has number);
       waits = so.waits;
     }
 
@@ -228,32 +243,24 @@ module _ (req : ReqId) (call : Call) where
     place_more (Closed first second) so = tt
     place_more Away so = tt
 
-    -- where this turn sends an answer to it, that is so
+    -- where this turn sends a reply to it, that is so
     abbrev Now : State → Turn → Type 0
-    Now s t = is_pending s.volatile.pending req ≡ false → numbered (last_reply s req.client) req.number ≡ New → (answer : Answer) (m : Message) → Contains t.sent m → m.body ≡ bodies.Reply req (Ok answer) → Then answer
+    Now s t = is_pending s.volatile.pending req ≡ false → numbered (last_reply s req.client) req.number ≡ New → (result : Result Answer Refusal) (m : Message) → Contains t.sent m → m.body ≡ bodies.Reply req result → Then result
 
     abbrev Own : State → Turn → Type 0
     Own s t = StateSo Then t.after × AllSays Then t.sent
 
     -- one reply
-    reply_says : (result : Result Answer Refusal) → ((answer : Answer) → result ≡ Ok answer → Then answer) → AllSays Then (reply_to req result ∷ [])
-    reply_says (Ok answer) so = (λ same. so answer refl, tt)
-    reply_says (Err refusal) so = (tt, tt)
-
-    replied : (s : State) (result : Result Answer Refusal) → StateSo Made s → ((answer : Answer) → result ≡ Ok answer → Then answer) → Own s (replied_again s req result)
-    replied s result so is = (state_more s so, reply_says result is)
-
-    never : (refusal : Refusal) (answer : Answer) → ◌≡◌ {A = Result Answer Refusal} (Err refusal) (Ok answer) → Then answer
-    never refusal answer is = absurd cc
+    replied : (s : State) (result : Result Answer Refusal) → StateSo Made s → Then result → Own s (replied_again s req result)
+    replied s result so is = (state_more s so, ((λ same. is), tt))
 
     -- a new call
-    alone_says : (result : Result Answer Refusal) (all : List Message) → ((answer : Answer) (m : Message) → Contains all m → m.body ≡ bodies.Reply req (Ok answer) → Then answer)
+    alone_says : (result : Result Answer Refusal) (all : List Message) → ((said : Result Answer Refusal) (m : Message) → Contains all m → m.body ≡ bodies.Reply req said → Then said)
         → (m : Message) → Contains all m → SaysAlone req result m.body → Says Then m.body
     alone_says result all now m there alone = by_body m.body refl alone
       where
         by_body : (body : Body) → m.body ≡ body → SaysAlone req result body → Says Then body
-        by_body (bodies.Reply other (Ok answer)) is alone = λ same. now answer m there (is ∙ ap (λ r. bodies.Reply r (Ok answer)) same)
-        by_body (bodies.Reply other (Err refusal)) is alone = tt
+        by_body (bodies.Reply other said) is alone = λ same. now said m there (is ∙ ap (λ r. bodies.Reply r said) same)
         by_body (bodies.Call other calls) is alone = absurd alone
         by_body (bodies.About chunk said) is alone = tt
         by_body (bodies.Push other bytes) is alone = tt
@@ -265,15 +272,15 @@ module _ (req : ReqId) (call : Call) where
         by_body (bodies.Learned epoch handles) is alone = tt
         by_body (bodies.Behind epoch) is alone = tt
 
-    alone_kept : (result : Result Answer Refusal) (all : List Message) → OneSays req result all → ((answer : Answer) (m : Message) → Contains all m → m.body ≡ bodies.Reply req (Ok answer) → Then answer)
+    alone_kept : (result : Result Answer Refusal) (all : List Message) → OneSays req result all → ((said : Result Answer Refusal) (m : Message) → Contains all m → m.body ≡ bodies.Reply req said → Then said)
         → (old new : fin.FinMap client_cmp KeptReply) → KeepsBut req result old new → KeptSo Made old → KeptSo Then new
-    alone_kept result all one now old new but kept reply answer has number is = by (but req.client reply has)
+    alone_kept result all one now old new but kept reply has number = by (but req.client reply has)
       where
-        by : (fin.get old req.client ≡ Some reply) ⊎ ((answered_by req.client reply ≡ req) × (reply.result ≡ result)) → Then answer
-        by (inl before) = more answer (kept reply answer before number is)
-        by (inr own) = (let found = one_there req result all one in now answer found.0 found.1 (found.2 ∙ ap (λ r. bodies.Reply req r) (sym own.1 ∙ is)))
+        by : (fin.get old req.client ≡ Some reply) ⊎ ((answered_by req.client reply ≡ req) × (reply.result ≡ result)) → Then reply.result
+        by (inl before) = more reply.result (kept reply before number)
+        by (inr own) = (let found = one_there req result all one in now reply.result found.0 found.1 (found.2 ∙ ap (λ r. bodies.Reply req r) (sym own.1)))
 
-    alone_own : (result : Result Answer Refusal) (s : State) (t : Turn) → AnswersAlone req result s t → StateSo Made s → ((answer : Answer) (m : Message) → Contains t.sent m → m.body ≡ bodies.Reply req (Ok answer) → Then answer) → Own s t
+    alone_own : (result : Result Answer Refusal) (s : State) (t : Turn) → AnswersAlone req result s t → StateSo Made s → ((said : Result Answer Refusal) (m : Message) → Contains t.sent m → m.body ≡ bodies.Reply req said → Then said) → Own s t
     alone_own result s t alone so now = (
       record {
         durable = alone_kept result t.sent alone.says now s.durable.replies t.after.durable.replies alone.durable so.durable;
@@ -284,8 +291,8 @@ module _ (req : ReqId) (call : Call) where
     )
 
     -- the last reply to its client is one that is kept
-    again_kept : (s : State) (result : Result Answer Refusal) → StateSo Made s → numbered (last_reply s req.client) req.number ≡ Again result → (answer : Answer) → result ≡ Ok answer → Then answer
-    again_kept s result so is answer ok = by_replies (fin.get s.durable.replies req.client) (fin.get s.volatile.replies req.client) refl refl is
+    again_kept : (s : State) (result : Result Answer Refusal) → StateSo Made s → numbered (last_reply s req.client) req.number ≡ Again result → Then result
+    again_kept s result so is = by_replies (fin.get s.durable.replies req.client) (fin.get s.volatile.replies req.client) refl refl is
       where
         result_is : {a b : Result Answer Refusal} → Again a ≡ Again b → a ≡ b
         result_is is = cc
@@ -293,208 +300,209 @@ module _ (req : ReqId) (call : Call) where
         same_number : (a b : ℕ) → (a == b) ≡ true → a ≡ b
         same_number a b is = grind (arith, nat_tests)
 
-        no_answer : (b : Bool) → (if b then Older else New) ≡ Again result → Then answer
+        no_answer : (b : Bool) → (if b then Older else New) ≡ Again result → Then result
         no_answer true h = absurd cc
         no_answer false h = absurd cc
 
-        by_number : (b : Bool) (reply : KeptReply) → (reply.number == req.number) ≡ b → (reply.number ≡ req.number → reply.result ≡ Ok answer → Made answer) → (if b then Again reply.result else if nat_lt req.number reply.number then Older else New) ≡ Again result → Then answer
-        by_number true reply test kept h = more answer (kept (same_number reply.number req.number test) (result_is h ∙ ok))
+        by_number : (b : Bool) (reply : KeptReply) → (reply.number == req.number) ≡ b → (reply.number ≡ req.number → Made reply.result) → (if b then Again reply.result else if nat_lt req.number reply.number then Older else New) ≡ Again result → Then result
+        by_number true reply test kept h = subst Then (result_is h) (more reply.result (kept (same_number reply.number req.number test)))
         by_number false reply test kept h = no_answer (nat_lt req.number reply.number) h
 
-        by_one : (reply : KeptReply) → (reply.number ≡ req.number → reply.result ≡ Ok answer → Made answer) → numbered (Some reply) req.number ≡ Again result → Then answer
+        by_one : (reply : KeptReply) → (reply.number ≡ req.number → Made reply.result) → numbered (Some reply) req.number ≡ Again result → Then result
         by_one reply kept h = by_number (reply.number == req.number) reply refl kept h
 
-        by_later : (b : Bool) (a o : KeptReply) → fin.get s.durable.replies req.client ≡ Some a → fin.get s.volatile.replies req.client ≡ Some o → numbered (if b then Some o else Some a) req.number ≡ Again result → Then answer
-        by_later true a o in_durable in_memory h = by_one o (λ number is. so.memory o answer in_memory number is) h
-        by_later false a o in_durable in_memory h = by_one a (λ number is. so.durable a answer in_durable number is) h
+        by_later : (b : Bool) (a o : KeptReply) → fin.get s.durable.replies req.client ≡ Some a → fin.get s.volatile.replies req.client ≡ Some o → numbered (if b then Some o else Some a) req.number ≡ Again result → Then result
+        by_later true a o in_durable in_memory h = by_one o (λ number. so.memory o in_memory number) h
+        by_later false a o in_durable in_memory h = by_one a (λ number. so.durable a in_durable number) h
 
-        by_replies : (a o : Option KeptReply) → fin.get s.durable.replies req.client ≡ a → fin.get s.volatile.replies req.client ≡ o → numbered (later a o) req.number ≡ Again result → Then answer
+        by_replies : (a o : Option KeptReply) → fin.get s.durable.replies req.client ≡ a → fin.get s.volatile.replies req.client ≡ o → numbered (later a o) req.number ≡ Again result → Then result
         by_replies None None in_durable in_memory h = absurd cc
-        by_replies None (Some o) in_durable in_memory h = by_one o (λ number is. so.memory o answer in_memory number is) h
-        by_replies (Some a) None in_durable in_memory h = by_one a (λ number is. so.durable a answer in_durable number is) h
+        by_replies None (Some o) in_durable in_memory h = by_one o (λ number. so.memory o in_memory number) h
+        by_replies (Some a) None in_durable in_memory h = by_one a (λ number. so.durable a in_durable number) h
         by_replies (Some a) (Some o) in_durable in_memory h = by_later (nat_lt a.number o.number) a o in_durable in_memory h
 
-    taken_own : (config : Config) (s : State) (moment : Moment) (how : Numbered) → is_answered_at_once call ≡ true → numbered (last_reply s req.client) req.number ≡ how → is_pending s.volatile.pending req ≡ false → StateSo Made s
-        → Now s (taken_as config s req moment call how) → Own s (taken_as config s req moment call how)
-    taken_own config s moment New once is apart so now = (let alone = at_once config s req moment call once in alone_own alone.0 s (new_call config s req moment call) alone.1 so (now apart is))
-    taken_own config s moment (Again result) once is apart so now = replied s result so (again_kept s result so is)
-    taken_own config s moment Older once is apart so now = replied s (Err refusals.Old) so (never refusals.Old)
+    module _ (anyway : IsAnyway Then) where
+      taken_own : (config : Config) (s : State) (moment : Moment) (how : Numbered) → is_answered_at_once call ≡ true → numbered (last_reply s req.client) req.number ≡ how → is_pending s.volatile.pending req ≡ false → StateSo Made s
+          → Now s (taken_as config s req moment call how) → Own s (taken_as config s req moment call how)
+      taken_own config s moment New once is apart so now = (let alone = at_once config s req moment call once in alone_own alone.0 s (new_call config s req moment call) alone.1 so (now apart is))
+      taken_own config s moment (Again result) once is apart so now = replied s result so (again_kept s result so is)
+      taken_own config s moment Older once is apart so now = replied s (Err refusals.Old) so anyway.0
 
-    still_own : (s : State) → StateSo Made s → Own s (waits_still s req)
-    still_own s so = by_fault (is_failed s.fault)
-      where
-        by_fault : (b : Bool) → Own s (if b then replied_again s req (Err refusals.Device) else unmoved s)
-        by_fault true = replied s (Err refusals.Device) so (never refusals.Device)
-        by_fault false = (state_more s so, tt)
-
-    pub call_own : (config : Config) (s : State) (moment : Moment) → is_answered_at_once call ≡ true → StateSo Made s → Now s (call_turn config s req moment call) → Own s (call_turn config s req moment call)
-    call_own config s moment once so now = by_opened (is_unopened s.fault) now
-      where
-        taken : Turn
-        taken = taken_as config s req moment call (numbered (last_reply s req.client) req.number)
-
-        by_waits : (b : Bool) → is_pending s.volatile.pending req ≡ b → Now s (if b then waits_still s req else taken_as config s req moment call (numbered (last_reply s req.client) req.number)) → Own s (if b then waits_still s req else taken_as config s req moment call (numbered (last_reply s req.client) req.number))
-        by_waits true is now = still_own s so
-        by_waits false is now = taken_own config s moment (numbered (last_reply s req.client) req.number) once refl is so now
-
-        by_opened : (b : Bool) → Now s (if b then replied_again s req (Err refusals.Device) else if is_pending s.volatile.pending req then waits_still s req else taken_as config s req moment call (numbered (last_reply s req.client) req.number))
-            → Own s (if b then replied_again s req (Err refusals.Device) else if is_pending s.volatile.pending req then waits_still s req else taken_as config s req moment call (numbered (last_reply s req.client) req.number))
-        by_opened true now = replied s (Err refusals.Device) so (never refusals.Device)
-        by_opened false now = by_waits (is_pending s.volatile.pending req) refl now
-
-    -- one record at most
-    call_few : (config : Config) (s : State) (moment : Moment) → is_answered_at_once call ≡ true → length (call_turn config s req moment call).records ≤ 1
-    call_few config s moment once = by_opened (is_unopened s.fault)
-      where
-        by_how : (how : Numbered) → length (taken_as config s req moment call how).records ≤ 1
-        by_how New = (at_once config s req moment call once).1.few
-        by_how (Again result) = omega arith
-        by_how Older = omega arith
-
-        by_fault : (b : Bool) → length (if b then replied_again s req (Err refusals.Device) else unmoved s).records ≤ 1
-        by_fault true = omega arith
-        by_fault false = omega arith
-
-        by_waits : (b : Bool) → length (if b then waits_still s req else taken_as config s req moment call (numbered (last_reply s req.client) req.number)).records ≤ 1
-        by_waits true = by_fault (is_failed s.fault)
-        by_waits false = by_how (numbered (last_reply s req.client) req.number)
-
-        by_opened : (b : Bool) → length (if b then replied_again s req (Err refusals.Device) else if is_pending s.volatile.pending req then waits_still s req else taken_as config s req moment call (numbered (last_reply s req.client) req.number)).records ≤ 1
-        by_opened true = omega arith
-        by_opened false = by_waits (is_pending s.volatile.pending req)
-
-    -- ---- the master
-
-    own_cut : (s : State) (t : Turn) (place : ℕ) → length t.records ≤ 1 → place < length t.records → StateSo Made s → StateSo Then (cut s t.records place)
-    own_cut s t place few within so = state_more (cut s t.records place) (cut_memory Made s t.records place so (subst (λ (d : Durable). KeptSo Made d.replies) (sym (none_cut s t.records place (nought few within))) so.durable))
-      where
-        nought : {n m : ℕ} → m ≤ 1 → n < m → n ≡ 0
-        nought few within = omega arith
-
-        none_cut : (s : State) (xs : List PlainEntry) (place : ℕ) → place ≡ 0 → (cut s xs place).durable ≡ s.durable
-        none_cut s xs place is = ap (λ k. (cut s xs k).durable) is
-
-    abbrev Left : {D : Type 0} → MasterPlace D → List Message → Type 0
-    Left place messages = PlaceSo Then place × AllSays Then messages
-
-    module _ {D : Type 0} (seen : D → List ℕ) (failures : D → ℕ) where
-      -- where this is said and done, it's answered now
-      abbrev Told_now : MasterOf D → Told_turn → Type 0
-      Told_now m turn = is_pending m.state.volatile.pending req ≡ false → numbered (last_reply m.state req.client) req.number ≡ New → (answer : Answer) (reply : Message) → Contains turn.sent.items reply → reply.body ≡ bodies.Reply req (Ok answer) → Then answer
-
-      own_left : (t : Turn) (m after : MasterOf D) (turn : Told_turn) → StateSo Made m.state → (Now m.state t → Own m.state t) → length t.records ≤ 1 → Told_now m turn → MasterAnswers seen failures (Some req) t m (Ok turn) after → Left (Standing after) turn.sent.items
-      own_left t m after turn so own few now (inl is) =
-          let left = own (λ apart new answer reply there says. now apart new answer reply (subst (λ ms. Contains ms reply) (sym is.done.sends) there) says) in
-          (subst (StateSo Then) (sym is.done.after) left.0, subst (AllSays Then) (sym is.done.sends) left.1)
-      own_left t m after turn so own few now (inr (place, is)) =
-          (subst (StateSo Then) (sym is.cut.after) (own_cut m.state t place few is.cut.within so), subst (AllSays Then) (sym is.cut.sends) (unsure_says Then (Some req)))
-
-      other_left : (caller : Option ReqId) (t : Turn) (m after : MasterOf D) (turn : Told_turn) → AnswersOnly (IsConcerned m.state caller) m.state t → StateSo Made m.state → (caller ≡ Some req → ⊥) → IsDone t turn.sent.items turn.said after.state → Left (Standing after) turn.sent.items
-      other_left caller t m after turn only so apart is = (
-        subst (StateSo Then) (sym is.after) (state_more t.after (other_done Made m.state caller t only so apart)),
-        subst (AllSays Then) (sym is.sends) (all_one (λ (x : Message). Says Made x.body) (λ (x : Message). Says Then x.body) t.sent (λ x. says_more Made Then more x.body) (only_says Made m.state caller t only so apart)),
-      )
-
-      other_cut_left : (caller : Option ReqId) (t : Turn) (m after : MasterOf D) (turn : Told_turn) (place : ℕ) → AnswersOnly (IsConcerned m.state caller) m.state t → StateSo Made m.state → (caller ≡ Some req → ⊥) → IsCut m.state caller t place turn.sent.items turn.said after.state
-          → Left (Standing after) turn.sent.items
-      other_cut_left caller t m after turn place only so apart is = (
-        subst (StateSo Then) (sym is.after) (state_more (cut m.state t.records place) (other_cut Made m.state caller t place is.within only so apart)),
-        subst (AllSays Then) (sym is.sends) (unsure_says Then caller),
-      )
-
-      answers_other : (caller : Option ReqId) (t : Turn) (m after : MasterOf D) (turn : Told_turn) → AnswersOnly (IsConcerned m.state caller) m.state t → StateSo Made m.state → (caller ≡ Some req → ⊥) → MasterAnswers seen failures caller t m (Ok turn) after → Left (Standing after) turn.sent.items
-      answers_other caller t m after turn only so apart (inl is) = other_left caller t m after turn only so apart is.done
-      answers_other caller t m after turn only so apart (inr (place, is)) = other_cut_left caller t m after turn place only so apart is.cut
-
-      none_is : ◌≡◌ {A = Option ReqId} None (Some req) → ⊥
-      none_is is = cc
-
-      as_other : (b : Bool) (t steps : Turn) (m after : MasterOf D) (turn : Told_turn) → AnswersOnly (IsConcerned m.state None) m.state t → StateSo Made m.state → AnswersAs seen failures b t steps m turn after → Left (Standing after) turn.sent.items
-      as_other true t steps m after turn only so (inl is) = other_left None t m after turn only so none_is is.done
-      as_other true t steps m after turn only so (inr (place, is)) = other_cut_left None t m after turn place only so none_is is.cut
-      as_other false t steps m after turn only so (inl is) = other_left None t m after turn only so none_is is.done
-      as_other false t steps m after turn only so (inr (place, is)) = other_cut_left None t m after turn place only so none_is is.cut
-
-      tick_other : (moment : Moment) (m after : MasterOf D) (turn : Told_turn) → StateSo Made m.state → AnswersTick seen failures moment m (Ok turn) after → Left (Standing after) turn.sent.items
-      tick_other moment m after turn so (inl whole) = as_other (writes_one m.state (pressed_all m.state moment)) (tick m.state moment) (pressed_all m.state moment) m after turn (ticks_concerned m.state moment) so whole
-      tick_other moment m after turn so (inr (sound, is_due, none, done)) = answers_other None (lacking (pressed_all m.state moment)) m after turn (lacking_only seen failures (λ r. ⊥) m.state moment) so none_is done
-
-      pub ticks_so : (moment : Moment) (old new : MasterPlace D) (turn : Told_turn) → PlaceSo Made old → MasterTicks seen failures moment old (Ok turn) new → Left new turn.sent.items
-      ticks_so moment (Standing m) new turn so (after, is, answers) = (let left = tick_other moment m after turn so answers in (subst (PlaceSo Then) (sym is) left.0, left.1))
-      ticks_so moment (Closed first second) new turn so meets = (subst (PlaceSo Then) (sym meets.0) tt, subst (AllSays Then) (sym meets.1) tt)
-      ticks_so moment Away new turn so meets = (subst (PlaceSo Then) (sym meets.0) tt, subst (AllSays Then) (sym meets.1) tt)
-
-      -- it hears its call, or another message
-      same_call : (other : ReqId) → (other ≡ req) ⊎ (other ≡ req → ⊥)
-      same_call other = by_test (same_op other req) refl
+      still_own : (s : State) → StateSo Made s → Own s (waits_still s req)
+      still_own s so = by_fault (is_failed s.fault)
         where
-          by_test : (b : Bool) → same_op other req ≡ b → (other ≡ req) ⊎ (other ≡ req → ⊥)
-          by_test true is = inl (same_calls other req is)
-          by_test false is = inr (λ same. false≢true (sym is ∙ ap (λ r. same_op r req) same ∙ itself req))
+          by_fault : (b : Bool) → Own s (if b then replied_again s req (Err refusals.Device) else unmoved s)
+          by_fault true = replied s (Err refusals.Device) so anyway.1
+          by_fault false = (state_more s so, tt)
 
-      -- what comes is this call
-      is_call_turn : (config : Config) (s : State) (message : Message) (moment : Moment) → message.body ≡ bodies.Call req call → message.from ≡ nodes.Client req.client → handle config s message moment ≡ call_turn config s req moment call
-      unfolding handle
-      is_call_turn config s message moment asks from = ap (λ (b : Body). from_node config s moment b message.from) asks ∙ ap (λ (n : NodeId). from_node config s moment (bodies.Call req call) n) from
-
-      own_hears : (message : Message) (moment : Moment) (m after : MasterOf D) (turn : Told_turn) → is_answered_at_once call ≡ true → message.body ≡ bodies.Call req call → message.from ≡ nodes.Client req.client → StateSo Made m.state → Told_now m turn
-          → MasterAnswers seen failures (caller_of message.body) (handle m.config m.state message moment) m (Ok turn) after → Left (Standing after) turn.sent.items
-      own_hears message moment m after turn once asks from so now answers =
-          own_left (call_turn m.config m.state req moment call) m after turn so (call_own m.config m.state moment once so) (call_few m.config m.state moment once) now
-          (subst (λ (t : Turn). MasterAnswers seen failures (Some req) t m (Ok turn) after) (is_call_turn m.config m.state message moment asks from) (subst (λ (b : Body). MasterAnswers seen failures (caller_of b) (handle m.config m.state message moment) m (Ok turn) after) asks answers))
-
-      -- who calls, if it isn't this one
-      other_caller : (body : Body) → ((other : ReqId) (calls : Call) → body ≡ bodies.Call other calls → other ≡ req → ⊥) → caller_of body ≡ Some req → ⊥
-      other_caller (bodies.Call other calls) apart is = apart other calls refl (req_is is)
+      pub call_own : (config : Config) (s : State) (moment : Moment) → is_answered_at_once call ≡ true → StateSo Made s → Now s (call_turn config s req moment call) → Own s (call_turn config s req moment call)
+      call_own config s moment once so now = by_opened (is_unopened s.fault) now
         where
-          req_is : {a b : ReqId} → ◌≡◌ {A = Option ReqId} (Some a) (Some b) → a ≡ b
-          req_is is = cc
-      other_caller (bodies.Reply other result) apart is = absurd cc
-      other_caller (bodies.About chunk said) apart is = absurd cc
-      other_caller (bodies.Push other bytes) apart is = absurd cc
-      other_caller (bodies.Done other result) apart is = absurd cc
-      other_caller (bodies.Bytes other result) apart is = absurd cc
-      other_caller (bodies.MakeCopy chunk at new_chunk stamp) apart is = absurd cc
-      other_caller (bodies.Report epoch replicas) apart is = absurd cc
-      other_caller (bodies.Epoch epoch end) apart is = absurd cc
-      other_caller (bodies.Learned epoch handles) apart is = absurd cc
-      other_caller (bodies.Behind epoch) apart is = absurd cc
+          taken : Turn
+          taken = taken_as config s req moment call (numbered (last_reply s req.client) req.number)
 
-      hears_other : (message : Message) (moment : Moment) (m after : MasterOf D) (turn : Told_turn) (body : Body) → message.body ≡ body → ((other : ReqId) (calls : Call) → body ≡ bodies.Call other calls → ⊥) → StateSo Made m.state
-          → MasterAnswers seen failures (caller_of message.body) (handle m.config m.state message moment) m (Ok turn) after → Left (Standing after) turn.sent.items
-      hears_other message moment m after turn body is none so answers =
-          answers_other (caller_of message.body) (handle m.config m.state message moment) m after turn (messages_concerned m.config m.state message moment) so (other_caller message.body (λ r c there same. none r c (sym is ∙ there))) answers
+          by_waits : (b : Bool) → is_pending s.volatile.pending req ≡ b → Now s (if b then waits_still s req else taken_as config s req moment call (numbered (last_reply s req.client) req.number)) → Own s (if b then waits_still s req else taken_as config s req moment call (numbered (last_reply s req.client) req.number))
+          by_waits true is now = still_own s so
+          by_waits false is now = taken_own config s moment (numbered (last_reply s req.client) req.number) once refl is so now
 
-      hears_one : (message : Message) (moment : Moment) (m after : MasterOf D) (turn : Told_turn) (body : Body) → message.body ≡ body → is_answered_at_once call ≡ true → Says Made body → SaysOf (λ r. Unit {0}) message.from body → StateSo Made m.state
-          → ((asks : message.body ≡ bodies.Call req call) (from : message.from ≡ nodes.Client req.client) → Told_now m turn) → MasterAnswers seen failures (caller_of message.body) (handle m.config m.state message moment) m (Ok turn) after → Left (Standing after) turn.sent.items
-      hears_one message moment m after turn (bodies.Call other calls) is once says of so now answers = elim (same_call other) [
-        | inl same ↦
-            let asks = is ∙ ap (λ r. bodies.Call r calls) same ∙ ap (λ c. bodies.Call req c) (says same) in
-            let from = of.0 ∙ ap (λ (r : ReqId). nodes.Client r.client) same in own_hears message moment m after turn once asks from so (now asks from) answers
-        | inr apart ↦
-            answers_other (caller_of message.body) (handle m.config m.state message moment) m after turn (messages_concerned m.config m.state message moment) so
-            (other_caller message.body (λ r c there same. apart (call_is (sym is ∙ there) ∙ same))) answers
-      ]
+          by_opened : (b : Bool) → Now s (if b then replied_again s req (Err refusals.Device) else if is_pending s.volatile.pending req then waits_still s req else taken_as config s req moment call (numbered (last_reply s req.client) req.number))
+              → Own s (if b then replied_again s req (Err refusals.Device) else if is_pending s.volatile.pending req then waits_still s req else taken_as config s req moment call (numbered (last_reply s req.client) req.number))
+          by_opened true now = replied s (Err refusals.Device) so anyway.1
+          by_opened false now = by_waits (is_pending s.volatile.pending req) refl now
+
+      -- one record at most
+      call_few : (config : Config) (s : State) (moment : Moment) → is_answered_at_once call ≡ true → length (call_turn config s req moment call).records ≤ 1
+      call_few config s moment once = by_opened (is_unopened s.fault)
         where
-          call_is : {a b : ReqId} {c d : Call} → bodies.Call a c ≡ bodies.Call b d → a ≡ b
-          call_is is = cc
-      hears_one message moment m after turn (bodies.Reply other result) is once says of so now answers = hears_other message moment m after turn (bodies.Reply other result) is (λ r c there. absurd cc) so answers
-      hears_one message moment m after turn (bodies.About chunk said) is once says of so now answers = hears_other message moment m after turn (bodies.About chunk said) is (λ r c there. absurd cc) so answers
-      hears_one message moment m after turn (bodies.Push other bytes) is once says of so now answers = hears_other message moment m after turn (bodies.Push other bytes) is (λ r c there. absurd cc) so answers
-      hears_one message moment m after turn (bodies.Done other result) is once says of so now answers = hears_other message moment m after turn (bodies.Done other result) is (λ r c there. absurd cc) so answers
-      hears_one message moment m after turn (bodies.Bytes other result) is once says of so now answers = hears_other message moment m after turn (bodies.Bytes other result) is (λ r c there. absurd cc) so answers
-      hears_one message moment m after turn (bodies.MakeCopy chunk at new_chunk stamp) is once says of so now answers = hears_other message moment m after turn (bodies.MakeCopy chunk at new_chunk stamp) is (λ r c there. absurd cc) so answers
-      hears_one message moment m after turn (bodies.Report epoch replicas) is once says of so now answers = hears_other message moment m after turn (bodies.Report epoch replicas) is (λ r c there. absurd cc) so answers
-      hears_one message moment m after turn (bodies.Epoch epoch end) is once says of so now answers = hears_other message moment m after turn (bodies.Epoch epoch end) is (λ r c there. absurd cc) so answers
-      hears_one message moment m after turn (bodies.Learned epoch handles) is once says of so now answers = hears_other message moment m after turn (bodies.Learned epoch handles) is (λ r c there. absurd cc) so answers
-      hears_one message moment m after turn (bodies.Behind epoch) is once says of so now answers = hears_other message moment m after turn (bodies.Behind epoch) is (λ r c there. absurd cc) so answers
+          by_how : (how : Numbered) → length (taken_as config s req moment call how).records ≤ 1
+          by_how New = (at_once config s req moment call once).1.few
+          by_how (Again result) = omega arith
+          by_how Older = omega arith
 
-      pub hears_so : (message : Message) (moment : Moment) (old new : MasterPlace D) (turn : Told_turn) → is_answered_at_once call ≡ true → Says Made message.body → SaysOf (λ r. Unit {0}) message.from message.body → PlaceSo Made old
-          → ((m : MasterOf D) → old ≡ Standing m → message.body ≡ bodies.Call req call → message.from ≡ nodes.Client req.client → Told_now m turn) → MasterHears seen failures message moment old (Ok turn) new → Left new turn.sent.items
-      hears_so message moment (Standing m) new turn once says of so now (after, is, answers) =
-          let left = hears_one message moment m after turn message.body refl once says of so (now m refl) answers in (subst (PlaceSo Then) (sym is) left.0, left.1)
-      hears_so message moment (Closed first second) new turn once says of so now meets = (subst (PlaceSo Then) (sym meets.0) tt, subst (AllSays Then) (sym meets.1) (refusal_says Then (caller_of message.body)))
-      hears_so message moment Away new turn once says of so now meets = (subst (PlaceSo Then) (sym meets.0) tt, subst (AllSays Then) (sym meets.1) (refusal_says Then (caller_of message.body)))
+          by_fault : (b : Bool) → length (if b then replied_again s req (Err refusals.Device) else unmoved s).records ≤ 1
+          by_fault true = omega arith
+          by_fault false = omega arith
+
+          by_waits : (b : Bool) → length (if b then waits_still s req else taken_as config s req moment call (numbered (last_reply s req.client) req.number)).records ≤ 1
+          by_waits true = by_fault (is_failed s.fault)
+          by_waits false = by_how (numbered (last_reply s req.client) req.number)
+
+          by_opened : (b : Bool) → length (if b then replied_again s req (Err refusals.Device) else if is_pending s.volatile.pending req then waits_still s req else taken_as config s req moment call (numbered (last_reply s req.client) req.number)).records ≤ 1
+          by_opened true = omega arith
+          by_opened false = by_waits (is_pending s.volatile.pending req)
+
+      -- ---- the master
+
+      own_cut : (s : State) (t : Turn) (place : ℕ) → length t.records ≤ 1 → place < length t.records → StateSo Made s → StateSo Then (cut s t.records place)
+      own_cut s t place few within so = state_more (cut s t.records place) (cut_memory Made s t.records place so (subst (λ (d : Durable). KeptSo Made d.replies) (sym (none_cut s t.records place (nought few within))) so.durable))
+        where
+          nought : {n m : ℕ} → m ≤ 1 → n < m → n ≡ 0
+          nought few within = omega arith
+
+          none_cut : (s : State) (xs : List PlainEntry) (place : ℕ) → place ≡ 0 → (cut s xs place).durable ≡ s.durable
+          none_cut s xs place is = ap (λ k. (cut s xs k).durable) is
+
+      abbrev Left : {D : Type 0} → MasterPlace D → List Message → Type 0
+      Left place messages = PlaceSo Then place × AllSays Then messages
+
+      module _ {D : Type 0} (seen : D → List ℕ) (failures : D → ℕ) where
+        -- where this is said and done, it's answered now
+        abbrev Told_now : MasterOf D → Told_turn → Type 0
+        Told_now m turn = is_pending m.state.volatile.pending req ≡ false → numbered (last_reply m.state req.client) req.number ≡ New → (result : Result Answer Refusal) (reply : Message) → Contains turn.sent.items reply → reply.body ≡ bodies.Reply req result → Then result
+
+        own_left : (t : Turn) (m after : MasterOf D) (turn : Told_turn) → StateSo Made m.state → (Now m.state t → Own m.state t) → length t.records ≤ 1 → Told_now m turn → MasterAnswers seen failures (Some req) t m (Ok turn) after → Left (Standing after) turn.sent.items
+        own_left t m after turn so own few now (inl is) =
+            let left = own (λ apart new result reply there says. now apart new result reply (subst (λ ms. Contains ms reply) (sym is.done.sends) there) says) in
+            (subst (StateSo Then) (sym is.done.after) left.0, subst (AllSays Then) (sym is.done.sends) left.1)
+        own_left t m after turn so own few now (inr (place, is)) =
+            (subst (StateSo Then) (sym is.cut.after) (own_cut m.state t place few is.cut.within so), subst (AllSays Then) (sym is.cut.sends) (unsure_says Then anyway.2 (Some req)))
+
+        other_left : (caller : Option ReqId) (t : Turn) (m after : MasterOf D) (turn : Told_turn) → AnswersOnly (IsConcerned m.state caller) m.state t → StateSo Made m.state → (caller ≡ Some req → ⊥) → IsDone t turn.sent.items turn.said after.state → Left (Standing after) turn.sent.items
+        other_left caller t m after turn only so apart is = (
+          subst (StateSo Then) (sym is.after) (state_more t.after (other_done Made m.state caller t only so apart)),
+          subst (AllSays Then) (sym is.sends) (all_one (λ (x : Message). Says Made x.body) (λ (x : Message). Says Then x.body) t.sent (λ x. says_more Made Then more x.body) (only_says Made m.state caller t only so apart)),
+        )
+
+        other_cut_left : (caller : Option ReqId) (t : Turn) (m after : MasterOf D) (turn : Told_turn) (place : ℕ) → AnswersOnly (IsConcerned m.state caller) m.state t → StateSo Made m.state → (caller ≡ Some req → ⊥) → IsCut m.state caller t place turn.sent.items turn.said after.state
+            → Left (Standing after) turn.sent.items
+        other_cut_left caller t m after turn place only so apart is = (
+          subst (StateSo Then) (sym is.after) (state_more (cut m.state t.records place) (other_cut Made m.state caller t place is.within only so apart)),
+          subst (AllSays Then) (sym is.sends) (unsure_says Then anyway.2 caller),
+        )
+
+        answers_other : (caller : Option ReqId) (t : Turn) (m after : MasterOf D) (turn : Told_turn) → AnswersOnly (IsConcerned m.state caller) m.state t → StateSo Made m.state → (caller ≡ Some req → ⊥) → MasterAnswers seen failures caller t m (Ok turn) after → Left (Standing after) turn.sent.items
+        answers_other caller t m after turn only so apart (inl is) = other_left caller t m after turn only so apart is.done
+        answers_other caller t m after turn only so apart (inr (place, is)) = other_cut_left caller t m after turn place only so apart is.cut
+
+        none_is : ◌≡◌ {A = Option ReqId} None (Some req) → ⊥
+        none_is is = cc
+
+        as_other : (b : Bool) (t steps : Turn) (m after : MasterOf D) (turn : Told_turn) → AnswersOnly (IsConcerned m.state None) m.state t → StateSo Made m.state → AnswersAs seen failures b t steps m turn after → Left (Standing after) turn.sent.items
+        as_other true t steps m after turn only so (inl is) = other_left None t m after turn only so none_is is.done
+        as_other true t steps m after turn only so (inr (place, is)) = other_cut_left None t m after turn place only so none_is is.cut
+        as_other false t steps m after turn only so (inl is) = other_left None t m after turn only so none_is is.done
+        as_other false t steps m after turn only so (inr (place, is)) = other_cut_left None t m after turn place only so none_is is.cut
+
+        tick_other : (moment : Moment) (m after : MasterOf D) (turn : Told_turn) → StateSo Made m.state → AnswersTick seen failures moment m (Ok turn) after → Left (Standing after) turn.sent.items
+        tick_other moment m after turn so (inl whole) = as_other (writes_one m.state (pressed_all m.state moment)) (tick m.state moment) (pressed_all m.state moment) m after turn (ticks_concerned m.state moment) so whole
+        tick_other moment m after turn so (inr (sound, is_due, none, done)) = answers_other None (lacking (pressed_all m.state moment)) m after turn (lacking_only seen failures (λ r. ⊥) m.state moment) so none_is done
+
+        pub ticks_so : (moment : Moment) (old new : MasterPlace D) (turn : Told_turn) → PlaceSo Made old → MasterTicks seen failures moment old (Ok turn) new → Left new turn.sent.items
+        ticks_so moment (Standing m) new turn so (after, is, answers) = (let left = tick_other moment m after turn so answers in (subst (PlaceSo Then) (sym is) left.0, left.1))
+        ticks_so moment (Closed first second) new turn so meets = (subst (PlaceSo Then) (sym meets.0) tt, subst (AllSays Then) (sym meets.1) tt)
+        ticks_so moment Away new turn so meets = (subst (PlaceSo Then) (sym meets.0) tt, subst (AllSays Then) (sym meets.1) tt)
+
+        -- it hears its call, or another message
+        same_call : (other : ReqId) → (other ≡ req) ⊎ (other ≡ req → ⊥)
+        same_call other = by_test (same_op other req) refl
+          where
+            by_test : (b : Bool) → same_op other req ≡ b → (other ≡ req) ⊎ (other ≡ req → ⊥)
+            by_test true is = inl (same_calls other req is)
+            by_test false is = inr (λ same. false≢true (sym is ∙ ap (λ r. same_op r req) same ∙ itself req))
+
+        -- what comes is this call
+        is_call_turn : (config : Config) (s : State) (message : Message) (moment : Moment) → message.body ≡ bodies.Call req call → message.from ≡ nodes.Client req.client → handle config s message moment ≡ call_turn config s req moment call
+        unfolding handle
+        is_call_turn config s message moment asks from = ap (λ (b : Body). from_node config s moment b message.from) asks ∙ ap (λ (n : NodeId). from_node config s moment (bodies.Call req call) n) from
+
+        own_hears : (message : Message) (moment : Moment) (m after : MasterOf D) (turn : Told_turn) → is_answered_at_once call ≡ true → message.body ≡ bodies.Call req call → message.from ≡ nodes.Client req.client → StateSo Made m.state → Told_now m turn
+            → MasterAnswers seen failures (caller_of message.body) (handle m.config m.state message moment) m (Ok turn) after → Left (Standing after) turn.sent.items
+        own_hears message moment m after turn once asks from so now answers =
+            own_left (call_turn m.config m.state req moment call) m after turn so (call_own m.config m.state moment once so) (call_few m.config m.state moment once) now
+            (subst (λ (t : Turn). MasterAnswers seen failures (Some req) t m (Ok turn) after) (is_call_turn m.config m.state message moment asks from) (subst (λ (b : Body). MasterAnswers seen failures (caller_of b) (handle m.config m.state message moment) m (Ok turn) after) asks answers))
+
+        -- who calls, if it isn't this one
+        other_caller : (body : Body) → ((other : ReqId) (calls : Call) → body ≡ bodies.Call other calls → other ≡ req → ⊥) → caller_of body ≡ Some req → ⊥
+        other_caller (bodies.Call other calls) apart is = apart other calls refl (req_is is)
+          where
+            req_is : {a b : ReqId} → ◌≡◌ {A = Option ReqId} (Some a) (Some b) → a ≡ b
+            req_is is = cc
+        other_caller (bodies.Reply other result) apart is = absurd cc
+        other_caller (bodies.About chunk said) apart is = absurd cc
+        other_caller (bodies.Push other bytes) apart is = absurd cc
+        other_caller (bodies.Done other result) apart is = absurd cc
+        other_caller (bodies.Bytes other result) apart is = absurd cc
+        other_caller (bodies.MakeCopy chunk at new_chunk stamp) apart is = absurd cc
+        other_caller (bodies.Report epoch replicas) apart is = absurd cc
+        other_caller (bodies.Epoch epoch end) apart is = absurd cc
+        other_caller (bodies.Learned epoch handles) apart is = absurd cc
+        other_caller (bodies.Behind epoch) apart is = absurd cc
+
+        hears_other : (message : Message) (moment : Moment) (m after : MasterOf D) (turn : Told_turn) (body : Body) → message.body ≡ body → ((other : ReqId) (calls : Call) → body ≡ bodies.Call other calls → ⊥) → StateSo Made m.state
+            → MasterAnswers seen failures (caller_of message.body) (handle m.config m.state message moment) m (Ok turn) after → Left (Standing after) turn.sent.items
+        hears_other message moment m after turn body is none so answers =
+            answers_other (caller_of message.body) (handle m.config m.state message moment) m after turn (messages_concerned m.config m.state message moment) so (other_caller message.body (λ r c there same. none r c (sym is ∙ there))) answers
+
+        hears_one : (message : Message) (moment : Moment) (m after : MasterOf D) (turn : Told_turn) (body : Body) → message.body ≡ body → is_answered_at_once call ≡ true → Says Made body → SaysOf (λ r. Unit {0}) message.from body → StateSo Made m.state
+            → ((asks : message.body ≡ bodies.Call req call) (from : message.from ≡ nodes.Client req.client) → Told_now m turn) → MasterAnswers seen failures (caller_of message.body) (handle m.config m.state message moment) m (Ok turn) after → Left (Standing after) turn.sent.items
+        hears_one message moment m after turn (bodies.Call other calls) is once says of so now answers = elim (same_call other) [
+          | inl same ↦
+              let asks = is ∙ ap (λ r. bodies.Call r calls) same ∙ ap (λ c. bodies.Call req c) (says same) in
+              let from = of.0 ∙ ap (λ (r : ReqId). nodes.Client r.client) same in own_hears message moment m after turn once asks from so (now asks from) answers
+          | inr apart ↦
+              answers_other (caller_of message.body) (handle m.config m.state message moment) m after turn (messages_concerned m.config m.state message moment) so
+              (other_caller message.body (λ r c there same. apart (call_is (sym is ∙ there) ∙ same))) answers
+        ]
+          where
+            call_is : {a b : ReqId} {c d : Call} → bodies.Call a c ≡ bodies.Call b d → a ≡ b
+            call_is is = cc
+        hears_one message moment m after turn (bodies.Reply other result) is once says of so now answers = hears_other message moment m after turn (bodies.Reply other result) is (λ r c there. absurd cc) so answers
+        hears_one message moment m after turn (bodies.About chunk said) is once says of so now answers = hears_other message moment m after turn (bodies.About chunk said) is (λ r c there. absurd cc) so answers
+        hears_one message moment m after turn (bodies.Push other bytes) is once says of so now answers = hears_other message moment m after turn (bodies.Push other bytes) is (λ r c there. absurd cc) so answers
+        hears_one message moment m after turn (bodies.Done other result) is once says of so now answers = hears_other message moment m after turn (bodies.Done other result) is (λ r c there. absurd cc) so answers
+        hears_one message moment m after turn (bodies.Bytes other result) is once says of so now answers = hears_other message moment m after turn (bodies.Bytes other result) is (λ r c there. absurd cc) so answers
+        hears_one message moment m after turn (bodies.MakeCopy chunk at new_chunk stamp) is once says of so now answers = hears_other message moment m after turn (bodies.MakeCopy chunk at new_chunk stamp) is (λ r c there. absurd cc) so answers
+        hears_one message moment m after turn (bodies.Report epoch replicas) is once says of so now answers = hears_other message moment m after turn (bodies.Report epoch replicas) is (λ r c there. absurd cc) so answers
+        hears_one message moment m after turn (bodies.Epoch epoch end) is once says of so now answers = hears_other message moment m after turn (bodies.Epoch epoch end) is (λ r c there. absurd cc) so answers
+        hears_one message moment m after turn (bodies.Learned epoch handles) is once says of so now answers = hears_other message moment m after turn (bodies.Learned epoch handles) is (λ r c there. absurd cc) so answers
+        hears_one message moment m after turn (bodies.Behind epoch) is once says of so now answers = hears_other message moment m after turn (bodies.Behind epoch) is (λ r c there. absurd cc) so answers
+
+        pub hears_so : (message : Message) (moment : Moment) (old new : MasterPlace D) (turn : Told_turn) → is_answered_at_once call ≡ true → Says Made message.body → SaysOf (λ r. Unit {0}) message.from message.body → PlaceSo Made old
+            → ((m : MasterOf D) → old ≡ Standing m → message.body ≡ bodies.Call req call → message.from ≡ nodes.Client req.client → Told_now m turn) → MasterHears seen failures message moment old (Ok turn) new → Left new turn.sent.items
+        hears_so message moment (Standing m) new turn once says of so now (after, is, answers) =
+            let left = hears_one message moment m after turn message.body refl once says of so (now m refl) answers in (subst (PlaceSo Then) (sym is) left.0, left.1)
+        hears_so message moment (Closed first second) new turn once says of so now meets = (subst (PlaceSo Then) (sym meets.0) tt, subst (AllSays Then) (sym meets.1) (refusal_says Then anyway.1 (caller_of message.body)))
+        hears_so message moment Away new turn once says of so now meets = (subst (PlaceSo Then) (sym meets.0) tt, subst (AllSays Then) (sym meets.1) (refusal_says Then anyway.1 (caller_of message.body)))
 
 -- ---- clients
 
@@ -542,17 +550,17 @@ any_kept (Closed first second) = tt
 any_kept Away = tt
 
 module _ (req : ReqId) (call : Call) where
-  abbrev pub SoMessage : (Answer → Type 0) → Message → Type 0
+  abbrev pub SoMessage : (Result Answer Refusal → Type 0) → Message → Type 0
   SoMessage Made m = Says req call Made m.body × SaysOf Any m.from m.body
 
-  pub record Follows {D : Type 0} (Made : Answer → Type 0) (h : History D) : Type 0 where
+  pub record Follows {D : Type 0} (Made : Result Answer Refusal → Type 0) (h : History D) : Type 0 where
     pub sent : AllSent (SoMessage Made) h.sent
     pub master : PlaceSo req call Made h.nodes.master
     pub client : ClientSo req call Made h.nodes.clients
     pub past : (n : Node) → client_in h.nodes.clients req.client ≡ Some n → req.number ≤ n.last
     pub numbered : Numbered_all h.nodes.clients
 
-  record Leaves {D : Type 0} (Then : Answer → Type 0) (outcome : Upshot) (new : Nodes D) : Type 0 where
+  record Leaves {D : Type 0} (Then : Result Answer Refusal → Type 0) (outcome : Upshot) (new : Nodes D) : Type 0 where
     said : AllSays req call Then (sent_by outcome)
     of : AllSaid Any (sent_by outcome)
     master : PlaceSo req call Then new.master
@@ -560,27 +568,27 @@ module _ (req : ReqId) (call : Call) where
     past : (n : Node) → client_in new.clients req.client ≡ Some n → req.number ≤ n.last
     numbered : Numbered_all new.clients
 
-  servers_say : (Then : Answer → Type 0) (messages : List Message) → ByServer messages → AllSays req call Then messages
+  servers_say : (Then : Result Answer Refusal → Type 0) (messages : List Message) → ByServer messages → AllSays req call Then messages
   servers_say Then [] by = tt
   servers_say Then (m ∷ messages) by = (server_says req call Then m.body by.0, servers_say Then messages by.1)
 
   -- what another request says
-  pushed_says : (Then : Answer → Type 0) (other : ReqId) (members bytes : List ℕ) → AllSays req call Then (pushes other members bytes)
+  pushed_says : (Then : Result Answer Refusal → Type 0) (other : ReqId) (members bytes : List ℕ) → AllSays req call Then (pushes other members bytes)
   pushed_says Then other [] bytes = tt
   pushed_says Then other (member ∷ members) bytes = (tt, pushed_says Then other members bytes)
 
-  both_say : (Then : Answer → Type 0) (xs ys : List Message) → AllSays req call Then xs → AllSays req call Then ys → AllSays req call Then (xs ++ ys)
+  both_say : (Then : Result Answer Refusal → Type 0) (xs ys : List Message) → AllSays req call Then xs → AllSays req call Then ys → AllSays req call Then (xs ++ ys)
   both_say Then [] ys first second = second
   both_say Then (x ∷ xs) ys first second = (first.0, both_say Then xs ys first.1 second)
 
-  pub request_says : (Then : Answer → Type 0) (other : ReqId) (request : Request) → ((calls : Call) → request ≡ requests.Call calls → other ≡ req → calls ≡ call) → AllSays req call Then (messages_of other request)
+  pub request_says : (Then : Result Answer Refusal → Type 0) (other : ReqId) (request : Request) → ((calls : Call) → request ≡ requests.Call calls → other ≡ req → calls ≡ call) → AllSays req call Then (messages_of other request)
   request_says Then other (requests.Call calls) same = (same calls refl, tt)
   request_says Then other (requests.Write handle members primary stamp op bytes) same = both_say Then (pushes other (with_bytes members op) bytes) _ (pushed_says Then other (with_bytes members op) bytes) (tt, tt)
   request_says Then other (requests.Fetch to handle stamp epoch asked) same = (tt, tt)
 
   module _ {D : Type 0} (seen : D → List ℕ) (failures : D → ℕ) (armed : DiskId → ℕ → MasterPlace D → MasterPlace D) (once : is_answered_at_once call ≡ true) where
-    module _ (Made Then : Answer → Type 0) (more : (answer : Answer) → Made answer → Then answer) (old : History D) (f : Follows Made old) (moment : Moment) (happening : Happening) (outcome : Upshot)
-        (now : (answer : Answer) → AnswersNow old (record { moment = moment; happening = happening }) outcome req call answer → Then answer) where
+    module _ (Made Then : Result Answer Refusal → Type 0) (more : (result : Result Answer Refusal) → Made result → Then result) (anyway : IsAnyway Then) (Given : Type 0) (given : Given → (refusal : Refusal) → Then (Err refusal)) (old : History D) (refused : AllSent (λ (m : Message). RefusesIf req Given m.body) old.sent)
+        (f : Follows Made old) (moment : Moment) (happening : Happening) (outcome : Upshot) (now : (result : Result Answer Refusal) → SaysNow old (record { moment = moment; happening = happening }) outcome req call result → Then result) where
       at_master : (place : MasterPlace D) (new : Nodes D) (messages : List Message) → new ≡ with_master place old.nodes → sent_by outcome ≡ messages → PlaceSo req call Then place × AllSays req call Then messages → AllSaid Any messages → Leaves Then outcome new
       at_master place new messages same is left of = subst (Leaves Then outcome) (sym same) (record {
         said = subst (AllSays req call Then) (sym is) left.1;
@@ -631,22 +639,24 @@ module _ (req : ReqId) (call : Call) where
           by_past x (inr before) = f.past x before
 
       -- what it hears
-      none_reply : (r : Reply) (answer : Answer) → r ≡ replies.Answer answer → (result : Result Answer Refusal) → r ≡ answered replies.Answer result → result ≡ Ok answer
-      none_reply r answer is (Ok other) so = ap (λ a. Ok a) (answer_is (sym so ∙ is))
+      same_result : (a b : Result Answer Refusal) → answered replies.Answer a ≡ answered replies.Answer b → a ≡ b
+      same_result (Ok x) (Ok y) is = ap (λ k. Ok k) (answer_is is)
         where
-          answer_is : {a b : Answer} → replies.Answer a ≡ replies.Answer b → a ≡ b
+          answer_is : {p q : Answer} → replies.Answer p ≡ replies.Answer q → p ≡ q
           answer_is is = cc
-      none_reply r answer is (Err refusal) so = absurd (never (sym so ∙ is))
+      same_result (Ok x) (Err e) is = absurd cc
+      same_result (Err e) (Ok x) is = absurd cc
+      same_result (Err e) (Err g) is = ap (λ k. Err k) (refusal_is is)
         where
-          never : replies.Refused refusal ≡ replies.Answer answer → ⊥
-          never is = cc
+          refusal_is : {p q : Refusal} → replies.Refused p ≡ replies.Refused q → p ≡ q
+          refusal_is is = cc
 
       some_reply : {a b : Reply} → ◌≡◌ {A = Option Reply} (Some a) (Some b) → a ≡ b
       some_reply is = cc
 
       -- a reply that it takes is to what it waits for
-      takes_so : (other : ReqId) (r : Reply) (n : Node) → n.id ≡ req.client → Waits n → NodeSo req call Made n → ((answer : Answer) → other ≡ req → r ≡ replies.Answer answer → Then answer) → NodeSo req call Then (takes other r n)
-      takes_so other r n own waits before told answer = by_test (is_of other n.id n.waiting) refl
+      takes_so : (other : ReqId) (r : Reply) (n : Node) → n.id ≡ req.client → Waits n → NodeSo req call Made n → ((result : Result Answer Refusal) → other ≡ req → r ≡ answered replies.Answer result → Then result) → NodeSo req call Then (takes other r n)
+      takes_so other r n own waits before told result = by_test (is_of other n.id n.waiting) refl
         where
           equal : (a b : ℕ) → (a == b) ≡ true → a ≡ b
           equal a b is = grind (arith, nat_tests)
@@ -663,37 +673,47 @@ module _ (req : ReqId) (call : Call) where
               both_true false b is = absurd (false≢true is)
 
           by_test : (b : Bool) → is_of other n.id n.waiting ≡ b → (if b then record { id = n.id; last = n.last; waiting = None; reply = Some r } else n).last ≡ req.number
-              → (if b then record { id = n.id; last = n.last; waiting = None; reply = Some r } else n).reply ≡ Some (replies.Answer answer) → Then answer
-          by_test true is last reply = told answer (by_waiting n.waiting refl is last) (some_reply reply)
-          by_test false is last reply = more answer (before answer last reply)
+              → (if b then record { id = n.id; last = n.last; waiting = None; reply = Some r } else n).reply ≡ Some (answered replies.Answer result) → Then result
+          by_test true is last reply = told result (by_waiting n.waiting refl is last) (some_reply reply)
+          by_test false is last reply = more result (before result last reply)
 
       same_node : (n : Node) → NodeSo req call Made n → NodeSo req call Then n
-      same_node n before answer last reply = more answer (before answer last reply)
+      same_node n before result last reply = more result (before result last reply)
 
-      hearing_so : (body : Body) (n : Node) → n.id ≡ req.client → Waits n → NodeSo req call Made n → Says req call Made body → NodeSo req call Then (hearing (hears body n) n)
-      hearing_so (bodies.Reply other (Ok x)) n own waits before says = takes_so other (replies.Answer x) n own waits before (λ answer same is. more answer (subst Made (answer_is is) (says same)))
-        where
-          answer_is : {a b : Answer} → replies.Answer a ≡ replies.Answer b → a ≡ b
-          answer_is is = cc
-      hearing_so (bodies.Reply other (Err refusal)) n own waits before says = takes_so other (replies.Refused refusal) n own waits before (λ answer same is. absurd cc)
-      hearing_so (bodies.Done other result) n own waits before says = takes_so other (answered replies.Outcome result) n own waits before (λ answer same is. absurd (never result answer is))
-        where
-          never : (result : Result _ Refusal) (answer : Answer) → answered replies.Outcome result ≡ replies.Answer answer → ⊥
-          never (Ok outcome) answer is = cc
-          never (Err refusal) answer is = cc
-      hearing_so (bodies.Bytes other result) n own waits before says = takes_so other (answered replies.Given result) n own waits before (λ answer same is. absurd (never result answer is))
-        where
-          never : (result : Result _ Refusal) (answer : Answer) → answered replies.Given result ≡ replies.Answer answer → ⊥
-          never (Ok given) answer is = cc
-          never (Err refusal) answer is = cc
-      hearing_so (bodies.About chunk said) n own waits before says = same_node n before
-      hearing_so (bodies.Call other calls) n own waits before says = same_node n before
-      hearing_so (bodies.Push other bytes) n own waits before says = same_node n before
-      hearing_so (bodies.MakeCopy chunk at new_chunk stamp) n own waits before says = same_node n before
-      hearing_so (bodies.Report epoch replicas) n own waits before says = same_node n before
-      hearing_so (bodies.Epoch epoch end) n own waits before says = same_node n before
-      hearing_so (bodies.Learned epoch handles) n own waits before says = same_node n before
-      hearing_so (bodies.Behind epoch) n own waits before says = same_node n before
+      by_outcome : {A : Type 0} (as_reply : A → Reply) → ((x : A) (said : Result Answer Refusal) → as_reply x ≡ answered replies.Answer said → ⊥) → (result : Result A Refusal) (said : Result Answer Refusal) → answered as_reply result ≡ answered replies.Answer said
+          → ((refusal : Refusal) → result ≡ Err refusal → Given) → Then said
+      by_outcome as_reply apart (Ok x) said is given_so = absurd (apart x said is)
+      by_outcome as_reply apart (Err e) (Ok x) is given_so = absurd cc
+      by_outcome as_reply apart (Err e) (Err g) is given_so = given (given_so e refl) g
+
+      no_outcome : (x : EditOutcome) (said : Result Answer Refusal) → replies.Outcome x ≡ answered replies.Answer said → ⊥
+      no_outcome x (Ok answer) is = cc
+      no_outcome x (Err refusal) is = cc
+
+      no_part : (x : Part_given) (said : Result Answer Refusal) → replies.Given x ≡ answered replies.Answer said → ⊥
+      no_part x (Ok answer) is = cc
+      no_part x (Err refusal) is = cc
+
+      done_given : (other : ReqId) (result : Result EditOutcome Refusal) → RefusesIf req Given (bodies.Done other result) → other ≡ req → (refusal : Refusal) → result ≡ Err refusal → Given
+      done_given other (Ok x) refuses same refusal is = absurd cc
+      done_given other (Err e) refuses same refusal is = refuses same
+
+      bytes_given : (other : ReqId) (result : Result Part_given Refusal) → RefusesIf req Given (bodies.Bytes other result) → other ≡ req → (refusal : Refusal) → result ≡ Err refusal → Given
+      bytes_given other (Ok x) refuses same refusal is = absurd cc
+      bytes_given other (Err e) refuses same refusal is = refuses same
+
+      hearing_so : (body : Body) (n : Node) → n.id ≡ req.client → Waits n → NodeSo req call Made n → Says req call Made body → RefusesIf req Given body → NodeSo req call Then (hearing (hears body n) n)
+      hearing_so (bodies.Reply other said) n own waits before says refuses = takes_so other (answered replies.Answer said) n own waits before (λ result same is. more result (subst Made (same_result said result is) (says same)))
+      hearing_so (bodies.Done other result) n own waits before says refuses = takes_so other (answered replies.Outcome result) n own waits before (λ said same is. by_outcome replies.Outcome no_outcome result said is (done_given other result refuses same))
+      hearing_so (bodies.Bytes other result) n own waits before says refuses = takes_so other (answered replies.Given result) n own waits before (λ said same is. by_outcome replies.Given no_part result said is (bytes_given other result refuses same))
+      hearing_so (bodies.About chunk said) n own waits before says refuses = same_node n before
+      hearing_so (bodies.Call other calls) n own waits before says refuses = same_node n before
+      hearing_so (bodies.Push other bytes) n own waits before says refuses = same_node n before
+      hearing_so (bodies.MakeCopy chunk at new_chunk stamp) n own waits before says refuses = same_node n before
+      hearing_so (bodies.Report epoch replicas) n own waits before says refuses = same_node n before
+      hearing_so (bodies.Epoch epoch end) n own waits before says refuses = same_node n before
+      hearing_so (bodies.Learned epoch handles) n own waits before says refuses = same_node n before
+      hearing_so (bodies.Behind epoch) n own waits before says refuses = same_node n before
 
       waits_of : (id : ClientId) (n : Node) → client_in old.nodes.clients id ≡ Some n → Waits n
       waits_of id n found = (f.numbered (id.0 - 1) n (in_list (id.0 == 0) (slice_get old.nodes.clients (id.0 - 1)) n found).1).waits
@@ -716,8 +736,8 @@ module _ (req : ReqId) (call : Call) where
 
       leaves : (new : Nodes D) → spares_master (Comes (record { moment = moment; happening = happening })) ≡ true → Part seen failures armed old moment happening outcome new → Leaves Then outcome new
       leaves new spares (Heard id message turn place it was to hears is same) =
-          let left = hears_so req call Made Then more seen failures message moment old.nodes.master place turn once (f.sent id message was).0 (f.sent id message was).1 f.master
-          (λ m stands asks from apart new_call answer reply there says. now answer (record {
+          let left = hears_so req call Made Then more anyway seen failures message moment old.nodes.master place turn once (f.sent id message was).0 (f.sent id message was).1 f.master
+          (λ m stands asks from apart new_call result reply there says. now result (record {
             id = id;
             message = message;
             comes = it;
@@ -735,12 +755,12 @@ module _ (req : ReqId) (call : Call) where
           })) hears in
           at_master place new turn.sent.items same (ap sent_by is) left (hears_left seen failures Any message moment old.nodes.master place turn (any_kept old.nodes.master) (λ r calls. tt) hears).1
       leaves new spares (Ticked turn place it ticks is same) =
-          at_master place new turn.sent.items same (ap sent_by is) (ticks_so req call Made Then more seen failures moment old.nodes.master place turn f.master ticks) (ticks_left seen failures Any moment old.nodes.master place turn (any_kept old.nodes.master) ticks).1
+          at_master place new turn.sent.items same (ap sent_by is) (ticks_so req call Made Then more anyway seen failures moment old.nodes.master place turn f.master ticks) (ticks_left seen failures Any moment old.nodes.master place turn (any_kept old.nodes.master) ticks).1
       leaves new spares (Opened turn place it opens is same) = absurd (false≢true (sym (ap (λ h. spares_master (Comes (record { moment = moment; happening = h }))) it) ∙ spares))
       leaves new spares (Armed disk call it none same) = absurd (false≢true (sym (ap (λ h. spares_master (Comes (record { moment = moment; happening = h }))) it) ∙ spares))
       leaves new spares (Served by clients master) = elsewhere new clients master (servers_say Then (sent_by outcome) by) (servers_said Any (sent_by outcome) by)
       leaves new spares (Asked other request n it found number sends same) =
-          at_client other.client n (asking n other.number) new found (not_above n.last other.number (above other.number n.last number)) refl (λ waits k is. its_last is) same (λ mine answer last reply. absurd (none_yet reply))
+          at_client other.client n (asking n other.number) new found (not_above n.last other.number (above other.number n.last number)) refl (λ waits k is. its_last is) same (λ mine result last reply. absurd (none_yet reply))
           (subst (AllSays req call Then) (sym sends) (request_says Then (request_of n other.number) request (λ calls is mine. absurd (later_one other n found number mine)))) (subst (AllSaid Any) (sym sends) (request_said Any (request_of n other.number) request tt))
         where
           its_last : {a b : ℕ} → ◌≡◌ {A = Option ℕ} (Some a) (Some b) → b ≡ a
@@ -751,7 +771,7 @@ module _ (req : ReqId) (call : Call) where
       leaves new spares (Told id message client n it was found none same) =
           let kept = hearing_same message.body n in
           at_client client n (hearing (hears message.body n) n) new found (no_less n.last (hearing (hears message.body n) n).last kept.1) kept.0 kept.2 same
-          (λ mine. hearing_so message.body n (own_id old.nodes.clients f.numbered client n found ∙ mine) (waits_of client n found) (f.client n (subst (λ c. client_in old.nodes.clients c ≡ Some n) mine found)) (f.sent id message was).0) (none_says none) (none_of none)
+          (λ mine. hearing_so message.body n (own_id old.nodes.clients f.numbered client n found ∙ mine) (waits_of client n found) (f.client n (subst (λ c. client_in old.nodes.clients c ≡ Some n) mine found)) (f.sent id message was).0 (refused id message was)) (none_says none) (none_of none)
         where
           no_less : (a b : ℕ) → b ≡ a → a ≤ b
           no_less a b is = omega arith
@@ -761,13 +781,13 @@ module _ (req : ReqId) (call : Call) where
     posts moment by (Ok (messages, said)) old result new (posted, is) = inl posted
     posts moment by (Err refusal) old result new (same, is) = inr same
 
-    both_so : (Then : Answer → Type 0) (messages : List Message) → AllSays req call Then messages → AllSaid Any messages → AllByRecursion (SoMessage Then) messages
+    both_so : (Then : Result Answer Refusal → Type 0) (messages : List Message) → AllSays req call Then messages → AllSaid Any messages → AllByRecursion (SoMessage Then) messages
     both_so Then messages says of = all_both (λ (m : Message). Says req call Then m.body) (λ (m : Message). SaysOf Any m.from m.body) (SoMessage Then) messages (λ m one two. (one, two)) says of
 
-    pub event_follows : (Made Then : Answer → Type 0) → ((answer : Answer) → Made answer → Then answer) → (event : Event) (old new : History D) (said : Result (Unit {0}) Refusal) (h : Happens seen failures armed event old said new) → spares_master (Comes event) ≡ true
-        → ((answer : Answer) → AnswersNow old event h.outcome req call answer → Then answer) → Follows Made old → Follows Then new
-    event_follows Made Then more event old new said h spares now f =
-        let left = leaves Made Then more old f event.moment event.happening h.outcome now new.nodes spares (part_of seen failures armed old event.moment event.happening h.by h.outcome new.nodes h.at) in record {
+    pub event_follows : (Made Then : Result Answer Refusal → Type 0) → ((result : Result Answer Refusal) → Made result → Then result) → IsAnyway Then → (Given : Type 0) → (Given → (refusal : Refusal) → Then (Err refusal)) → (event : Event) (old new : History D) (said : Result (Unit {0}) Refusal) (h : Happens seen failures armed event old said new) → spares_master (Comes event) ≡ true
+        → AllSent (λ (m : Message). RefusesIf req Given m.body) old.sent → ((result : Result Answer Refusal) → SaysNow old event h.outcome req call result → Then result) → Follows Made old → Follows Then new
+    event_follows Made Then more anyway Given given event old new said h spares refused now f =
+        let left = leaves Made Then more anyway Given given old refused f event.moment event.happening h.outcome now new.nodes spares (part_of seen failures armed old event.moment event.happening h.by h.outcome new.nodes h.at) in record {
           sent = posted_all (SoMessage Then) event.moment h.by (sent_by h.outcome) old.sent new.sent (posts event.moment h.by h.outcome old.sent said new.sent h.tells)
               (sent_then (SoMessage Made) (SoMessage Then) old.sent (λ m was. (says_more req call Made Then more m.body was.0, was.1)) f.sent) (both_so Then (sent_by h.outcome) left.said left.of);
           master = left.master;
@@ -776,7 +796,7 @@ module _ (req : ReqId) (call : Call) where
           numbered = left.numbered;
         }
 
-    pub takes_follows : (Made Then : Answer → Type 0) → ((answer : Answer) → Made answer → Then answer) → (client : ClientId) (old new : History D) → Goes seen failures armed (Takes client) old new → Follows Made old → Follows Then new
+    pub takes_follows : (Made Then : Result Answer Refusal → Type 0) → ((result : Result Answer Refusal) → Made result → Then result) → (client : ClientId) (old new : History D) → Goes seen failures armed (Takes client) old new → Follows Made old → Follows Then new
     takes_follows Made Then more client old new (found, taken, same) f = by_client (client_in old.nodes.clients client) refl taken
       where
         sent_so : AllSent (SoMessage Then) new.sent
@@ -829,10 +849,13 @@ module _ (req : ReqId) (call : Call) where
     none_behind [] = refl
     none_behind (x ∷ xs) = ap (λ (ys : List Step). x ∷ ys) (none_behind xs)
 
-    -- with each world on the way such
-    module _ (Such : History D → Type 0) where
-      abbrev Answered_by : List Step → History D → History D → Answer → Type 0
-      Answered_by steps old new answer = (made : WasAnswered seen failures armed steps old new req call answer) × GoesBy seen failures armed Such steps old new req call answer made
+    -- With each world on the way such. There refusals of servers are given, and of some refusals nothing is said.
+    module _ (Such : History D → Type 0) (Given : Type 0) (fine : (h : History D) → Such h → AllSent (λ (m : Message). RefusesIf req Given m.body) h.sent) (Spared : Refusal → Type 0) (spared : Spared refusals.Old × Spared refusals.Device × Spared refusals.Unsure) (given : Given → (refusal : Refusal) → Spared refusal) where
+      abbrev Answered_by : List Step → History D → History D → Result Answer Refusal → Type 0
+      Answered_by steps old new result = SparedIn Spared result ⊎ ((made : WasSaid seen failures armed steps old new req call result) × SaidBy seen failures armed Such steps old new req call result made)
+
+      anyway : (steps : List Step) (old new : History D) → IsAnyway (Answered_by steps old new)
+      anyway steps old new = (inl spared.0, inl spared.1, inl spared.2)
 
       abbrev All_such : (steps : List Step) (old new : History D) → RunsTo seen failures armed steps old new → Type 0
       All_such steps old new runs = (h : History D) → Passes seen failures armed h steps old new runs → Such h
@@ -844,8 +867,9 @@ module _ (req : ReqId) (call : Call) where
       such_then (one ∷ steps) step old mid new (k, first, rest) goes all is h (inl here) = all h (inl here)
       such_then (one ∷ steps) step old mid new (k, first, rest) goes all is h (inr there) = such_then steps step k mid new rest goes (λ j on. all j (inr on)) is h there
 
-      further : (steps : List Step) (step : Step) (old mid new : History D) → Goes seen failures armed step mid new → Such new → (answer : Answer) → Answered_by steps old mid answer → Answered_by (steps ++ step ∷ []) old new answer
-      further steps step old mid new goes is answer (was, by) = (
+      further : (steps : List Step) (step : Step) (old mid new : History D) → Goes seen failures armed step mid new → Such new → (result : Result Answer Refusal) → Answered_by steps old mid result → Answered_by (steps ++ step ∷ []) old new result
+      further steps step old mid new goes is result (inl so) = inl so
+      further steps step old mid new goes is result (inr (was, by)) = inr (
         record {
           before = was.before;
           now = was.now;
@@ -862,28 +886,30 @@ module _ (req : ReqId) (call : Call) where
         record { first = by.first; next = by.next; rest = such_then was.after step was.next mid new was.rest goes by.rest is },
       )
 
-      step_follows : (steps : List Step) (step : Step) (old mid new : History D) (runs : RunsTo seen failures armed steps old mid) → All_such steps old mid runs → Goes seen failures armed step mid new → Such new → spares_master step ≡ true → Follows (Answered_by steps old mid) mid
+      abbrev AreFine : History D → Type 0
+      AreFine h = AllSent (λ (m : Message). RefusesIf req Given m.body) h.sent
+
+      step_follows : (steps : List Step) (step : Step) (old mid new : History D) (runs : RunsTo seen failures armed steps old mid) → All_such steps old mid runs → AreFine mid → Goes seen failures armed step mid new → Such new → spares_master step ≡ true → Follows (Answered_by steps old mid) mid
           → Follows (Answered_by (steps ++ step ∷ []) old new) new
-      step_follows steps (Comes event) old mid new runs all (said, h) is spares f =
-          event_follows (Answered_by steps old mid) (Answered_by (steps ++ Comes event ∷ []) old new) (further steps (Comes event) old mid new (said, h) is) event mid new said h spares
-          (λ answer says. (record { before = steps; now = mid; event = event; said = said; next = new; after = []; parts = refl; first = runs; happens = h; rest = refl; answers = says }, record { first = all; next = is; rest = λ k never. absurd never })) f
-      step_follows steps (Takes client) old mid new runs all goes is spares f =
+      step_follows steps (Comes event) old mid new runs all refused (said, h) is spares f =
+          event_follows (Answered_by steps old mid) (Answered_by (steps ++ Comes event ∷ []) old new) (further steps (Comes event) old mid new (said, h) is) (anyway (steps ++ Comes event ∷ []) old new) Given (λ so refusal. inl (given so refusal)) event mid new said h spares refused
+          (λ result says. inr (record { before = steps; now = mid; event = event; said = said; next = new; after = []; parts = refl; first = runs; happens = h; rest = refl; answers = says }, record { first = all; next = is; rest = λ k never. absurd never })) f
+      step_follows steps (Takes client) old mid new runs all refused goes is spares f =
           takes_follows (Answered_by steps old mid) (Answered_by (steps ++ Takes client ∷ []) old new) (further steps (Takes client) old mid new goes is) client mid new goes f
 
-      run_follows : (steps others : List Step) (old mid new : History D) (runs : RunsTo seen failures armed steps old mid) → All_such steps old mid runs → (rest : RunsTo seen failures armed others mid new) → All_such others mid new rest → AllByRecursion (λ step. spares_master step ≡ true) others
+      run_follows : (steps others : List Step) (old mid new : History D) (runs : RunsTo seen failures armed steps old mid) → All_such steps old mid runs → AreFine mid → (rest : RunsTo seen failures armed others mid new) → All_such others mid new rest → AllByRecursion (λ step. spares_master step ≡ true) others
           → Follows (Answered_by steps old mid) mid → Follows (Answered_by (steps ++ others) old new) new
-      run_follows steps [] old mid new runs all same none spares f =
+      run_follows steps [] old mid new runs all refused same none spares f =
           subst (λ xs. Follows (Answered_by xs old new) new) (sym (none_behind steps)) (subst (λ (h : History D). Follows (Answered_by steps old h) h) (sym same) f)
-      run_follows steps (step ∷ others) old mid new runs all (h, goes, rest) on spares f =
+      run_follows steps (step ∷ others) old mid new runs all refused (h, goes, rest) on spares f =
           subst (λ xs. Follows (Answered_by xs old new) new) (append_assoc steps (step ∷ []) others)
-          (run_follows (steps ++ step ∷ []) others old h new (then_step steps step old mid h runs goes) (such_then steps step old mid h runs goes all (on h (inl refl))) rest (λ k there. on k (inr there)) spares.1
-          (step_follows steps step old mid h runs all goes (on h (inl refl)) spares.0 f))
+          (run_follows (steps ++ step ∷ []) others old h new (then_step steps step old mid h runs goes) (such_then steps step old mid h runs goes all (on h (inl refl))) (fine h (on h (inl refl))) rest (λ k there. on k (inr there)) spares.1
+          (step_follows steps step old mid h runs all refused goes (on h (inl refl)) spares.0 f))
 
     -- ---- what it begins with
 
-    old_says : (Made : Answer → Type 0) (clients : List Node) → (HasAsked clients req → ⊥) → (from : NodeId) (body : Body) → SaysOf (HasAsked clients) from body → Says req call Made body × SaysOf Any from body
-    old_says Made clients none from (bodies.Reply other (Ok answer)) of = ((λ same. absurd (none (subst (HasAsked clients) same of))), tt)
-    old_says Made clients none from (bodies.Reply other (Err refusal)) of = (tt, tt)
+    old_says : (Made : Result Answer Refusal → Type 0) (clients : List Node) → (HasAsked clients req → ⊥) → (from : NodeId) (body : Body) → SaysOf (HasAsked clients) from body → Says req call Made body × SaysOf Any from body
+    old_says Made clients none from (bodies.Reply other result) of = ((λ same. absurd (none (subst (HasAsked clients) same of))), tt)
     old_says Made clients none from (bodies.Call other calls) of = ((λ same. absurd (none (subst (HasAsked clients) same of.1))), (of.0, tt))
     old_says Made clients none from (bodies.About chunk said) of = (tt, tt)
     old_says Made clients none from (bodies.Push other bytes) of = (tt, tt)
@@ -895,16 +921,16 @@ module _ (req : ReqId) (call : Call) where
     old_says Made clients none from (bodies.Learned epoch handles) of = (tt, tt)
     old_says Made clients none from (bodies.Behind epoch) of = (tt, tt)
 
-    old_keeps : (Made : Answer → Type 0) (clients : List Node) → (HasAsked clients req → ⊥) → (place : MasterPlace D) → KeepsOfAt (HasAsked clients) place → PlaceSo req call Made place
+    old_keeps : (Made : Result Answer Refusal → Type 0) (clients : List Node) → (HasAsked clients req → ⊥) → (place : MasterPlace D) → KeepsOfAt (HasAsked clients) place → PlaceSo req call Made place
     old_keeps Made clients none (Standing m) keeps = record {
-      durable = λ reply answer has number is. absurd (none (keeps.durable req (record { reply = reply; has = has; number = number })));
-      memory = λ reply answer has number is. absurd (none (keeps.memory req (record { reply = reply; has = has; number = number })));
+      durable = λ reply has number. absurd (none (keeps.durable req (record { reply = reply; has = has; number = number })));
+      memory = λ reply has number. absurd (none (keeps.memory req (record { reply = reply; has = has; number = number })));
       waits = λ there. none (keeps.waits req there);
     }
     old_keeps Made clients none (Closed first second) keeps = tt
     old_keeps Made clients none Away keeps = tt
 
-    module _ (Made : Answer → Type 0) (old : History D) (moment : Moment) (are : AreAsked seen old) (node : Node) (there : client_in old.nodes.clients req.client ≡ Some node) (fresh : node.last < req.number) where
+    module _ (Made : Result Answer Refusal → Type 0) (old : History D) (moment : Moment) (are : AreAsked seen old) (node : Node) (there : client_in old.nodes.clients req.client ≡ Some node) (fresh : node.last < req.number) where
       node_is : {a b : Node} → ◌≡◌ {A = Option Node} (Some a) (Some b) → a ≡ b
       node_is is = cc
 
@@ -966,10 +992,41 @@ module _ (req : ReqId) (call : Call) where
       happens_so : (nodes : Nodes D) (sent : Sent) (by : NodeId) (outcome : Upshot) → AsksAt req (requests.Call call) old.nodes outcome nodes → Tells seen failures armed moment by outcome old.sent (Ok tt) sent → Follows Made (record { nodes = nodes; sent = sent })
       happens_so nodes sent by outcome (out, at, is) tells = asks_all out nodes sent by at (subst (λ o. Tells seen failures armed moment by o old.sent (Ok tt) sent) is tells)
 
-    pub asked_follows : (Made : Answer → Type 0) (old asked : History D) (moment : Moment) → AreAsked seen old → AsksFresh seen failures armed old moment req call asked → Follows Made asked
+    pub asked_follows : (Made : Result Answer Refusal → Type 0) (old asked : History D) (moment : Moment) → AreAsked seen old → AsksFresh seen failures armed old moment req call asked → Follows Made asked
     asked_follows Made old asked moment are x = happens_so Made old moment are x.node x.there x.fresh asked.nodes asked.sent x.happens.by x.happens.outcome x.happens.at.1 x.happens.tells
+
+-- What is said of any reply, where servers' refusals are given, and nothing is said of some refusals.
+module _ {D : Type 0} (seen : D → List ℕ) (failures : D → ℕ) (armed : DiskId → ℕ → MasterPlace D → MasterPlace D) (old asked new : History D) (moment : Moment) (req : ReqId) (call : Call) (steps : List Step) (runs : RunsTo seen failures armed steps asked new) where
+  abbrev pub Such : History D → Type 0
+  Such h = Passes seen failures armed h steps asked new runs
+
+  pub says_are_made : (Given : Type 0) (Spared : Refusal → Type 0) → Spared refusals.Old × Spared refusals.Device × Spared refusals.Unsure → (Given → (refusal : Refusal) → Spared refusal) → AllSent (λ (m : Message). RefusesIf req Given m.body) asked.sent
+      → ((h : History D) → Such h → AllSent (λ (m : Message). RefusesIf req Given m.body) h.sent) → AreAsked seen old → AsksFresh seen failures armed old moment req call asked → is_answered_at_once call ≡ true → AllByRecursion (λ step. spares_master step ≡ true) steps
+      → (node : Node) (result : Result Answer Refusal) → client_in new.nodes.clients req.client ≡ Some node → node.last ≡ req.number → node.reply ≡ Some (answered replies.Answer result)
+      → SparedIn Spared result ⊎ ((made : WasSaid seen failures armed steps asked new req call result) × SaidBy seen failures armed Such steps asked new req call result made)
+  says_are_made Given Spared spared given here fine are fresh once spares node result there last reply =
+      let begun = asked_follows req call seen failures armed once (Answered_by req call seen failures armed once Such Given fine Spared spared given [] asked asked) old asked moment are fresh in
+      (run_follows req call seen failures armed once Such Given fine Spared spared given [] steps asked asked new refl (λ h never. absurd never) here runs (λ h on. on) spares begun).client node there result last reply
+
+-- nothing is said of refusals
+any_refuses : (req : ReqId) (body : Body) → RefusesIf req (Unit {0}) body
+any_refuses req (bodies.Done other (Ok outcome)) = tt
+any_refuses req (bodies.Done other (Err refusal)) = λ same. tt
+any_refuses req (bodies.Bytes other (Ok given)) = tt
+any_refuses req (bodies.Bytes other (Err refusal)) = λ same. tt
+any_refuses req (bodies.Reply other result) = tt
+any_refuses req (bodies.Call other calls) = tt
+any_refuses req (bodies.About chunk said) = tt
+any_refuses req (bodies.Push other bytes) = tt
+any_refuses req (bodies.MakeCopy handle at new_handle stamp) = tt
+any_refuses req (bodies.Report epoch replicas) = tt
+any_refuses req (bodies.Epoch epoch end) = tt
+any_refuses req (bodies.Learned epoch handles) = tt
+any_refuses req (bodies.Behind epoch) = tt
 
 pub answers_are_made : {D : Type 0} (seen : D → List ℕ) (failures : D → ℕ) (armed : DiskId → ℕ → MasterPlace D → MasterPlace D) → AnswersAreMade seen failures armed
 answers_are_made {D} seen failures armed old asked new moment req call steps node answer are fresh once runs spares there last reply =
-    let begun = asked_follows req call seen failures armed once (Answered_by req call seen failures armed once (λ h. Passes seen failures armed h steps asked new runs) [] asked asked) old asked moment are fresh in
-    (run_follows req call seen failures armed once (λ h. Passes seen failures armed h steps asked new runs) [] steps asked asked new refl (λ h never. absurd never) runs (λ h on. on) spares begun).client node there answer last reply
+    elim (says_are_made seen failures armed old asked new moment req call steps runs (Unit {0}) (λ refusal. Unit {0}) (tt, tt, tt) (λ given refusal. tt) (λ id m was. any_refuses req m.body) (λ h such id m was. any_refuses req m.body) are fresh once spares node (Ok answer) there last reply) [
+      | inl never ↦ absurd never
+      | inr made ↦ made
+    ]

@@ -1,5 +1,5 @@
 -- What a client lists behind a commit that was answered to it.
-use Rattle.std.proofs.Common.{if◌then◌else◌, ◌≡◌, ◌∙◌, inl, inr, ◌≤◌, ◌++◌, ℕ, zero, suc, Bool, true, false, List, [], ◌∷◌, Option, Some, Result, Ok, Err, refl, sym, ap, subst, arith}
+use Rattle.std.proofs.Common.{if◌then◌else◌, ◌≡◌, ◌∙◌, ◌⊎◌, inl, inr, ◌≤◌, ◌++◌, ℕ, zero, suc, Bool, true, false, List, [], ◌∷◌, Option, Some, Result, Ok, Err, refl, sym, ap, subst, arith}
 use Rattle.std.specs.Prelude.{Contains, MatchBool}
 use Rattle.std.specs.FinMap as fin
 use Rattle.std.specs.List.{AllByRecursion}
@@ -62,7 +62,7 @@ use Rattle.gs_laws_world.proofs.lemmas.steady.Keeping.{run_keeps}
 use Rattle.gs_laws_world.specs.steady.Saying.{IsStepWithin, KeepsTypes}
 use Rattle.gs_laws_world.specs.steady.Steady.{StandsSteady, TellsSteady}
 use Rattle.gs_laws_world.specs.steady.Through.{LastsThrough}
-use Rattle.gs_laws_chunks.specs.answers.Answered.{AnswersNow, sent_by}
+use Rattle.gs_laws_chunks.specs.answers.Answered.{AnswersNow, SaysNow, sent_by}
 use Rattle.gs_laws_chunks.proofs.lemmas.answers.Parts.{Armed, Asked, Heard, Opened, Part, Rested, Served, Ticked, Told, part_of}
 
 -- ---- lists
@@ -84,12 +84,12 @@ by_one [] m by there = none_there m there
 by_one (x ∷ messages) m by (zero, within, is) = subst (λ (n : Message). IsByServer n.body) is by.0
 by_one (x ∷ messages) m by (suc k, within, is) = by_one messages m by.1 (k, (omega arith), is)
 
--- a refusal answers nothing
-refused_none : {Z : Type 0} (req : ReqId) (e : Refusal) (answer : Answer) (messages : List Message) (m : Message) → messages ≡ reply_to req (Err e) ∷ [] → Contains messages m → m.body ≡ bodies.Reply req (Ok answer) → Z
-refused_none {Z} req e answer messages m are there says = absurd (never (sym (ap (λ (n : Message). n.body) (one_is (reply_to req (Err e)) m (subst (λ (ms : List Message). Contains ms m) are there))) ∙ says))
+-- the one reply is told
+refused_is : (req : ReqId) (e : Refusal) (result : Result Answer Refusal) (messages : List Message) (m : Message) → messages ≡ reply_to req (Err e) ∷ [] → Contains messages m → m.body ≡ bodies.Reply req result → result ≡ Err e
+refused_is req e result messages m are there says = is (sym (ap (λ (n : Message). n.body) (one_is (reply_to req (Err e)) m (subst (λ (ms : List Message). Contains ms m) are there))) ∙ says)
   where
-    never : bodies.Reply req (Err e) ≡ bodies.Reply req (Ok answer) → ⊥
-    never is = cc
+    is : bodies.Reply req (Err e) ≡ bodies.Reply req result → result ≡ Err e
+    is same = cc
 
 -- ---- a call that is new, and answered
 
@@ -100,42 +100,53 @@ module _ (config : Config) (s : State) (req : ReqId) (moment : Moment) (call : C
       ∙ (ap (λ (b : Bool). if b then waits_still s req else taken_as config s req moment call (numbered (last_reply s req.client) req.number)) apart
       ∙ ap (taken_as config s req moment call) new)
 
-  is_opened : (answer : Answer) (m : Message) → Contains (call_turn config s req moment call).sent m → m.body ≡ bodies.Reply req (Ok answer) → is_unopened s.fault ≡ false
-  is_opened answer m there says = by_test (is_unopened s.fault) refl there
+  is_opened : (result : Result Answer Refusal) (m : Message) → Contains (call_turn config s req moment call).sent m → m.body ≡ bodies.Reply req result → (is_unopened s.fault ≡ false) ⊎ (result ≡ Err refusals.Device)
+  is_opened result m there says = by_test (is_unopened s.fault) refl there
     where
       by_test : (b : Bool) → is_unopened s.fault ≡ b
-          → Contains (if b then replied_again s req (Err refusals.Device) else if is_pending s.volatile.pending req then waits_still s req else taken_as config s req moment call (numbered (last_reply s req.client) req.number)).sent m → is_unopened s.fault ≡ false
-      by_test true is there = refused_none req refusals.Device answer (reply_to req (Err refusals.Device) ∷ []) m refl there says
-      by_test false is there = is
+          → Contains (if b then replied_again s req (Err refusals.Device) else if is_pending s.volatile.pending req then waits_still s req else taken_as config s req moment call (numbered (last_reply s req.client) req.number)).sent m → (is_unopened s.fault ≡ false) ⊎ (result ≡ Err refusals.Device)
+      by_test true is there = inr (refused_is req refusals.Device result (reply_to req (Err refusals.Device) ∷ []) m refl there says)
+      by_test false is there = inl is
 
 -- ---- the event
 
 module _ {D : Type 0} (seen : D → List ℕ) (failures : D → ℕ) (armed : DiskId → ℕ → MasterPlace D → MasterPlace D) where
   -- the master has made the turn of this call
-  pub record MadeThere (now : History D) (moment : Moment) (m : MasterOf D) (req : ReqId) (call : Call) (answer : Answer) (new : Nodes D) : Type 0 where
+  pub record SaidThere (now : History D) (moment : Moment) (m : MasterOf D) (req : ReqId) (call : Call) (result : Result Answer Refusal) (new : Nodes D) : Type 0 where
     pub after : MasterOf D
     pub stands : new.master ≡ Standing after
     pub is : after.state ≡ (new_call m.config m.state req moment call).after
-    pub says : OneSays req (Ok answer) (new_call m.config m.state req moment call).sent
+    pub says : OneSays req result (new_call m.config m.state req moment call).sent
 
-  module _ (now : History D) (event : Event) (outcome : Upshot) (req : ReqId) (call : Call) (answer : Answer) (a : AnswersNow now event outcome req call answer) (new : Nodes D) where
+  abbrev pub MadeThere : History D → Moment → MasterOf D → ReqId → Call → Answer → Nodes D → Type 0
+  MadeThere now moment m req call answer new = SaidThere now moment m req call (Ok answer) new
+
+  -- Or a disk fails at the record of that turn, or had failed when the journal was to be opened.
+  abbrev pub SaidOrFailed : History D → Moment → MasterOf D → ReqId → Call → Result Answer Refusal → Nodes D → Type 0
+  SaidOrFailed now moment m req call result new = (result ≡ Err refusals.Unsure) ⊎ ((result ≡ Err refusals.Device) ⊎ SaidThere now moment m req call result new)
+
+  module _ (now : History D) (event : Event) (outcome : Upshot) (req : ReqId) (call : Call) (result : Result Answer Refusal) (a : SaysNow now event outcome req call result) (new : Nodes D) where
     m : MasterOf D
     m = a.master
 
     abbrev Made : Type 0
-    Made = MadeThere now event.moment a.master req call answer new
+    Made = SaidOrFailed now event.moment a.master req call result new
 
     there_by : (answers_turn : Turn) (after : MasterOf D) (turn : Told_turn) → answers_turn ≡ call_turn a.master.config a.master.state req event.moment call → new.master ≡ Standing after → Contains turn.sent.items a.reply
         → MasterAnswers seen failures (Some req) answers_turn a.master (Ok turn) after → Made
     there_by t after turn same stands there (inl is) =
         let sent : Contains (call_turn a.master.config a.master.state req event.moment call).sent a.reply = subst (λ (u : Turn). Contains u.sent a.reply) same (subst (λ (ms : List Message). Contains ms a.reply) is.done.sends there) in
-        let made = turn_is a.master.config a.master.state req event.moment call (is_opened a.master.config a.master.state req event.moment call answer a.reply sent a.says) a.apart a.new in record {
+        by_opened sent (is_opened a.master.config a.master.state req event.moment call result a.reply sent a.says)
+      where
+        by_opened : Contains (call_turn a.master.config a.master.state req event.moment call).sent a.reply → (is_unopened a.master.state.fault ≡ false) ⊎ (result ≡ Err refusals.Device) → Made
+        by_opened sent (inr failed) = inr (inl failed)
+        by_opened sent (inl opened) = (let made = turn_is a.master.config a.master.state req event.moment call opened a.apart a.new in inr (inr (record {
           after = after;
           stands = stands;
           is = is.done.after ∙ ap (λ (u : Turn). u.after) (same ∙ made);
-          says = subst (λ (u : Turn). OneSays req (Ok answer) u.sent) made (says_one req (Ok answer) (call_turn a.master.config a.master.state req event.moment call).sent a.reply sent a.says);
-        }
-    there_by t after turn same stands there (inr (place, is)) = refused_none req refusals.Unsure answer turn.sent.items a.reply is.cut.sends there a.says
+          says = subst (λ (u : Turn). OneSays req result u.sent) made (says_one req result (call_turn a.master.config a.master.state req event.moment call).sent a.reply sent a.says);
+        })))
+    there_by t after turn same stands there (inr (place, is)) = inl (refused_is req refusals.Unsure result turn.sent.items a.reply is.cut.sends there a.says)
 
     is_call_turn : (config : Config) (s : State) (message : Message) → message.body ≡ bodies.Call req call → message.from ≡ nodes.Client req.client → handle config s message event.moment ≡ call_turn config s req event.moment call
     unfolding handle
@@ -176,9 +187,21 @@ module _ {D : Type 0} (seen : D → List ℕ) (failures : D → ℕ) (armed : Di
     by_part (Told id message client n it was found none same) = none_there a.reply (subst (λ (ms : List Message). Contains ms a.reply) none a.sent)
     by_part (Rested none same) = none_there a.reply (subst (λ (ms : List Message). Contains ms a.reply) none a.sent)
 
+  pub said_there : (now : History D) (event : Event) (said : Result (Unit {0}) Refusal) (next : History D) (h : Happens seen failures armed event now said next) (req : ReqId) (call : Call) (result : Result Answer Refusal) (a : SaysNow now event h.outcome req call result)
+      → SaidOrFailed now event.moment a.master req call result next.nodes
+  said_there now event said next h req call result a = by_part now event h.outcome req call result a next.nodes (part_of seen failures armed now event.moment event.happening h.by h.outcome next.nodes h.at)
+
   pub made_there : (now : History D) (event : Event) (said : Result (Unit {0}) Refusal) (next : History D) (h : Happens seen failures armed event now said next) (req : ReqId) (call : Call) (answer : Answer) (a : AnswersNow now event h.outcome req call answer)
       → MadeThere now event.moment a.master req call answer next.nodes
-  made_there now event said next h req call answer a = by_part now event h.outcome req call answer a next.nodes (part_of seen failures armed now event.moment event.happening h.by h.outcome next.nodes h.at)
+  made_there now event said next h req call answer a = by_said (said_there now event said next h req call (Ok answer) a)
+    where
+      never : (e : Refusal) → ◌≡◌ {A = Result Answer Refusal} (Ok answer) (Err e) → ⊥
+      never e is = cc
+
+      by_said : SaidOrFailed now event.moment a.master req call (Ok answer) next.nodes → MadeThere now event.moment a.master req call answer next.nodes
+      by_said (inl unsure) = absurd (never refusals.Unsure unsure)
+      by_said (inr (inl failed)) = absurd (never refusals.Device failed)
+      by_said (inr (inr made)) = made
 
 -- ---- runs
 

@@ -63,7 +63,7 @@ module _ {D : Type 0} (seen : D → List ℕ) (failures : D → ℕ) (armed : Di
     pub sent : AllSent (λ (m : Message). IsToldOnlyIf X m.body) h.sent
 
   module _ (arms : ArmsAlone seen failures armed) where
-    arming : (P : ReqId → Type 0) (disk : DiskId) (call : ℕ) (place : MasterPlace D) → KeepsOfAt P place → KeepsOfAt P (armed disk call place)
+    pub arming : (P : ReqId → Type 0) (disk : DiskId) (call : ℕ) (place : MasterPlace D) → KeepsOfAt P place → KeepsOfAt P (armed disk call place)
     arming P disk call place keeps = by_place (armed disk call place) refl
       where
         by_place : (p : MasterPlace D) → armed disk call place ≡ p → KeepsOfAt P p

@@ -22,7 +22,7 @@ use Rattle.gs_shell_calls.specs.declared.answer.Answer.TheVariants as answers
 use Rattle.gs_tree.specs.Entry.{Dir, Entry, File}
 use Rattle.gs_tree.specs.Find.{Rows, at}
 use Rattle.gs_laws_scripts.specs.explained.Following.{AreAlike, IsPlain}
-use Rattle.gs_laws_scripts.specs.explained.Lines.{AsksNow, Digests, IsOfStore, IsPutOff, IsSaid, MayBeDone, OfFile, OnPath, Reads, Stats, digest_in, read_in, seen, told}
+use Rattle.gs_laws_scripts.specs.explained.Lines.{AsksNow, Digests, IsNoLook, IsOfStore, IsPutOff, IsSaid, MayBeDone, OfFile, OnPath, Reads, Stats, digest_in, read_in, seen, told}
 use Rattle.gs_laws_scripts.specs.explained.Machine.{Machine, Text, called, is_preparing, is_rolling, taken, tree_called, tree_said}
 use Rattle.gs_laws_scripts.proofs.lemmas.explained.Quiet.{AreQuiet, IsQuietFound, IsStill, RowsAreQuiet, nothing_now, quiet_found, seen_is}
 
@@ -87,6 +87,11 @@ IsSure result = (refusal : Refusal) → result ≡ Err refusal → (IsOfStore re
 pub sure_never_off : {A X : Type 0} (MayBe : Machine → Type 0) (old new : Machine) (result : Result A Refusal) → IsSure result → IsPutOff MayBe old result new → X
 sure_never_off MayBe old new result sure (refusal, is, inl (store, same)) = absurd ((sure refusal is).0 store)
 sure_never_off MayBe old new result sure (refusal, is, inr (unsure, may)) = absurd ((sure refusal is).1 unsure)
+
+-- nor is it refused to look
+pub sure_looks : {A X : Type 0} (result : Result A Refusal) (refusal : Refusal) → IsSure result → result ≡ Err refusal → IsNoLook refusal → X
+sure_looks result refusal sure is (inl store) = absurd ((sure refusal is).0 store)
+sure_looks result refusal sure is (inr unsure) = absurd ((sure refusal is).1 unsure)
 
 pub sure_said : (answer : Result Answer Refusal) (said : Result Said Refusal) → answer ≡ answered told said → IsSure answer → IsSure said
 sure_said answer said is sure = λ refusal e. sure refusal (is ∙ ap (answered told) e)
@@ -161,8 +166,8 @@ digests_alike size block chunk index p (Some (File texts)) old new first last on
 pub on_path_alike : (size : ℕ) (path : Result Path Refusal) (Does : Path → Option (Entry Text) → Machine → Result Answer Refusal → Machine → Type 0) → AnswersAlike Does → (rows : Rows Text) (old new first last : Machine) (one another : Result Answer Refusal)
     → RowsAreQuiet rows → IsStill old → IsStill first → old.plain.tree ≡ rows → first.plain.tree ≡ rows → IsSure one → IsSure another → OnPath size path Does old one new → OnPath size path Does first another last → AreAlike one another
 on_path_alike size (Err refusal) Does does rows old new first last one another quiet still stills is so sure surely (e, same) (f, sames) = alike_to (Err refusal) one another e f
-on_path_alike size (Ok p) Does does rows old new first last one another quiet still stills is so sure surely (payments, now, is_now, inl (refusal, e, store, same)) other = absurd ((sure refusal e).0 store)
-on_path_alike size (Ok p) Does does rows old new first last one another quiet still stills is so sure surely (payments, now, is_now, inr (free, looked)) (paid, at_it, is_at, inl (refusal, e, store, same)) = absurd ((surely refusal e).0 store)
+on_path_alike size (Ok p) Does does rows old new first last one another quiet still stills is so sure surely (payments, now, is_now, inl (refusal, e, off, same)) other = sure_looks one refusal sure e off
+on_path_alike size (Ok p) Does does rows old new first last one another quiet still stills is so sure surely (payments, now, is_now, inr (free, looked)) (paid, at_it, is_at, inl (refusal, e, off, same)) = sure_looks another refusal surely e off
 on_path_alike size (Ok p) Does does rows old new first last one another quiet still stills is so sure surely (payments, now, is_now, inr (free, looked)) (paid, at_it, is_at, inr (frees, look)) =
     let tree_now : now.plain.tree ≡ rows = ap (λ m. m.plain.tree) (is_now ∙ nothing_now size payments old still) ∙ is in
     let tree_then : at_it.plain.tree ≡ rows = ap (λ m. m.plain.tree) (is_at ∙ nothing_now size paid first stills) ∙ so in

@@ -151,7 +151,7 @@ module _ (config : Config) (s : State) (req : ReqId) (moment : Moment) (m : Mach
   status_by : (p : Path) (result : Result Said Refusal) → AreShort m → (o : Option Refusal) → IsGated (is_rolled s.durable.phase) o → OneSays req result (called_unless config s req moment (calls.Status p) o).sent → TellsStatus m p result
   status_by p result short None calm said =
       subst (TellsStatus m p) (sym (looked_said s req (status s.durable (fin.get s.durable.names.tree p)) result said)) (status_is p short (calm_so calm) (fin.get s.durable.names.tree p) (found_so p))
-  status_by p result short (Some refusal) store said = subst (TellsStatus m p) (sym (one_said req (Err refusal) result said)) (inl store)
+  status_by p result short (Some refusal) store said = subst (TellsStatus m p) (sym (one_said req (Err refusal) result said)) (inl (inl store))
 
   status_told : (p : Path) (result : Result Said Refusal) → AreShort m → is_any_deep (calls.Status p) ≡ false → Replies config s req moment (calls.Status p) result → TellsStatus m p result
   status_told p result short not_deep said = status_by p result short (refused_before s req (calls.Status p)) (gates_deep (is_failed s.fault) (is_rolled s.durable.phase) s.volatile.is_preparing (is_any_deep (calls.Status p)) (is_locked s req (calls.Status p)) not_deep) said

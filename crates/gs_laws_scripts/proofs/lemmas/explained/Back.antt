@@ -156,7 +156,7 @@ list_leaves p m = gate_leaves (is_rolling m.phase && true) (is_preparing m.phase
 list_now : (p : Path) (old new : Machine) (said : Result Said Refusal) → AsksNow (calls.List p) old said new → new ≡ old
 list_now p old new said (inl (is, same)) = same ∙ list_leaves p old
 list_now p old new said (inr (refusal, is, inl (store, same))) = same
-list_now p old new said (inr (refusal, is, inr (unsure, never))) = absurd never
+list_now p old new said (inr (refusal, is, inr (unsure, same))) = same
 
 ls_leaves : (size : ℕ) (path : Result Path Refusal) (old new : Machine) (answer : Result Answer Refusal) → IsStill old → AsksTree size (on path calls.List) old answer new → new ≡ old
 ls_leaves size (Err refusal) old new answer still (is, same) = same
@@ -165,7 +165,7 @@ ls_leaves size (Ok p) old new answer still (said, mid, (payments, asks), is, sam
 query_now : (old new : Machine) (said : Result Said Refusal) → AsksNow calls.Query old said new → new ≡ old
 query_now old new said (inl (is, same)) = same ∙ gate_leaves (is_rolling old.phase && false) (is_preparing old.phase && false) refusals.RollingBack refusals.Preparing old (taken calls.Query old) refl
 query_now old new said (inr (refusal, is, inl (store, same))) = same
-query_now old new said (inr (refusal, is, inr (unsure, never))) = absurd never
+query_now old new said (inr (refusal, is, inr (unsure, same))) = same
 
 anew_calm : (phase : Phase) → is_rolling phase ≡ false → is_preparing phase ≡ false → (is_rolling (if is_preparing phase then phases.Ordinary else phase) ≡ false) × (is_preparing (if is_preparing phase then phases.Ordinary else phase) ≡ false)
 anew_calm phases.Preparing r q = (refl, refl)

@@ -30,7 +30,7 @@ use Rattle.gs_shell_calls.specs.declared.answer.Answer.{Answer}
 use Rattle.gs_shell_calls.specs.declared.answer.Answer.TheVariants as answers
 use Rattle.gs_tree.specs.Entry.{Dir, Entry, File}
 use Rattle.gs_tree.specs.Find.{at}
-use Rattle.gs_laws_scripts.specs.explained.Lines.{Adds, Appends, Edits, IsOfStore, IsPutOff, Lands, LandsOr, MayBe, OfFile, OnPath, Writes, done, is_too_long, LandsOrPasses}
+use Rattle.gs_laws_scripts.specs.explained.Lines.{Adds, Appends, Edits, IsNoLook, IsOfStore, IsPutOff, Lands, LandsOr, MayBe, OfFile, OnPath, Writes, done, is_too_long, LandsOrPasses}
 use Rattle.gs_laws_scripts.specs.explained.Machine.{Machine, Payment, Text, fits, is_preparing, is_rolling, paid_now, text_at}
 use Rattle.gs_laws_scripts.specs.explained.Machine as machines
 use Rattle.gs_laws_scripts.specs.explained.Told.{AppendsAreExplained, IsLeft, Pays, TellsEdited, TellsStatus, WritesAreExplained}
@@ -49,7 +49,7 @@ NoFile e (Some (File texts)) = ⊥
 -- what an opened file is of what stands
 abbrev pub IsOpened : Path → Machine → Result Opened Refusal → Type 0
 IsOpened p now (Ok file) = (is_rolling now.phase ≡ false) × (texts : List Text) × (at now.plain.tree p ≡ Some (File texts)) × (length texts ≤ most_chunks) × (file ≡ opened_with p (length texts))
-IsOpened p now (Err e) = IsOfStore e ⊎ ((is_rolling now.phase ≡ false) × NoFile e (at now.plain.tree p))
+IsOpened p now (Err e) = IsNoLook e ⊎ ((is_rolling now.phase ≡ false) × NoFile e (at now.plain.tree p))
 
 module _ (carries : Machine → Request → Reply → Machine → Type 0) (p : Path) where
   abbrev pub on_chunks : List ChunkStatus → Call ℕ
@@ -78,7 +78,7 @@ module _ (size : ℕ) (places : ℕ → Path × ℕ) where
   opens : (p : Path) (old : Machine) (r : Result Opened Refusal) (mid : Machine) → Follows size places (open_call p) old r mid → Opens p old r mid
   opens p old r mid (inl (reply, m, (payments, (tells, same)), rest)) =
       let s = in_status (Pays size places) p (paid_now size payments old) (looked reply) tells m r mid rest in (payments, paid_now size payments old, refl, s.1 ∙ same, s.0)
-  opens p old r mid (inr refused) = ([], old, refl, refused.1, subst (IsOpened p old) (sym refused.0) (inl refl))
+  opens p old r mid (inr refused) = ([], old, refl, refused.1, subst (IsOpened p old) (sym refused.0) (inl (inl refl)))
 
   pub no_file : (Does : Path → List Text → Machine → Result Answer Refusal → Machine → Type 0) (p : Path) (now : Machine) (answer : Result Answer Refusal) (new : Machine) (e : Refusal) → answer ≡ Err e → new ≡ now → (found : Option (Entry Text)) → NoFile e found → OfFile Does p found now answer new
   no_file Does p now answer new e is same None none = (is ∙ ap (λ x. Err x) none, same)
@@ -89,7 +89,7 @@ module _ (size : ℕ) (places : ℕ → Path × ℕ) where
   file_line : {A : Type 0} (p : Path) (call : Opened → Call A) (answer : A → Answer) (Does : Path → List Text → Machine → Result Answer Refusal → Machine → Type 0)
       → ((texts : List Text) (now : Machine) (r : Result A Refusal) (new : Machine) → length texts ≤ most_chunks → Follows size places (call (opened_with p (length texts))) now r new → Does p texts now (asked.answered answer r) new)
       → (old : Machine) (y : Result Answer Refusal) (new : Machine) → Follows size places (asked.on (Ok p) (asked.with_file call) answer) old y new → OnPath size (Ok p) (OfFile Does) old y new
-  file_line {A} p call answer Does does old y new (inr refused) = ([], old, refl, inl (refusals.Memory, refused.0, refl, refused.1))
+  file_line {A} p call answer Does does old y new (inr refused) = ([], old, refl, inl (refusals.Memory, refused.0, inl refl, refused.1))
   file_line {A} p call answer Does does old y new (inl goes) =
       let s = plain_splits (Pays size places) (both (open_call p) call) answer old new y goes in
       let o = both_splits (Pays size places) (open_call p) call old new s.0 s.2 in

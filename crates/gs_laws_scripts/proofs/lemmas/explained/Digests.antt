@@ -31,7 +31,7 @@ use Rattle.gs_tree.specs.Edits.{chunks_in}
 use Rattle.gs_tree.specs.Entry.{Entry, File}
 use Rattle.gs_tree.specs.Find.{at}
 use Rattle.gs_laws_scripts.specs.explained.Digested.{DigestsAreExplained, TellsBlock, TellsChunk, TellsDigest, seen_block}
-use Rattle.gs_laws_scripts.specs.explained.Lines.{Digests, IsOfStore, OfFile, OnPath, digest_in, seen_each}
+use Rattle.gs_laws_scripts.specs.explained.Lines.{Digests, IsNoLook, IsOfStore, OfFile, OnPath, digest_in, seen_each}
 use Rattle.gs_laws_scripts.specs.explained.Machine.{Machine, Text, new_text, settled_each, text_at}
 use Rattle.gs_laws_scripts.proofs.lemmas.explained.Dialogues.{IsOpened, in_status, no_file}
 use Rattle.gs_laws_scripts.proofs.lemmas.explained.Following.{both_splits, plain_splits, says_follow}
@@ -99,7 +99,7 @@ module _ (size block : ℕ) (places : ℕ → Path × ℕ) where
   -- what is asked for is found, or there is no such chunk, or no such block
   abbrev IsMissing : Machine → Path → ℕ → ℕ → Refusal → Type 0
   IsMissing now p chunk index e =
-      IsOfStore e ⊎ ((e ≡ refusals.Range) × ((length (chunks_in (at now.plain.tree p)) ≤ chunk) ⊎ ((chunk < length (chunks_in (at now.plain.tree p))) × (pick : List ℕ) × (length (seen_block size block (text_at p chunk now) index pick) ≡ 0))))
+      IsNoLook e ⊎ ((e ≡ refusals.Range) × ((length (chunks_in (at now.plain.tree p)) ≤ chunk) ⊎ ((chunk < length (chunks_in (at now.plain.tree p))) × (pick : List ℕ) × (length (seen_block size block (text_at p chunk now) index pick) ≡ 0))))
 
   abbrev IsFetched : Machine → Path → ℕ → ℕ → Result (Given × Located) Refusal → Type 0
   IsFetched now p chunk index (Ok f) = (chunk < length (chunks_in (at now.plain.tree p))) × IsGiven (text_at p chunk now) index f.0
@@ -107,7 +107,7 @@ module _ (size block : ℕ) (places : ℕ → Path × ℕ) where
 
   abbrev IsPlaced : Machine → Path → ℕ → Result Located Refusal → Type 0
   IsPlaced now p chunk (Ok l) = (places l.handle ≡ (p, chunk)) × (chunk < length (chunks_in (at now.plain.tree p)))
-  IsPlaced now p chunk (Err e) = IsOfStore e ⊎ ((e ≡ refusals.Range) × (length (chunks_in (at now.plain.tree p)) ≤ chunk))
+  IsPlaced now p chunk (Err e) = IsNoLook e ⊎ ((e ≡ refusals.Range) × (length (chunks_in (at now.plain.tree p)) ≤ chunk))
 
   placed_in : (now : Machine) (p : Path) (chunk : ℕ) (said : Result Said Refusal) → TellsChunk size block places now p chunk said → IsPlaced now p chunk (and_then (located_in chunk) said)
   placed_in now p chunk (Ok (says.Location handle view epoch)) tells = tells
@@ -116,7 +116,7 @@ module _ (size block : ℕ) (places : ℕ → Path × ℕ) where
 
   finds : (p : Path) (chunk : ℕ) (now : Machine) (r : Result Located Refusal) (new : Machine) → Looks (find_call p chunk) now r new → IsPlaced now p chunk r × (new ≡ now)
   finds p chunk now r new (inl (reply, mid, (tells, same), (is, last))) = (subst (IsPlaced now p chunk) (sym is) (placed_in now p chunk (looked reply) tells), last ∙ same)
-  finds p chunk now r new (inr refused) = (subst (IsPlaced now p chunk) (sym refused.0) (inl refl), refused.1)
+  finds p chunk now r new (inr refused) = (subst (IsPlaced now p chunk) (sym refused.0) (inl (inl refl)), refused.1)
 
   rounds : (l : Located) (index : ℕ) (p : Path) (chunk : ℕ) (now : Machine) → places l.handle ≡ (p, chunk) → chunk < length (chunks_in (at now.plain.tree p)) → (r : Result (Given × Located) Refusal) (new : Machine)
       → Looks (round_call l (asks.Digest index)) now r new → IsFetched now p chunk index r × (new ≡ now)
@@ -125,7 +125,7 @@ module _ (size block : ℕ) (places : ℕ → Path × ℕ) where
       by_given s.0 s.1 (members_give l index p chunk place l.view.members refusals.NoReplica now (inl refl) s.0 s.1 s.2) s.3
     where
       missing : (e : Refusal) → IsLast (text_at p chunk now) index e → IsMissing now p chunk index e
-      missing e (inl store) = inl store
+      missing e (inl store) = inl (inl store)
       missing e (inr (range, pick, none)) = inr (range, inr (below, pick, none))
 
       by_given : (x : Result Given Refusal) (mid : Machine) → IsReply (text_at p chunk now) index x × (mid ≡ now) → Looks (onward (λ g. Say (Ok (g, l))) x) mid r new → IsFetched now p chunk index r × (new ≡ now)
@@ -137,7 +137,7 @@ module _ (size block : ℕ) (places : ℕ → Path × ℕ) where
       let s = both_splits (TellsDigest size block places) (find_call p chunk) (λ l. round_call l (asks.Digest index)) now new r h in
       by_place s.0 s.1 (finds p chunk now s.0 s.1 s.2) s.3
     where
-      missing : (e : Refusal) → IsOfStore e ⊎ ((e ≡ refusals.Range) × (length (chunks_in (at now.plain.tree p)) ≤ chunk)) → IsMissing now p chunk index e
+      missing : (e : Refusal) → IsNoLook e ⊎ ((e ≡ refusals.Range) × (length (chunks_in (at now.plain.tree p)) ≤ chunk)) → IsMissing now p chunk index e
       missing e (inl store) = inl store
       missing e (inr (range, past)) = inr (range, inl past)
 
@@ -149,7 +149,7 @@ module _ (size block : ℕ) (places : ℕ → Path × ℕ) where
 
   module _ (p : Path) (now : Machine) (texts : List Text) (found : at now.plain.tree p ≡ Some (File texts)) (chunk index : ℕ) where
     abbrev IsDigested : Result Answer Refusal → Machine → Type 0
-    IsDigested y new = ((refusal : Refusal) × (y ≡ Err refusal) × IsOfStore refusal × (new ≡ now)) ⊎ Digests size block chunk index p texts now y new
+    IsDigested y new = ((refusal : Refusal) × (y ≡ Err refusal) × IsNoLook refusal × (new ≡ now)) ⊎ Digests size block chunk index p texts now y new
 
     its_text : text_at p chunk now ≡ unwrap_or (slice_get texts chunk) new_text
     its_text = ap (λ (entry : Option (Entry Text)). unwrap_or (slice_get (chunks_in entry) chunk) new_text) found
@@ -199,10 +199,10 @@ module _ (size block : ℕ) (places : ℕ → Path × ℕ) where
   module _ (chunk index : ℕ) where
     opens_now : (p : Path) (old : Machine) (r : Result Opened Refusal) (mid : Machine) → Looks (open_call p) old r mid → IsOpened p old r × (mid ≡ old)
     opens_now p old r mid (inl (reply, m, (tells, same), rest)) = (let s = in_status (TellsDigest size block places) p old (looked reply) tells m r mid rest in (s.0, s.1 ∙ same))
-    opens_now p old r mid (inr refused) = (subst (IsOpened p old) (sym refused.0) (inl refl), refused.1)
+    opens_now p old r mid (inr refused) = (subst (IsOpened p old) (sym refused.0) (inl (inl refl)), refused.1)
 
     digest_line : (p : Path) (old : Machine) (y : Result Answer Refusal) (new : Machine) → Looks (asked.on (Ok p) (asked.with_file (asked.digest_of chunk index)) asked.given_digest) old y new → OnPath size (Ok p) (OfFile (Digests size block chunk index)) old y new
-    digest_line p old y new (inr refused) = ([], old, refl, inl (refusals.Memory, refused.0, refl, refused.1))
+    digest_line p old y new (inr refused) = ([], old, refl, inl (refusals.Memory, refused.0, inl refl, refused.1))
     digest_line p old y new (inl goes) =
         let s = plain_splits (TellsDigest size block places) (both (open_call p) (asked.digest_of chunk index)) asked.given_digest old new y goes in
         let o = both_splits (TellsDigest size block places) (open_call p) (asked.digest_of chunk index) old new s.0 s.2 in

@@ -21,7 +21,7 @@ use Rattle.gs_shell_calls.specs.declared.answer.Answer.TheVariants as answers
 use Rattle.gs_tree.specs.Edits.{chunks_in}
 use Rattle.gs_tree.specs.Entry.{Entry, File}
 use Rattle.gs_tree.specs.Find.{at}
-use Rattle.gs_laws_scripts.specs.explained.Lines.{IsOfStore, OfFile, OnPath, Reads, read_in, seen}
+use Rattle.gs_laws_scripts.specs.explained.Lines.{IsNoLook, OfFile, OnPath, Reads, read_in, seen}
 use Rattle.gs_laws_scripts.specs.explained.Machine.{Machine, Text, new_text}
 use Rattle.gs_laws_scripts.specs.explained.Told.{AreWithin, ReadsAreExplained, Tells}
 use Rattle.gs_laws_scripts.proofs.lemmas.explained.Dialogues.{IsOpened, in_status, no_file}
@@ -80,7 +80,7 @@ module _ (size : ℕ) (places : ℕ → Path × ℕ) (p : Path) (now : Machine) 
   -- where it ends, as the file is seen then
   abbrev IsEnd : Result (ℕ × Option Located) Refusal → Type 0
   IsEnd (Ok e) = (first : List (List ℕ)) × (nat_lt (length (seen size first texts)) offset ≡ false) × (e.0 ≡ min (offset + many) (length (seen size first texts))) × (e.0 ≤ length texts * size) × IsKnown size places p e.1
-  IsEnd (Err e) = IsOfStore e ⊎ ((e ≡ refusals.Range) × (first : List (List ℕ)) × (nat_lt (length (seen size first texts)) offset ≡ true))
+  IsEnd (Err e) = IsNoLook e ⊎ ((e ≡ refusals.Range) × (first : List (List ℕ)) × (nat_lt (length (seen size first texts)) offset ≡ true))
 
   unseen : (n : ℕ) → length texts ≡ n → (first : List (List ℕ)) × ((n - 1) * size ≤ length (seen size first texts)) × ((n - 1) * size ≤ n * size)
   unseen zero count = ([], omega arith, omega arith)
@@ -127,7 +127,7 @@ module _ (size : ℕ) (places : ℕ → Path × ℕ) (p : Path) (now : Machine) 
 
   -- the store refuses, or it is read
   abbrev IsRead : Result Answer Refusal → Machine → Type 0
-  IsRead y new = ((refusal : Refusal) × (y ≡ Err refusal) × IsOfStore refusal × (new ≡ now)) ⊎ Reads size offset many p texts now y new
+  IsRead y new = ((refusal : Refusal) × (y ≡ Err refusal) × IsNoLook refusal × (new ≡ now)) ⊎ Reads size offset many p texts now y new
 
   module _ (some : 0 < size) where
     from_there : AreFrom size places p now (offset / size) (drop (offset / size) texts)
@@ -197,10 +197,10 @@ module _ (size : ℕ) (places : ℕ → Path × ℕ) (p : Path) (now : Machine) 
 module _ (size : ℕ) (places : ℕ → Path × ℕ) (some : 0 < size) (offset many : ℕ) where
   opens_now : (p : Path) (old : Machine) (r : Result Opened Refusal) (mid : Machine) → Looks size places (open_call p) old r mid → IsOpened p old r × (mid ≡ old)
   opens_now p old r mid (inl (reply, m, (tells, same), rest)) = (let s = in_status (Tells size places) p old (looked reply) tells m r mid rest in (s.0, s.1 ∙ same))
-  opens_now p old r mid (inr refused) = (subst (IsOpened p old) (sym refused.0) (inl refl), refused.1)
+  opens_now p old r mid (inr refused) = (subst (IsOpened p old) (sym refused.0) (inl (inl refl)), refused.1)
 
   read_line : (p : Path) (old : Machine) → AreWithin size (chunks_in (at old.plain.tree p)) → (y : Result Answer Refusal) (new : Machine) → Looks size places (asked.on (Ok p) (asked.with_file (asked.read_of size offset many)) asked.given_bytes) old y new → OnPath size (Ok p) (OfFile (Reads size offset many)) old y new
-  read_line p old fit y new (inr refused) = ([], old, refl, inl (refusals.Memory, refused.0, refl, refused.1))
+  read_line p old fit y new (inr refused) = ([], old, refl, inl (refusals.Memory, refused.0, inl refl, refused.1))
   read_line p old fit y new (inl goes) =
       let s = plain_splits (Tells size places) (both (open_call p) (asked.read_of size offset many)) asked.given_bytes old new y goes in
       let o = both_splits (Tells size places) (open_call p) (asked.read_of size offset many) old new s.0 s.2 in

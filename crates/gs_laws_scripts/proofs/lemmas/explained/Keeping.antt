@@ -130,8 +130,8 @@ module _ (P : Machine → Type 0) (kept : IsKept P) where
   done_or_late call old new h (inr (inr (may, same))) = subst P (sym same) (kept.waits (old.waiting ++ call ∷ []) old h)
 
   may_be_done_keeps : (call : Call) (old new : Machine) → P old → MayBeDone call old new → P new
-  may_be_done_keeps (calls.List p) old new h never = absurd never
-  may_be_done_keeps calls.Query old new h never = absurd never
+  may_be_done_keeps (calls.List p) old new h same = subst P (sym same) h
+  may_be_done_keeps calls.Query old new h same = subst P (sym same) h
   may_be_done_keeps calls.Scan old new h (inl same) = subst P (sym same) (kept.lates (old.late ++ calls.Scan ∷ []) old h)
   may_be_done_keeps calls.Scan old new h (inr (inl same)) = subst P (sym same) (kept.calls calls.Scan old h)
   may_be_done_keeps calls.Scan old new h (inr (inr (paths, same))) = subst P (sym same) (swept_each_keeps paths old h)

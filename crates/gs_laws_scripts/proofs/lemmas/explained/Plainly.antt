@@ -37,7 +37,7 @@ use Rattle.gs_laws_scripts.specs.explained.Rows.{a_long_write, a_long_write_answ
 use Rattle.gs_laws_scripts.specs.explained.Lines.{Adds, AreExplained, Appends, Asks, AsksBoth, AsksOne, AsksTree, BeginsAnew, Digests, DoesEach, Edits, Explains, GivesUp, IsPutOff, IsSaid, Lands, LandsOr, Leads, MayBe, OfFile, OnPath, Part, Passes, Reads, Stats, Upgrades, Writes, anew, overtaken, done, is_too_long, parts_of, step_of, LandsOrPasses, IsSeenFull}
 use Rattle.gs_laws_scripts.specs.explained.Machine.{Edit, Machine, Payment, Text, at_place, begins_prepare, begins_rollback, called, commits_prepare, commits_rollback, finalizes, fits, gives_up, is_copied, is_preparing, is_remembered, is_rolling, new_machine, new_text, overtaking, paid_now, passes, quiet, quiet_under, taken, text_at, tree_after, tree_called, tree_said, with_chunk, with_edit}
 use Rattle.gs_laws_scripts.specs.explained.Machine as machines
-use Rattle.gs_laws_scripts.proofs.lemmas.explained.Alike.{IsSure, accepted_plain, alike_said, alike_to, digests_alike, no_memory, plain_sure, reads_alike, stats_alike, sure_never_off, sure_now, sure_said}
+use Rattle.gs_laws_scripts.proofs.lemmas.explained.Alike.{IsSure, accepted_plain, alike_said, alike_to, digests_alike, no_memory, plain_sure, reads_alike, stats_alike, sure_looks, sure_never_off, sure_now, sure_said}
 use Rattle.gs_laws_scripts.proofs.lemmas.explained.Back.{mapped_quiet, quiet_entry}
 use Rattle.gs_laws_scripts.proofs.lemmas.explained.Keeping.{ComesTo, comes_to}
 use Rattle.gs_laws_scripts.proofs.lemmas.explained.Quiet.{AreQuiet, IsQuietEntry, IsQuietFound, IsStill, RowsAreQuiet, nothing_each, nothing_now, nothing_owed, quiet_found, never_seen_full}
@@ -275,8 +275,8 @@ DoesSo Does = (p : Path) (found : Option (Entry Text)) (old new last : Machine) 
 on_path_so : (size : ℕ) (path : Result Path Refusal) (Does : Path → Option (Entry Text) → Machine → Result Answer Refusal → Machine → Type 0) → DoesSo Does → (old new last : Machine) (one another : Result Answer Refusal)
     → IsAsleep old → IsSure one → IsSure another → OnPath size path Does old one new → OnPath size path Does old another last → Agree one another new last
 on_path_so size (Err refusal) Does so old new last one another asleep sure surely (e, same) (f, sames) = agree_at (Err refusal) one another old new last asleep e f same sames
-on_path_so size (Ok p) Does so old new last one another asleep sure surely (payments, now, is, inl (refusal, e, store, same)) other = absurd ((sure refusal e).0 store)
-on_path_so size (Ok p) Does so old new last one another asleep sure surely (payments, now, is, inr (free, does)) (paid, at_it, is_at, inl (refusal, e, store, same)) = absurd ((surely refusal e).0 store)
+on_path_so size (Ok p) Does so old new last one another asleep sure surely (payments, now, is, inl (refusal, e, off, same)) other = sure_looks one refusal sure e off
+on_path_so size (Ok p) Does so old new last one another asleep sure surely (payments, now, is, inr (free, does)) (paid, at_it, is_at, inl (refusal, e, off, same)) = sure_looks another refusal surely e off
 on_path_so size (Ok p) Does so old new last one another asleep sure surely (payments, now, is, inr (free, does)) (paid, at_it, is_at, inr (frees, did)) =
     so p (at old.plain.tree p) old new last one another asleep (quiet_found p old.plain.tree asleep.tree) sure surely
     (subst (λ m. Does p (at m.plain.tree p) m one new) (is ∙ nothing_now size payments old (still old asleep)) does)

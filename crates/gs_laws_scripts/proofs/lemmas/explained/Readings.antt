@@ -17,7 +17,7 @@ use Rattle.gs_msg.specs.declared.body.Given.{Given}
 use Rattle.gs_msg.specs.declared.body.Given.TheVariants as givens
 use Rattle.gs_msg.specs.declared.chunk.Asked.TheVariants as asks
 use Rattle.gs_path.specs.Path.{Path}
-use Rattle.gs_laws_scripts.specs.explained.Lines.{IsOfStore, seen_each}
+use Rattle.gs_laws_scripts.specs.explained.Lines.{IsNoLook, seen_each}
 use Rattle.gs_laws_scripts.specs.explained.Machine.{Machine, Text, new_text, settled_each, text_at}
 use Rattle.gs_laws_scripts.specs.explained.Told.{IsPartOf, Tells}
 use Rattle.gs_laws_scripts.proofs.lemmas.explained.Dialogues.{no_more}
@@ -32,7 +32,7 @@ module _ (size : ℕ) (places : ℕ → Path × ℕ) (p : Path) (now : Machine) 
   -- bytes of a text as it is seen, and where it is
   abbrev IsPiece : Text → (List ℕ → List ℕ) → Result (List ℕ × Located) Refusal → Type 0
   IsPiece text made (Ok f) = ((pick : List ℕ) × (length (settled_each size pick text).bytes ≤ size) × (f.0 ≡ made (settled_each size pick text).bytes)) × IsThere size places p f.1
-  IsPiece text made (Err e) = IsOfStore e
+  IsPiece text made (Err e) = IsNoLook e
 
   its_bytes : (start many : ℕ) (text : List ℕ) (g : Given) → IsPartOf text (asks.Bytes start many) g → g ≡ givens.Bytes (take many (drop start text))
   its_bytes start many text (givens.Bytes bytes) is = ap (λ xs. givens.Bytes xs) is
@@ -82,7 +82,7 @@ module _ (size : ℕ) (places : ℕ → Path × ℕ) (p : Path) (now : Machine) 
 
   abbrev pub IsReadOf : List ℕ → ℕ → ℕ → List Text → Result (List ℕ × Option Located) Refusal → Type 0
   IsReadOf read long start texts (Ok f) = (picks : List (List ℕ)) × (f.0 ≡ read ++ take (long - start) (drop start (joined size (seen_each size picks texts))))
-  IsReadOf read long start texts (Err e) = IsOfStore e
+  IsReadOf read long start texts (Err e) = IsNoLook e
 
   index_test : (m n : ℕ) → m ≡ n → (m == n) ≡ true
   index_test m n is = grind (arith, nat_tests)
@@ -140,7 +140,7 @@ module _ (size : ℕ) (places : ℕ → Path × ℕ) (p : Path) (now : Machine) 
           → ((l : Located) (read : List ℕ) → IsThere size places p l → Looks size places (pieces_call size p n end (Some l) (index + 1) 0 count read) now r new → IsReadOf read (end - (index + 1) * size) 0 texts r × (new ≡ now))
           → IsReadOf read (end - index * size) start (text ∷ texts) r × (new ≡ now)
       by_piece (Err e) mid (store, same) rest next = (subst (IsReadOf read (end - index * size) start (text ∷ texts)) (sym rest.0) store, rest.1 ∙ same)
-      by_piece (Ok f) mid (made, same) (inr refused) next = (subst (IsReadOf read (end - index * size) start (text ∷ texts)) (sym refused.0) refl, refused.1 ∙ same)
+      by_piece (Ok f) mid (made, same) (inr refused) next = (subst (IsReadOf read (end - index * size) start (text ∷ texts)) (sym refused.0) (inl refl), refused.1 ∙ same)
       by_piece (Ok f) mid (((pick, fit, is), place), same) (inl goes) next =
           let t = next f.1 (read ++ f.0) place (subst (λ m. Looks size places (pieces_call size p n end (Some f.1) (index + 1) 0 count (read ++ f.0)) m r new) same goes) in
           (by_result r t.0, t.1)

@@ -33,7 +33,7 @@ use Rattle.gs_shell_calls.specs.declared.answer.Answer.TheVariants as answers
 use Rattle.gs_tree.specs.Edits.{chunks_in}
 use Rattle.gs_tree.specs.Entry.{Entry, File}
 use Rattle.gs_tree.specs.Find.{at}
-use Rattle.gs_laws_scripts.specs.explained.Lines.{IsOfStore, OnPath, Stats, seen, seen_each}
+use Rattle.gs_laws_scripts.specs.explained.Lines.{IsNoLook, IsOfStore, OnPath, Stats, seen, seen_each}
 use Rattle.gs_laws_scripts.specs.explained.Machine.{Machine, Text, is_rolling, new_text, settled_each, text_at}
 use Rattle.gs_laws_scripts.specs.explained.Told.{AreWithin, IsGiven, IsPartOf, StatsAreExplained, Tells, TellsPart, TellsPlace, TellsStatus}
 use Rattle.gs_laws_scripts.proofs.lemmas.explained.Dialogues.{no_more}
@@ -117,7 +117,7 @@ module _ (size : ℕ) (places : ℕ → Path × ℕ) where
 
   abbrev IsPlaced : Path → ℕ → Result Located Refusal → Type 0
   IsPlaced p index (Ok l) = (places l.handle ≡ (p, index)) × (l.index ≡ index)
-  IsPlaced p index (Err e) = IsOfStore e
+  IsPlaced p index (Err e) = IsNoLook e
 
   placed_in : (now : Machine) (p : Path) (index : ℕ) (said : Result Said Refusal) → TellsPlace size places now p index said → IsPlaced p index (and_then (located_in index) said)
   placed_in now p index (Ok (says.Location handle view epoch)) tells = (tells, refl)
@@ -126,11 +126,11 @@ module _ (size : ℕ) (places : ℕ → Path × ℕ) where
 
   finds : (p : Path) (index : ℕ) (now : Machine) (r : Result Located Refusal) (new : Machine) → Looks (find_call p index) now r new → IsPlaced p index r × (new ≡ now)
   finds p index now r new (inl (reply, mid, (tells, same), (is, last))) = (subst (IsPlaced p index) (sym is) (placed_in now p index (looked reply) tells), last ∙ same)
-  finds p index now r new (inr refused) = (subst (IsPlaced p index) (sym refused.0) refl, refused.1)
+  finds p index now r new (inr refused) = (subst (IsPlaced p index) (sym refused.0) (inl refl), refused.1)
 
   abbrev pub IsFetched : Path → Text → Asked → Result (Given × Located) Refusal → Type 0
   IsFetched p text asked (Ok f) = IsGiven size text asked f.0 × IsThere p f.1
-  IsFetched p text asked (Err e) = IsOfStore e
+  IsFetched p text asked (Err e) = IsNoLook e
 
   rounds : (l : Located) (asked : Asked) (p : Path) (index : ℕ) → places l.handle ≡ (p, index) → l.index ≡ index → (now : Machine) (r : Result (Given × Located) Refusal) (new : Machine) → Looks (round_call l asked) now r new → IsFetched p (text_at p index now) asked r × (new ≡ now)
   rounds l asked p index place here now r new h =
@@ -139,7 +139,7 @@ module _ (size : ℕ) (places : ℕ → Path × ℕ) where
     where
       by_given : (x : Result Given Refusal) (mid : Machine) → IsReply (text_at p index now) asked x × (mid ≡ now) → Looks (onward (λ g. Say (Ok (g, l))) x) mid r new → IsFetched p (text_at p index now) asked r × (new ≡ now)
       by_given (Ok g) mid (is, same) rest = (subst (IsFetched p (text_at p index now) asked) (sym rest.0) (is, subst (λ n. places l.handle ≡ (p, n)) (sym here) place), rest.1 ∙ same)
-      by_given (Err e) mid (store, same) rest = (subst (IsFetched p (text_at p index now) asked) (sym rest.0) store, rest.1 ∙ same)
+      by_given (Err e) mid (store, same) rest = (subst (IsFetched p (text_at p index now) asked) (sym rest.0) (inl store), rest.1 ∙ same)
 
   anew : (p : Path) (index : ℕ) (asked : Asked) (now : Machine) (r : Result (Given × Located) Refusal) (new : Machine) → Looks (anew_call p index asked) now r new → IsFetched p (text_at p index now) asked r × (new ≡ now)
   anew p index asked now r new h =
@@ -192,7 +192,7 @@ module _ (size : ℕ) (places : ℕ → Path × ℕ) where
 
   abbrev pub IsLong : Path → ℕ → Machine → Result (ℕ × Option Located) Refusal → Type 0
   IsLong p count now (Ok l) = IsMany p count now l.0 × IsKnown p l.1
-  IsLong p count now (Err e) = IsOfStore e
+  IsLong p count now (Err e) = IsNoLook e
 
   pub length_is : (p : Path) (count : ℕ) (now : Machine) (r : Result (ℕ × Option Located) Refusal) (new : Machine) → Looks (length_call size p None count) now r new → IsLong p count now r × (new ≡ now)
   length_is p zero now r new h = (subst (IsLong p zero now) (sym h.0) (refl, tt), h.1)
@@ -219,7 +219,7 @@ module _ (size : ℕ) (places : ℕ → Path × ℕ) where
       (seen_at pick last, is ∙ ap (λ (entry : Option (Entry Text)). last * size + length (settled_each size pick (unwrap_or (slice_get (chunks_in entry) last) new_text)).bytes) found ∙ sym (length_seen size pick last texts count fit))
 
   status_does : (p : Path) (old : Machine) → AreWithin size (chunks_in (at old.plain.tree p)) → (r : Result Stat Refusal) (new : Machine) → Looks (stat_call size p) old r new → OnPath size (Ok p) (Stats size) old (asked.answered answers.Stat r) new
-  status_does p old fit r new (inr refused) = ([], old, refl, inl (refusals.Memory, ap (asked.answered answers.Stat) refused.0, refl, refused.1))
+  status_does p old fit r new (inr refused) = ([], old, refl, inl (refusals.Memory, ap (asked.answered answers.Stat) refused.0, inl refl, refused.1))
   status_does p old fit r new (inl (reply, m, (tells, same), rest)) = by_status (looked reply) tells (subst (λ n. Looks (onward (stat_of size p) (and_then status_in (looked reply))) n r new) same rest)
     where
       by_length : (texts : List Text) (chunks : List ChunkStatus) → is_rolling old.phase ≡ false → at old.plain.tree p ≡ Some (File texts) → length chunks ≡ length texts → (x : Result (ℕ × Option Located) Refusal) (mid : Machine) → IsLong p (length chunks) old x × (mid ≡ old)
