@@ -2,10 +2,10 @@
 use Rattle.std.proofs.Common.{◌≡◌, ◌++◌, ◌∷◌, [], ℕ, List, Bool, true, false, cond, map, refl, sym, ap, subst, ◌∙◌, append_assoc, append-nil}
 use Rattle.std.proofs.lemmas.Grind.{flat_map-append}
 use Rattle.std.specs.List.{AllByRecursion}
-use Rattle.gs_shell_script.specs.Run.{Runs, unlines}
+use Rattle.gs_shell_script.specs.Run.{AnswersLine, Runs, unlines}
 use Rattle.gs_keep_mark.specs.Marks.{Entry, Totals, behind, mark_of, marked, noted, text_of, totals_behind, with_batch}
-use Rattle.gs_keep.specs.Lines.{Turn, entries, joined, lines_asked, texts_of}
-use Rattle.gs_keep.specs.Running.{AnswersAll, LoggedAs}
+use Rattle.gs_keep.specs.Lines.{Turn, entries, joined, lines_asked, taken, texts_of}
+use Rattle.gs_keep.specs.Running.{AnswersAll, LoggedAs, RunsUnless}
 use Rattle.gs_keep.specs.Replaying.{RunsAgain}
 
 pub all_join : {X : Type 0} (P : X → Type 0) (xs ys : List X) → AllByRecursion P xs → AllByRecursion P ys → AllByRecursion P (xs ++ ys)
@@ -74,30 +74,42 @@ entries_join (t ∷ a) b = at t.logged (entries_join a b)
     at false h = h
 
 module _ {S : Type 0} (A : S → List ℕ → List ℕ → S → Type 0) (is_kept : List ℕ → Bool) where
-  pub answers_join : (old mid new : S) (a b : List Turn) → AnswersAll A is_kept old a mid → AnswersAll A is_kept mid b new → AnswersAll A is_kept old (a ++ b) new
-  answers_join old mid new [] b same all = subst (λ (s : S). AnswersAll A is_kept s b new) same all
-  answers_join old mid new (t ∷ a) b (next, first, rest) all = (next, first, answers_join next mid new a b rest all)
-
   pub again_join : (old mid new : S) (a b : List Entry) → RunsAgain A is_kept old a mid → RunsAgain A is_kept mid b new → RunsAgain A is_kept old (a ++ b) new
   again_join old mid new [] b same all = subst (λ (s : S). RunsAgain A is_kept s b new) same all
   again_join old mid new (e ∷ a) b (next, logged, first, rest) all = (next, logged, first, again_join next mid new a b rest all)
 
-  -- what is logged leads to where the lines led
-  pub answers_again : (old new : S) (turns : List Turn) → AnswersAll A is_kept old turns new → RunsAgain A is_kept old (entries turns) new
-  answers_again old new [] same = same
-  answers_again old new (t ∷ turns) (mid, one, rest) = at t.logged one.logged (answers_again mid new turns rest)
-    where
-      at : (k : Bool) → LoggedAs A is_kept k old t mid → RunsAgain A is_kept mid (entries turns) new
-          → RunsAgain A is_kept old (cond k (record { line = t.line; answer = t.text } ∷ entries turns) (entries turns)) new
-      at true logged back = (mid, logged, one.answers, back)
-      at false logged back = subst (λ (s : S). RunsAgain A is_kept s (entries turns) new) logged.0 back
+module _ {S : Type 0} (A : S → List ℕ → List ℕ → S → Type 0) (is_kept : List ℕ → Bool) (turns_away : S → List ℕ → Bool) where
+  pub answers_join : (old mid new : S) (a b : List Turn) → AnswersAll A is_kept turns_away old a mid → AnswersAll A is_kept turns_away mid b new → AnswersAll A is_kept turns_away old (a ++ b) new
+  answers_join old mid new [] b same all = subst (λ (s : S). AnswersAll A is_kept turns_away s b new) same all
+  answers_join old mid new (t ∷ a) b (next, first, rest) all = (next, first, answers_join next mid new a b rest all)
 
-  -- lines that are run again, and then lines that are answered, are answered one behind the other
-  pub again_then : (old mid new : S) (a : List Entry) (b : List Turn) → RunsAgain A is_kept old a mid → AnswersAll A is_kept mid b new
-      → Runs A old (map (λ (e : Entry). e.line) a ++ lines_asked b) (map (λ (e : Entry). e.answer) a ++ texts_of b) new
-  again_then old mid new (e ∷ a) b (next, logged, first, rest) all = (next, first, again_then next mid new a b rest all)
-  again_then old mid new [] b same all = subst (λ (s : S). Runs A s (lines_asked b) (texts_of b) new) same (lines_run mid new b all)
+  -- what is logged leads to where the lines led
+  pub answers_again : (old new : S) (turns : List Turn) → AnswersAll A is_kept turns_away old turns new → RunsAgain A is_kept old (entries turns) new
+  answers_again old new [] same = same
+  answers_again old new (t ∷ turns) (mid, one, rest) = at t.away one.runs (answers_again mid new turns rest)
     where
-      lines_run : (old new : S) (turns : List Turn) → AnswersAll A is_kept old turns new → Runs A old (lines_asked turns) (texts_of turns) new
+      logged_as : (k : Bool) → AnswersLine A old t.line t.text mid → LoggedAs A is_kept turns_away k old t mid → RunsAgain A is_kept mid (entries turns) new
+          → RunsAgain A is_kept old (cond k (record { line = t.line; answer = t.text } ∷ entries turns) (entries turns)) new
+      logged_as true answers logged back = (mid, logged, answers, back)
+      logged_as false answers logged back = subst (λ (s : S). RunsAgain A is_kept s (entries turns) new) logged.0 back
+
+      at : (w : Bool) → RunsUnless A is_kept turns_away w old t mid → RunsAgain A is_kept mid (entries turns) new
+          → RunsAgain A is_kept old (cond t.logged (record { line = t.line; answer = t.text } ∷ entries turns) (entries turns)) new
+      at true r back = subst (λ (k : Bool). RunsAgain A is_kept old (cond k (record { line = t.line; answer = t.text } ∷ entries turns) (entries turns)) new) (sym r.unlogged)
+          (subst (λ (s : S). RunsAgain A is_kept s (entries turns) new) r.same back)
+      at false r back = logged_as t.logged r.answers r.logged back
+
+  -- lines that are run again, and then lines that are answered, are answered one behind the other, but for those that are turned away
+  pub again_then : (old mid new : S) (a : List Entry) (b : List Turn) → RunsAgain A is_kept old a mid → AnswersAll A is_kept turns_away mid b new
+      → Runs A old (map (λ (e : Entry). e.line) a ++ lines_asked (taken b)) (map (λ (e : Entry). e.answer) a ++ texts_of (taken b)) new
+  again_then old mid new (e ∷ a) b (next, logged, first, rest) all = (next, first, again_then next mid new a b rest all)
+  again_then old mid new [] b same all = subst (λ (s : S). Runs A s (lines_asked (taken b)) (texts_of (taken b)) new) same (lines_run mid new b all)
+    where
+      lines_run : (old new : S) (turns : List Turn) → AnswersAll A is_kept turns_away old turns new → Runs A old (lines_asked (taken turns)) (texts_of (taken turns)) new
       lines_run old new [] same = same
-      lines_run old new (t ∷ turns) (mid, one, rest) = (mid, one.answers, lines_run mid new turns rest)
+      lines_run old new (t ∷ turns) (mid, one, rest) = at t.away one.runs (lines_run mid new turns rest)
+        where
+          at : (w : Bool) → RunsUnless A is_kept turns_away w old t mid → Runs A mid (lines_asked (taken turns)) (texts_of (taken turns)) new
+              → Runs A old (lines_asked (cond w (taken turns) (t ∷ taken turns))) (texts_of (cond w (taken turns) (t ∷ taken turns))) new
+          at true r back = subst (λ (s : S). Runs A s (lines_asked (taken turns)) (texts_of (taken turns)) new) r.same back
+          at false r back = (mid, r.answers, back)

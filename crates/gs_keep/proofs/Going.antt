@@ -1,12 +1,11 @@
 -- A log's lines are run again, and then the input is served.
-use Rattle.std.proofs.Common.{◌≡◌, ◌<◌, ◌++◌, ◌∷◌, [], ℕ, List, Bool, true, false, Option, Some, None, IfSome, length, map, refl, sym, ap, subst, ◌∙◌, arith, append_assoc, append-nil}
+use Rattle.std.proofs.Common.{◌≡◌, ◌<◌, ◌++◌, ◌∷◌, [], ℕ, List, Bool, true, false, Option, Some, None, IfSome, length, refl, sym, ap, subst, ◌∙◌, arith, append_assoc, append-nil}
 use Rattle.gs_keep_log.specs.Log.{Held, LogDoes, shortened}
-use Rattle.gs_shell_script.specs.Run.{Runs, lines_of}
 use Rattle.gs_keep_mark.specs.Ledgers.{IsLedger}
 use Rattle.gs_keep_mark.specs.Marks.{Entry, Totals, beginning, mark_of, marked, text_of, totals_behind, with_batch}
 use Rattle.gs_keep_mark.specs.declared.Ledger.{Ledger}
 use Rattle.gs_keep.specs.Keeping.{Begins, KeepsOn, LeavesAll, ReadsLog, StoreFails, StopsOn}
-use Rattle.gs_keep.specs.Lines.{entries, joined, kept_behind, lines_asked, texts_of}
+use Rattle.gs_keep.specs.Lines.{entries, joined, kept_behind}
 use Rattle.gs_keep.specs.Replaying.{Replays, RunsAgain}
 use Rattle.gs_keep.specs.Serving.{Closes, Fails, RestsAt, SealFails, Serves, at_rest}
 use Rattle.gs_keep.specs.declared.again.Replayed.{Replayed}
@@ -65,60 +64,6 @@ module _ {S : Type 0} (A : S → List ℕ → List ℕ → S → Type 0) (is_kep
         rests = if_some log _ _ (λ h r. rests r) (cut_rests head script len log log' reads cut);
       }
 
-  pub keeps_on : (head script input : List ℕ) (len : ℕ) (log between log' : Option Held) (out out' : Option (List ℕ)) (ledger ledger' : Ledger) (start mid end : S)
-      → Begins A is_kept start head script len log between ledger mid → Serves A is_kept mid input [] between log' out out' ledger ledger' end → KeepsOn A is_kept start head script input len log log' out out' end
-  keeps_on head script input len log between log' out out' ledger ledger' start mid end b s =
-      let all = joined b.batches ++ b.last in
-      let lines : lines_of input ≡ lines_asked s.turns = s.parts ∙ append-nil (lines_asked s.turns) in
-      let (told, rests) = s.kept (kept_behind (totals_behind (beginning head) b.batches) b.last) b.told in
-      record {
-        between = between;
-        told = ledger;
-        ended = ledger';
-        mid = mid;
-        begins = b;
-        serves = s;
-        together = subst (λ (ls : List (List ℕ)). Runs A start (map (λ (e : Entry). e.line) all ++ ls) (map (λ (e : Entry). e.answer) all ++ texts_of s.turns) end) (sym lines)
-            (again_then A is_kept start mid end all s.turns b.again s.answers);
-        stands = again_join A is_kept start mid end all (joined s.batches) b.again
-            (subst (λ (l : List Entry). RunsAgain A is_kept mid l end) s.logged (answers_again A is_kept mid end s.turns s.answers));
-        holds = if_some log _ _ (λ h r. rests r) b.rests;
-      }
-
-  -- whatever fails, each crash leaves what was answered
-  fails_leave : (f : KeepFault) (mid : S) (input : List ℕ) (left : Option (List ℕ)) (log log' : Option Held) (out out' : Option (List ℕ)) (ledger : Ledger) (t : Totals)
-      → (fails : Fails A is_kept f mid input left log log' out out' ledger) → IsLedger ledger t → RestsAt log t.text → LeavesAll (totals_behind t fails.done.batches).text log'
-  fails_leave keep.Memory mid input left log log' out out' ledger t fails told rests =
-      rest_leaves log' (totals_behind t fails.done.batches).text (fails.last.0 ∙ (fails.done.kept t told).1 rests)
-  fails_leave keep.Read mid input left log log' out out' ledger t fails told rests =
-      rest_leaves log' (totals_behind t fails.done.batches).text (fails.last.1 ∙ (fails.done.kept t told).1 rests)
-  fails_leave keep.Unended mid input left log log' out out' ledger t fails told rests =
-      rest_leaves log' (totals_behind t fails.done.batches).text (fails.last.2 ∙ (fails.done.kept t told).1 rests)
-  fails_leave keep.TooMany mid input left log log' out out' ledger t fails told rests =
-      rest_leaves log' (totals_behind t fails.done.batches).text (fails.last.2 ∙ (fails.done.kept t told).1 rests)
-  fails_leave keep.Write mid input left log log' out out' ledger t fails told rests =
-      let u = totals_behind t fails.done.batches in
-      let (w, kept, sent) = fails.last in
-      let (told', rested) = fails.done.kept t told in
-      let (more, is) = kept_more u (entries w.turns) in
-      leaves_less log' u.text more (subst (λ (l : List ℕ). LeavesAll l log') is (rest_leaves log' (kept_behind u (entries w.turns)).text (kept u told' (rested rests))))
-  fails_leave keep.Log mid input left log log' out out' ledger t fails told rests =
-      let u = totals_behind t fails.done.batches in
-      let (w, breaks, same) = fails.last in
-      let (told', rested) = fails.done.kept t told in
-      most_leaves log' u.text (text_of (entries w.turns) ++ mark_of (with_batch u (entries w.turns))) (breaks u told' (rested rests))
-
-  pub stops_on : (f : KeepFault) (head script input : List ℕ) (left : Option (List ℕ)) (len : ℕ) (log between log' : Option Held) (out out' : Option (List ℕ)) (ledger : Ledger) (start mid : S)
-      → Begins A is_kept start head script len log between ledger mid → Fails A is_kept f mid input left between log' out out' ledger → StopsOn A is_kept f start head script input left len log log' out out'
-  stops_on f head script input left len log between log' out out' ledger start mid b fails = record {
-    between = between;
-    told = ledger;
-    mid = mid;
-    begins = b;
-    fails = fails;
-    crashes = if_some log _ _ (λ h r. fails_leave f mid input left between log' out out' ledger (kept_behind (totals_behind (beginning head) b.batches) b.last) fails b.told r) b.rests;
-  }
-
   -- no mark can be put behind lines that have none
   seal_leaves : (f : KeepFault) (ledger : Ledger) (log log' : Option Held) (t : Totals) (text : List ℕ) → SealFails f ledger log log' [] → IsLedger ledger t → RestsAt log text → LeavesAll text log'
   seal_leaves keep.Memory ledger log log' t text fails told rests = rest_leaves log' text (fails ∙ rests)
@@ -134,10 +79,63 @@ module _ {S : Type 0} (A : S → List ℕ → List ℕ → S → Type 0) (is_kep
       if_some log _ _ (λ h rests. seal_leaves f ledger log' log'' (with_batch (totals_behind (beginning head) p.batches) p.last) (head ++ script) fails (p.is (beginning head) told).1 rests)
       (cut_rests head script len log log' reads cut)
 
-  pub begin_fails : (f : KeepFault) (o p : Option (List ℕ)) (head : List ℕ) (len : ℕ) (done : Replayed) (log log' log'' : Option Held) (out : Option (List ℕ)) (first ledger : Ledger) (start mid : S)
+module _ {S : Type 0} (A : S → List ℕ → List ℕ → S → Type 0) (is_kept : List ℕ → Bool) (turns_away : S → List ℕ → Bool) where
+  pub keeps_on : (head script input : List ℕ) (len : ℕ) (log between log' : Option Held) (out out' : Option (List ℕ)) (ledger ledger' : Ledger) (start mid end : S)
+      → Begins A is_kept start head script len log between ledger mid → Serves A is_kept turns_away mid input [] between log' out out' ledger ledger' end → KeepsOn A is_kept turns_away start head script input len log log' out out' end
+  keeps_on head script input len log between log' out out' ledger ledger' start mid end b s =
+      let all = joined b.batches ++ b.last in
+      let (told, rests) = s.kept (kept_behind (totals_behind (beginning head) b.batches) b.last) b.told in
+      record {
+        between = between;
+        told = ledger;
+        ended = ledger';
+        mid = mid;
+        begins = b;
+        serves = s;
+        together = again_then A is_kept turns_away start mid end all s.turns b.again s.answers;
+        stands = again_join A is_kept start mid end all (joined s.batches) b.again
+            (subst (λ (l : List Entry). RunsAgain A is_kept mid l end) s.logged (answers_again A is_kept turns_away mid end s.turns s.answers));
+        holds = if_some log _ _ (λ h r. rests r) b.rests;
+      }
+
+  -- whatever fails, each crash leaves what was answered
+  fails_leave : (f : KeepFault) (mid : S) (input : List ℕ) (left : Option (List ℕ)) (log log' : Option Held) (out out' : Option (List ℕ)) (ledger : Ledger) (end : S) (t : Totals)
+      → (fails : Fails A is_kept turns_away f mid input left log log' out out' ledger end) → IsLedger ledger t → RestsAt log t.text → LeavesAll (totals_behind t fails.done.batches).text log'
+  fails_leave keep.Memory mid input left log log' out out' ledger end t fails told rests =
+      rest_leaves log' (totals_behind t fails.done.batches).text (fails.last.0 ∙ (fails.done.kept t told).1 rests)
+  fails_leave keep.Read mid input left log log' out out' ledger end t fails told rests =
+      rest_leaves log' (totals_behind t fails.done.batches).text (fails.last.1 ∙ (fails.done.kept t told).1 rests)
+  fails_leave keep.Unended mid input left log log' out out' ledger end t fails told rests =
+      rest_leaves log' (totals_behind t fails.done.batches).text (fails.last.2 ∙ (fails.done.kept t told).1 rests)
+  fails_leave keep.TooMany mid input left log log' out out' ledger end t fails told rests =
+      rest_leaves log' (totals_behind t fails.done.batches).text (fails.last.2 ∙ (fails.done.kept t told).1 rests)
+  fails_leave keep.Write mid input left log log' out out' ledger end t fails told rests =
+      let u = totals_behind t fails.done.batches in
+      let (w, kept, sent) = fails.last in
+      let (told', rested) = fails.done.kept t told in
+      let (more, is) = kept_more u (entries w.turns) in
+      leaves_less log' u.text more (subst (λ (l : List ℕ). LeavesAll l log') is (rest_leaves log' (kept_behind u (entries w.turns)).text (kept u told' (rested rests))))
+  fails_leave keep.Log mid input left log log' out out' ledger end t fails told rests =
+      let u = totals_behind t fails.done.batches in
+      let (w, breaks, same) = fails.last in
+      let (told', rested) = fails.done.kept t told in
+      most_leaves log' u.text (text_of (entries w.turns) ++ mark_of (with_batch u (entries w.turns))) (breaks u told' (rested rests))
+
+  pub stops_on : (f : KeepFault) (head script input : List ℕ) (left : Option (List ℕ)) (len : ℕ) (log between log' : Option Held) (out out' : Option (List ℕ)) (ledger : Ledger) (start mid end : S)
+      → Begins A is_kept start head script len log between ledger mid → Fails A is_kept turns_away f mid input left between log' out out' ledger end → StopsOn A is_kept turns_away f start head script input left len log log' out out' end
+  stops_on f head script input left len log between log' out out' ledger start mid end b fails = record {
+    between = between;
+    told = ledger;
+    mid = mid;
+    begins = b;
+    fails = fails;
+    crashes = if_some log _ _ (λ h r. fails_leave f mid input left between log' out out' ledger end (kept_behind (totals_behind (beginning head) b.batches) b.last) fails b.told r) b.rests;
+  }
+
+  pub begin_fails : (f : KeepFault) (o p : Option (List ℕ)) (head : List ℕ) (len : ℕ) (done : Replayed) (log log' log'' : Option Held) (out : Option (List ℕ)) (first ledger : Ledger) (start mid end : S)
       → IfSome o (λ script. ReadsLog head len log (Some script)) → IsLedger first (beginning head) → IfSome o (λ script. Replays A is_kept start script done first ledger mid) → LogDoes (shortened len) log log'
-      → SealFails f ledger log' log'' [] → IfSome o (λ script. IfSome p (λ input. StoreFails A is_kept (fault.Begin f) start head script input p len log log'' out out))
-  begin_fails f None p head len done log log' log'' out first ledger start mid reads told replayed cut fails = tt
-  begin_fails f (Some script) None head len done log log' log'' out first ledger start mid reads told replayed cut fails = tt
-  begin_fails f (Some script) (Some input) head len done log log' log'' out first ledger start mid reads told replayed cut fails =
-      (unbegun f head script len done log log' log'' first ledger start mid reads told replayed cut fails, refl, refl)
+      → SealFails f ledger log' log'' [] → IfSome o (λ script. IfSome p (λ input. StoreFails A is_kept turns_away (fault.Begin f) start head script input p len log log'' out out end))
+  begin_fails f None p head len done log log' log'' out first ledger start mid end reads told replayed cut fails = tt
+  begin_fails f (Some script) None head len done log log' log'' out first ledger start mid end reads told replayed cut fails = tt
+  begin_fails f (Some script) (Some input) head len done log log' log'' out first ledger start mid end reads told replayed cut fails =
+      (unbegun A is_kept f head script len done log log' log'' first ledger start mid reads told replayed cut fails, refl, refl)

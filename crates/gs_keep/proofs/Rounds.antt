@@ -18,16 +18,16 @@ use Rattle.gs_keep.specs.declared.fault.KeepFault.TheVariants as fault
 use Rattle.gs_keep.proofs.Batches.{all_join, answers_join, entries_join, joined_join, lines_join, totals_join, unlines_join}
 use Rattle.gs_keep.proofs.Logs.{alone, alone_behind, alone_joined, alone_plain, breaks_batch, keeps_batch, keeps_full}
 
-module _ {S : Type 0} (A : S → List ℕ → List ℕ → S → Type 0) (is_kept : List ℕ → Bool) where
+module _ {S : Type 0} (A : S → List ℕ → List ℕ → S → Type 0) (is_kept : List ℕ → Bool) (turns_away : S → List ℕ → Bool) where
   -- nothing is served
-  unfoldable pub serves_none : (xs : List ℕ) (log : Option Held) (out : Option (List ℕ)) (ledger : Ledger) (s : S) → Serves A is_kept s xs xs log log out out ledger ledger s
+  unfoldable pub serves_none : (xs : List ℕ) (log : Option Held) (out : Option (List ℕ)) (ledger : Ledger) (s : S) → Serves A is_kept turns_away s xs xs log log out out ledger ledger s
   serves_none xs log out ledger s =
       record { turns = []; batches = []; parts = refl; answers = refl; written = Appends-nil out; logged = refl; plain = tt; kept = λ t told. (told, λ rests. rests) }
 
   -- ---- one round
 
   unfoldable pub round_serves : (most : ℕ) (xs rest : List ℕ) (log log' : Option Held) (out out' : Option (List ℕ)) (start now : S) (bytes answers : List ℕ) (ledger told told' : Ledger)
-      → RunsSome A is_kept most xs rest start now bytes answers ledger told → Keeps told told' log log' bytes → Appends out out' answers → Serves A is_kept start xs rest log log' out out' ledger told' now
+      → RunsSome A is_kept turns_away most xs rest start now bytes answers ledger told → Keeps told told' log log' bytes → Appends out out' answers → Serves A is_kept turns_away start xs rest log log' out out' ledger told' now
   round_serves most xs rest log log' out out' start now bytes answers ledger told told' g kept sent = record {
     turns = g.turns;
     batches = alone (entries g.turns);
@@ -41,14 +41,14 @@ module _ {S : Type 0} (A : S → List ℕ → List ℕ → S → Type 0) (is_kep
   }
 
   -- nothing of a round is logged or answered
-  pub nothing_kept : (o left : Option (List ℕ)) (log log' : Option Held) (out : Option (List ℕ)) (ledger : Ledger) (s : S) → log' ≡ log → IfSome o (λ xs. Fails A is_kept fault.Memory s xs left log log' out out ledger)
-  nothing_kept None left log log' out ledger s same = tt
-  nothing_kept (Some xs) left log log' out ledger s same =
+  pub nothing_kept : (o left : Option (List ℕ)) (log log' : Option Held) (out : Option (List ℕ)) (ledger : Ledger) (s end : S) → log' ≡ log → IfSome o (λ xs. Fails A is_kept turns_away fault.Memory s xs left log log' out out ledger end)
+  nothing_kept None left log log' out ledger s end same = tt
+  nothing_kept (Some xs) left log log' out ledger s end same =
       record { now = s; rest = xs; between = log; written = out; told = ledger; done = serves_none xs log out ledger s; last = (same, refl) }
 
   -- a batch isn't kept
   pub round_unkept : (f : KeepFault) (most : ℕ) (xs rest : List ℕ) (left : Option (List ℕ)) (log log' : Option Held) (out : Option (List ℕ)) (start now : S) (bytes answers : List ℕ) (ledger told : Ledger)
-      → RunsSome A is_kept most xs rest start now bytes answers ledger told → SealFails f told log log' bytes → Fails A is_kept f start xs left log log' out out ledger
+      → RunsSome A is_kept turns_away most xs rest start now bytes answers ledger told → SealFails f told log log' bytes → Fails A is_kept turns_away f start xs left log log' out out ledger now
   round_unkept fault.Memory most xs rest left log log' out start now bytes answers ledger told g fails =
       record { now = start; rest = xs; between = log; written = out; told = ledger; done = serves_none xs log out ledger start; last = (fails, refl) }
   round_unkept fault.Log most xs rest left log log' out start now bytes answers ledger told g fails = record {
@@ -59,7 +59,7 @@ module _ {S : Type 0} (A : S → List ℕ → List ℕ → S → Type 0) (is_kep
     told = ledger;
     done = serves_none xs log out ledger start;
     last = (
-      record { turns = g.turns; back = rest; end = now; parts = g.parts; answers = g.runs; plain = g.plain },
+      record { turns = g.turns; back = rest; parts = g.parts; answers = g.runs; plain = g.plain },
       λ t is rests. breaks_batch t (entries g.turns) told log log' bytes g.logged (g.noted t is) fails rests,
       refl,
     );
@@ -71,7 +71,7 @@ module _ {S : Type 0} (A : S → List ℕ → List ℕ → S → Type 0) (is_kep
 
   -- answers aren't written
   pub round_unsent : (most : ℕ) (xs rest : List ℕ) (left : Option (List ℕ)) (log log' : Option Held) (out out' : Option (List ℕ)) (start now : S) (bytes answers : List ℕ) (ledger told told' : Ledger)
-      → RunsSome A is_kept most xs rest start now bytes answers ledger told → Keeps told told' log log' bytes → AppendsBeginning out out' answers → Fails A is_kept fault.Write start xs left log log' out out' ledger
+      → RunsSome A is_kept turns_away most xs rest start now bytes answers ledger told → Keeps told told' log log' bytes → AppendsBeginning out out' answers → Fails A is_kept turns_away fault.Write start xs left log log' out out' ledger now
   round_unsent most xs rest left log log' out out' start now bytes answers ledger told told' g kept sent = record {
     now = start;
     rest = xs;
@@ -80,29 +80,29 @@ module _ {S : Type 0} (A : S → List ℕ → List ℕ → S → Type 0) (is_kep
     told = ledger;
     done = serves_none xs log out ledger start;
     last = (
-      record { turns = g.turns; back = rest; end = now; parts = g.parts; answers = g.runs; plain = g.plain },
+      record { turns = g.turns; back = rest; parts = g.parts; answers = g.runs; plain = g.plain },
       λ t is. (keeps_batch t (entries g.turns) told told' log log' bytes g.plain g.logged (g.noted t is) kept).1,
       subst (AppendsBeginning out out') g.answered sent,
     );
   }
 
   module _ (xs : List ℕ) (left : Option (List ℕ)) (log log' : Option Held) (out out' : Option (List ℕ)) (start now : S) (bytes answers : List ℕ) (ledger told told' : Ledger) (kept : Keeps told told' log log' bytes) (sent : Appends out out' answers) where
-    pub round_ok : (r : Gathered) (result : Result Bool KeepFault) → Ends r result → Gathers A is_kept r xs left start now bytes answers ledger told
-        → IfOk result (λ more. Rounds A is_kept start more xs left log log' out out' ledger told' now)
+    pub round_ok : (r : Gathered) (result : Result Bool KeepFault) → Ends r result → Gathers A is_kept turns_away r xs left start now bytes answers ledger told
+        → IfOk result (λ more. Rounds A is_kept turns_away start more xs left log log' out out' ledger told' now)
     unfolding round_serves
-    round_ok gathered.Some result is g = subst (λ (r : Result Bool KeepFault). IfOk r (λ more. Rounds A is_kept start more xs left log log' out out' ledger told' now)) (sym is)
+    round_ok gathered.Some result is g = subst (λ (r : Result Bool KeepFault). IfOk r (λ more. Rounds A is_kept turns_away start more xs left log log' out out' ledger told' now)) (sym is)
         (g.rest, g.left_by, round_serves 1 xs g.rest log log' out out' start now bytes answers ledger told told' g.runs kept sent, g.runs.many)
-    round_ok gathered.All result is g = subst (λ (r : Result Bool KeepFault). IfOk r (λ more. Rounds A is_kept start more xs left log log' out out' ledger told' now)) (sym is)
-        (subst (λ (rest : List ℕ). Serves A is_kept start xs rest log log' out out' ledger told' now) g.left_by.0
+    round_ok gathered.All result is g = subst (λ (r : Result Bool KeepFault). IfOk r (λ more. Rounds A is_kept turns_away start more xs left log log' out out' ledger told' now)) (sym is)
+        (subst (λ (rest : List ℕ). Serves A is_kept turns_away start xs rest log log' out out' ledger told' now) g.left_by.0
         (round_serves 0 xs g.rest log log' out out' start now bytes answers ledger told told' g.runs kept sent))
-    round_ok gathered.Unended result is g = subst (λ (r : Result Bool KeepFault). IfOk r (λ more. Rounds A is_kept start more xs left log log' out out' ledger told' now)) (sym is) tt
-    round_ok gathered.Failed result is g = subst (λ (r : Result Bool KeepFault). IfOk r (λ more. Rounds A is_kept start more xs left log log' out out' ledger told' now)) (sym is) tt
-    round_ok gathered.Full result is g = subst (λ (r : Result Bool KeepFault). IfOk r (λ more. Rounds A is_kept start more xs left log log' out out' ledger told' now)) (sym is) tt
+    round_ok gathered.Unended result is g = subst (λ (r : Result Bool KeepFault). IfOk r (λ more. Rounds A is_kept turns_away start more xs left log log' out out' ledger told' now)) (sym is) tt
+    round_ok gathered.Failed result is g = subst (λ (r : Result Bool KeepFault). IfOk r (λ more. Rounds A is_kept turns_away start more xs left log log' out out' ledger told' now)) (sym is) tt
+    round_ok gathered.Full result is g = subst (λ (r : Result Bool KeepFault). IfOk r (λ more. Rounds A is_kept turns_away start more xs left log log' out out' ledger told' now)) (sym is) tt
 
     abbrev Failing : Result Bool KeepFault → Type 0
-    Failing result = IfErr result (λ e. Fails A is_kept e start xs left log log' out out' ledger)
+    Failing result = IfErr result (λ e. Fails A is_kept turns_away e start xs left log log' out out' ledger now)
 
-    pub round_err : (r : Gathered) (result : Result Bool KeepFault) → Ends r result → Gathers A is_kept r xs left start now bytes answers ledger told → IfErr result (λ e. Fails A is_kept e start xs left log log' out out' ledger)
+    pub round_err : (r : Gathered) (result : Result Bool KeepFault) → Ends r result → Gathers A is_kept turns_away r xs left start now bytes answers ledger told → IfErr result (λ e. Fails A is_kept turns_away e start xs left log log' out out' ledger now)
     round_err gathered.Some result is g = subst Failing (sym is) tt
     round_err gathered.All result is g = subst Failing (sym is) tt
     round_err gathered.Unended result is g = subst Failing (sym is) (record {
@@ -112,7 +112,7 @@ module _ {S : Type 0} (A : S → List ℕ → List ℕ → S → Type 0) (is_kep
       written = out';
       told = told';
       done = round_serves 0 xs g.rest log log' out out' start now bytes answers ledger told told' g.runs kept sent;
-      last = (g.left_by.0, g.left_by.1, refl, refl);
+      last = (g.left_by.0, g.left_by.1, refl, refl, refl);
     })
     round_err gathered.Failed result is g = subst Failing (sym is) (record {
       now = now;
@@ -121,7 +121,7 @@ module _ {S : Type 0} (A : S → List ℕ → List ℕ → S → Type 0) (is_kep
       written = out';
       told = told';
       done = round_serves 0 xs g.rest log log' out out' start now bytes answers ledger told told' g.runs kept sent;
-      last = (g.left_by, refl, refl);
+      last = (g.left_by, refl, refl, refl);
     })
     round_err gathered.Full result is g = subst Failing (sym is) (record {
       now = now;
@@ -130,14 +130,14 @@ module _ {S : Type 0} (A : S → List ℕ → List ℕ → S → Type 0) (is_kep
       written = out';
       told = told';
       done = round_serves 0 xs g.rest log log' out out' start now bytes answers ledger told told' g.runs kept sent;
-      last = (g.left_by, inr (keeps_full told told' log log' bytes kept ∙ g.full), refl, refl);
+      last = (g.left_by, inr (keeps_full told told' log log' bytes kept ∙ g.full), refl, refl, refl);
     })
 
   -- ---- many rounds
 
   abbrev pub SoFar : ℕ → S → List ℕ → Option (List ℕ) → Option Held → Option Held → Option (List ℕ) → Option (List ℕ) → Ledger → Ledger → S → Type 0
   SoFar count start xs left log log' out out' ledger ledger' now =
-      (rest : List ℕ) × (left ≡ Some rest) × (s : Serves A is_kept start xs rest log log' out out' ledger ledger' now) × (count ≤ length s.turns)
+      (rest : List ℕ) × (left ≡ Some rest) × (s : Serves A is_kept turns_away start xs rest log log' out out' ledger ledger' now) × (count ≤ length s.turns)
 
   pub so_far_none : (o : Option (List ℕ)) (log : Option Held) (out : Option (List ℕ)) (ledger : Ledger) (s : S) → IfSome o (λ xs. SoFar 0 s xs o log log out out ledger ledger s)
   unfolding serves_none
@@ -145,14 +145,14 @@ module _ {S : Type 0} (A : S → List ℕ → List ℕ → S → Type 0) (is_kep
   so_far_none (Some xs) log out ledger s = (xs, refl, serves_none xs log out ledger s, omega arith)
 
   unfoldable pub serves_join : (xs mid rest : List ℕ) (log log' log'' : Option Held) (out out' out'' : Option (List ℕ)) (ledger ledger' ledger'' : Ledger) (start now end : S)
-      → Serves A is_kept start xs mid log log' out out' ledger ledger' now → Serves A is_kept now mid rest log' log'' out' out'' ledger' ledger'' end
-      → Serves A is_kept start xs rest log log'' out out'' ledger ledger'' end
+      → Serves A is_kept turns_away start xs mid log log' out out' ledger ledger' now → Serves A is_kept turns_away now mid rest log' log'' out' out'' ledger' ledger'' end
+      → Serves A is_kept turns_away start xs rest log log'' out out'' ledger ledger'' end
   serves_join xs mid rest log log' log'' out out' out'' ledger ledger' ledger'' start now end one two = record {
     turns = one.turns ++ two.turns;
     batches = one.batches ++ two.batches;
     parts = one.parts ∙ ap (λ (l : List (List ℕ)). lines_asked one.turns ++ l) two.parts ∙ sym (append_assoc (lines_asked one.turns) (lines_asked two.turns) (lines_of rest))
         ∙ ap (λ (l : List (List ℕ)). l ++ lines_of rest) (sym (lines_join one.turns two.turns));
-    answers = answers_join A is_kept start now end one.turns two.turns one.answers two.answers;
+    answers = answers_join A is_kept turns_away start now end one.turns two.turns one.answers two.answers;
     written = subst (Appends out out'') (sym (unlines_join one.turns two.turns)) (Appends-trans out out' out'' _ _ one.written two.written);
     logged = entries_join one.turns two.turns ∙ ap (λ (l : List Entry). l ++ entries two.turns) one.logged ∙ ap (λ (l : List Entry). joined one.batches ++ l) two.logged ∙ sym (joined_join one.batches two.batches);
     plain = all_join IsBatch one.batches two.batches one.plain two.plain;
@@ -164,11 +164,11 @@ module _ {S : Type 0} (A : S → List ℕ → List ℕ → S → Type 0) (is_kep
   }
 
   pub so_far_more : (count : ℕ) (xs : List ℕ) (left left' : Option (List ℕ)) (log log' log'' : Option Held) (out out' out'' : Option (List ℕ)) (ledger ledger' ledger'' : Ledger) (start now end : S)
-      → SoFar count start xs left log log' out out' ledger ledger' now → IfSome left (λ ys. Rounds A is_kept now true ys left' log' log'' out' out'' ledger' ledger'' end)
+      → SoFar count start xs left log log' out out' ledger ledger' now → IfSome left (λ ys. Rounds A is_kept turns_away now true ys left' log' log'' out' out'' ledger' ledger'' end)
       → SoFar (count + 1) start xs left' log log'' out out'' ledger ledger'' end
   unfolding serves_join
   so_far_more count xs left left' log log' log'' out out' out'' ledger ledger' ledger'' start now end (mid, is, one, many) more =
-      let (rest, left_is, two, some) = subst (λ (o : Option (List ℕ)). IfSome o (λ ys. Rounds A is_kept now true ys left' log' log'' out' out'' ledger' ledger'' end)) is more in (
+      let (rest, left_is, two, some) = subst (λ (o : Option (List ℕ)). IfSome o (λ ys. Rounds A is_kept turns_away now true ys left' log' log'' out' out'' ledger' ledger'' end)) is more in (
         rest,
         left_is,
         serves_join xs mid rest log log' log'' out out' out'' ledger ledger' ledger'' start now end one two,
@@ -176,27 +176,27 @@ module _ {S : Type 0} (A : S → List ℕ → List ℕ → S → Type 0) (is_kep
       )
 
   pub so_far_end : (count : ℕ) (xs : List ℕ) (left left' : Option (List ℕ)) (log log' log'' : Option Held) (out out' out'' : Option (List ℕ)) (ledger ledger' ledger'' : Ledger) (start now end : S)
-      → SoFar count start xs left log log' out out' ledger ledger' now → IfSome left (λ ys. Rounds A is_kept now false ys left' log' log'' out' out'' ledger' ledger'' end)
-      → Serves A is_kept start xs [] log log'' out out'' ledger ledger'' end
+      → SoFar count start xs left log log' out out' ledger ledger' now → IfSome left (λ ys. Rounds A is_kept turns_away now false ys left' log' log'' out' out'' ledger' ledger'' end)
+      → Serves A is_kept turns_away start xs [] log log'' out out'' ledger ledger'' end
   so_far_end count xs left left' log log' log'' out out' out'' ledger ledger' ledger'' start now end (mid, is, one, many) more =
       serves_join xs mid [] log log' log'' out out' out'' ledger ledger' ledger'' start now end one
-      (subst (λ (o : Option (List ℕ)). IfSome o (λ ys. Rounds A is_kept now false ys left' log' log'' out' out'' ledger' ledger'' end)) is more)
+      (subst (λ (o : Option (List ℕ)). IfSome o (λ ys. Rounds A is_kept turns_away now false ys left' log' log'' out' out'' ledger' ledger'' end)) is more)
 
-  last_more : (f : KeepFault) (now : S) (rest : List ℕ) (left : Option (List ℕ)) (log log' : Option Held) (out out' : Option (List ℕ)) (ledger : Ledger) (before turns : List Turn)
-      → EndsWith A is_kept f now rest left log log' out out' ledger turns → EndsWith A is_kept f now rest left log log' out out' ledger (before ++ turns)
-  last_more fault.Memory now rest left log log' out out' ledger before turns last = last
-  last_more fault.Read now rest left log log' out out' ledger before turns last = last
-  last_more fault.Unended now rest left log log' out out' ledger before turns last = last
-  last_more fault.Write now rest left log log' out out' ledger before turns last = last
-  last_more fault.Log now rest left log log' out out' ledger before turns last = last
-  last_more fault.TooMany now rest left log log' out out' ledger before turns (left_is, many, same, written) =
-      (left_is, ⊎_elim (λ most. inl (omega (arith, most, length-append before turns))) (λ full. inr full) many, same, written)
+  last_more : (f : KeepFault) (now end : S) (rest : List ℕ) (left : Option (List ℕ)) (log log' : Option Held) (out out' : Option (List ℕ)) (ledger : Ledger) (before turns : List Turn)
+      → EndsWith A is_kept turns_away f now end rest left log log' out out' ledger turns → EndsWith A is_kept turns_away f now end rest left log log' out out' ledger (before ++ turns)
+  last_more fault.Memory now end rest left log log' out out' ledger before turns last = last
+  last_more fault.Read now end rest left log log' out out' ledger before turns last = last
+  last_more fault.Unended now end rest left log log' out out' ledger before turns last = last
+  last_more fault.Write now end rest left log log' out out' ledger before turns last = last
+  last_more fault.Log now end rest left log log' out out' ledger before turns last = last
+  last_more fault.TooMany now end rest left log log' out out' ledger before turns (left_is, many, same, written, unrun) =
+      (left_is, ⊎_elim (λ most. inl (omega (arith, most, length-append before turns))) (λ full. inr full) many, same, written, unrun)
 
-  pub so_far_fails : (f : KeepFault) (count : ℕ) (xs : List ℕ) (left left' : Option (List ℕ)) (log log' log'' : Option Held) (out out' out'' : Option (List ℕ)) (ledger ledger' : Ledger) (start now : S)
-      → SoFar count start xs left log log' out out' ledger ledger' now → IfSome left (λ ys. Fails A is_kept f now ys left' log' log'' out' out'' ledger') → Fails A is_kept f start xs left' log log'' out out'' ledger
+  pub so_far_fails : (f : KeepFault) (count : ℕ) (xs : List ℕ) (left left' : Option (List ℕ)) (log log' log'' : Option Held) (out out' out'' : Option (List ℕ)) (ledger ledger' : Ledger) (start now end : S)
+      → SoFar count start xs left log log' out out' ledger ledger' now → IfSome left (λ ys. Fails A is_kept turns_away f now ys left' log' log'' out' out'' ledger' end) → Fails A is_kept turns_away f start xs left' log log'' out out'' ledger end
   unfolding serves_join
-  so_far_fails f count xs left left' log log' log'' out out' out'' ledger ledger' start now (mid, is, one, many) fails =
-      let two = subst (λ (o : Option (List ℕ)). IfSome o (λ ys. Fails A is_kept f now ys left' log' log'' out' out'' ledger')) is fails in
+  so_far_fails f count xs left left' log log' log'' out out' out'' ledger ledger' start now end (mid, is, one, many) fails =
+      let two = subst (λ (o : Option (List ℕ)). IfSome o (λ ys. Fails A is_kept turns_away f now ys left' log' log'' out' out'' ledger' end)) is fails in
       record {
         now = two.now;
         rest = two.rest;
@@ -204,11 +204,11 @@ module _ {S : Type 0} (A : S → List ℕ → List ℕ → S → Type 0) (is_kep
         written = two.written;
         told = two.told;
         done = serves_join xs mid two.rest log log' two.between out out' two.written ledger ledger' two.told start now two.now one two.done;
-        last = last_more f two.now two.rest left' two.between log'' two.written out'' two.told one.turns two.done.turns two.last;
+        last = last_more f two.now end two.rest left' two.between log'' two.written out'' two.told one.turns two.done.turns two.last;
       }
 
   -- too many rounds
   pub so_far_stops : (count : ℕ) (xs : List ℕ) (left : Option (List ℕ)) (log log' : Option Held) (out out' : Option (List ℕ)) (ledger ledger' : Ledger) (start now : S)
-      → 18446744073709551615 ≤ count → SoFar count start xs left log log' out out' ledger ledger' now → Fails A is_kept fault.TooMany start xs left log log' out out' ledger
+      → 18446744073709551615 ≤ count → SoFar count start xs left log log' out out' ledger ledger' now → Fails A is_kept turns_away fault.TooMany start xs left log log' out out' ledger now
   so_far_stops count xs left log log' out out' ledger ledger' start now most (rest, is, one, many) =
-      record { now = now; rest = rest; between = log'; written = out'; told = ledger'; done = one; last = (is, inl (omega (arith, most, many)), refl, refl) }
+      record { now = now; rest = rest; between = log'; written = out'; told = ledger'; done = one; last = (is, inl (omega (arith, most, many)), refl, refl, refl) }

@@ -12,8 +12,8 @@ use Rattle.gs_keep_mark.specs.Ledgers.{IsLedger, is_full}
 use Rattle.gs_keep_mark.specs.Marks.{Totals, noted, starts_mark, text_of, with_batch}
 use Rattle.gs_keep_mark.specs.Started.{IsBatch, IsPlain}
 use Rattle.gs_keep_mark.specs.declared.Ledger.{Ledger}
-use Rattle.gs_keep.specs.Lines.{Turn, entries, lines_asked, texts_of, turned_away_text}
-use Rattle.gs_keep.specs.Running.{Gathers, LoggedAs, RunsOne, RunsSome}
+use Rattle.gs_keep.specs.Lines.{MayStand, Turn, entries, is_away, lines_asked, texts_of, turned_away_text}
+use Rattle.gs_keep.specs.Running.{Gathers, LoggedAs, RunsOne, RunsSome, RunsUnless}
 use Rattle.gs_keep.specs.declared.batch.Gathered.TheVariants as gathered
 use Rattle.gs_keep.proofs.Batches.{all_join, answers_join, entries_join, lines_join, text_join, unlines_join, with_join}
 use Rattle.gs_keep.proofs.Lines.{bad_line_is, logged_unmarked, long_test, long_unlogged, memory_is, next_plain, other_unlogged, short_logged, short_test}
@@ -37,68 +37,87 @@ module _ {S : Type 0} (A : S → List ℕ → List ℕ → S → Type 0) (is_kep
   answers_short line text old new short answers =
       inr (subst (λ b. AnswersIfShort A b old (content line) text new) (sym (short_test (length (content line)) longest_line short)) answers)
 
+module _ {S : Type 0} (A : S → List ℕ → List ℕ → S → Type 0) (is_kept : List ℕ → Bool) (turns_away : S → List ℕ → Bool) where
+  -- what is logged of a turn may stand there, whether it is turned away or not
+  logged_stands : (old : S) (turn : Turn) (new : S) (w : Bool) → turn.logged ≡ true → RunsUnless A is_kept turns_away w old turn new → MayStand is_kept turn.line turn.text
+  logged_stands old turn new true logged r = absurd (true≢false (sym logged ∙ r.unlogged))
+  logged_stands old turn new false logged r = subst (λ (k : Bool). LoggedAs A is_kept turns_away k old turn new) logged r.logged
+
   pub ran : (line text : List ℕ) (old new : S) (bytes bytes' answers answers' : List ℕ) (ledger ledger' : Ledger) → length (content line) ≤ longest_line → ends_with_byte 10 line ≡ true
-      → is_kept (content line) ≡ true → text ≢ memory_text → A old (content line) text new → bytes' ≡ bytes ++ line → answers' ≡ answers ++ (text ++ 10 ∷ [])
+      → is_kept (content line) ≡ true → turns_away old (content line) ≡ false → text ≢ memory_text → A old (content line) text new → bytes' ≡ bytes ++ line → answers' ≡ answers ++ (text ++ 10 ∷ [])
       → ((t : Totals) → IsLedger ledger t → IsLedger ledger' (noted t (record { line = line; answer = text })))
-      → RunsOne A is_kept line old new bytes bytes' answers answers' ledger ledger'
-  ran line text old new bytes bytes' answers answers' ledger ledger' short ends kept enough answered put told noted = record {
-    turn = record { line = line; text = text; logged = true };
+      → RunsOne A is_kept turns_away line old new bytes bytes' answers answers' ledger ledger'
+  ran line text old new bytes bytes' answers answers' ledger ledger' short ends kept taken enough answered put told noted = record {
+    turn = record { line = line; text = text; logged = true; away = false };
     line_is = refl;
     ended = λ logged. ends;
-    runs = record { answers = answers_short line text old new short answered; logged = (short_logged is_kept line short kept, enough) };
+    runs = record {
+      away = sym (other_unlogged (turns_away old) line taken);
+      runs = record { answers = answers_short A is_kept line text old new short answered; logged = (short_logged is_kept line short kept, enough) };
+    };
     logged = put ∙ ap (λ (l : List ℕ). bytes ++ l) (sym (append-nil line));
     answered = told;
     noted = noted;
   }
 
   pub ran_other : (line text : List ℕ) (old new : S) (bytes answers answers' : List ℕ) (ledger : Ledger) → length (content line) ≤ longest_line
-      → is_kept (content line) ≡ false → new ≡ old → A old (content line) text new → answers' ≡ answers ++ (text ++ 10 ∷ [])
-      → RunsOne A is_kept line old new bytes bytes answers answers' ledger ledger
-  ran_other line text old new bytes answers answers' ledger short other same answered told = record {
-    turn = record { line = line; text = text; logged = false };
+      → is_kept (content line) ≡ false → turns_away old (content line) ≡ false → new ≡ old → A old (content line) text new → answers' ≡ answers ++ (text ++ 10 ∷ [])
+      → RunsOne A is_kept turns_away line old new bytes bytes answers answers' ledger ledger
+  ran_other line text old new bytes answers answers' ledger short other taken same answered told = record {
+    turn = record { line = line; text = text; logged = false; away = false };
     line_is = refl;
     ended = λ logged. absurd (true≢false (sym logged));
-    runs = record { answers = answers_short line text old new short answered; logged = (same, inl (other_unlogged is_kept line other)) };
+    runs = record {
+      away = sym (other_unlogged (turns_away old) line taken);
+      runs = record { answers = answers_short A is_kept line text old new short answered; logged = (same, inl (other_unlogged is_kept line other)) };
+    };
     logged = sym (append-nil bytes);
     answered = told;
     noted = λ t is. is;
   }
 
+  unheld_runs : (w away : Bool) (s : S) (line : List ℕ) → RunsUnless A is_kept turns_away w s (record { line = line; text = memory_text; logged = false; away = away }) s
+  unheld_runs true away s line = record { same = refl; unlogged = refl; told = inr refl }
+  unheld_runs false away s line = record { answers = inl (refl, refl); logged = (refl, inr refl) }
+
   -- memory is lacking to hold a line or to log it
   pub unheld : (line : List ℕ) (s : S) (bytes bytes' answers answers' : List ℕ) (ledger : Ledger) → bytes' ≡ bytes → answers' ≡ answers ++ (codes "refused 33 Memory" ++ 10 ∷ [])
-      → RunsOne A is_kept line s s bytes bytes' answers answers' ledger ledger
+      → RunsOne A is_kept turns_away line s s bytes bytes' answers answers' ledger ledger
   unheld line s bytes bytes' answers answers' ledger kept told = record {
-    turn = record { line = line; text = memory_text; logged = false };
+    turn = record { line = line; text = memory_text; logged = false; away = is_away turns_away s line };
     line_is = refl;
     ended = λ logged. absurd (true≢false (sym logged));
-    runs = record { answers = inl (refl, refl); logged = (refl, inr (inl refl)) };
+    runs = record { away = refl; runs = unheld_runs (is_away turns_away s line) (is_away turns_away s line) s line };
     logged = kept ∙ sym (append-nil bytes);
     answered = told ∙ ap (λ (l : List ℕ). answers ++ (l ++ 10 ∷ [])) memory_is;
     noted = λ t is. is;
   }
 
   -- a line is turned away
-  pub turned : (line : List ℕ) (s : S) (bytes answers answers' : List ℕ) (ledger : Ledger) → length (content line) ≤ longest_line → A s (content line) turned_away_text s
-      → answers' ≡ answers ++ (codes "refused 39 NeedsLab" ++ 10 ∷ []) → RunsOne A is_kept line s s bytes bytes answers answers' ledger ledger
-  turned line s bytes answers answers' ledger short answered told = record {
-    turn = record { line = line; text = turned_away_text; logged = false };
+  pub turned : (line : List ℕ) (s : S) (bytes answers answers' : List ℕ) (ledger : Ledger) → length (content line) ≤ longest_line → turns_away s (content line) ≡ true
+      → answers' ≡ answers ++ (codes "refused 39 NeedsLab" ++ 10 ∷ []) → RunsOne A is_kept turns_away line s s bytes bytes answers answers' ledger ledger
+  turned line s bytes answers answers' ledger short away told = record {
+    turn = record { line = line; text = turned_away_text; logged = false; away = true };
     line_is = refl;
     ended = λ logged. absurd (true≢false (sym logged));
-    runs = record { answers = answers_short line turned_away_text s s short answered; logged = (refl, inr (inr refl)) };
+    runs = record { away = sym (short_logged (turns_away s) line short away); runs = record { same = refl; unlogged = refl; told = inl refl } };
     logged = sym (append-nil bytes);
     answered = told;
     noted = λ t is. is;
   }
 
   pub too_long : (line : List ℕ) (s : S) (bytes answers answers' : List ℕ) (ledger : Ledger) → longest_line < length (content line) → answers' ≡ answers ++ (codes "refused 34 BadLine" ++ 10 ∷ [])
-      → RunsOne A is_kept line s s bytes bytes answers answers' ledger ledger
+      → RunsOne A is_kept turns_away line s s bytes bytes answers answers' ledger ledger
   too_long line s bytes answers answers' ledger long told = record {
-    turn = record { line = line; text = bad_line_text; logged = false };
+    turn = record { line = line; text = bad_line_text; logged = false; away = false };
     line_is = refl;
     ended = λ logged. absurd (true≢false (sym logged));
     runs = record {
-      answers = inr (subst (λ b. AnswersIfShort A b s (content line) bad_line_text s) (sym (long_test (length (content line)) longest_line long)) (refl, refl));
-      logged = (refl, inl (long_unlogged is_kept line long));
+      away = sym (long_unlogged (turns_away s) line long);
+      runs = record {
+        answers = inr (subst (λ b. AnswersIfShort A b s (content line) bad_line_text s) (sym (long_test (length (content line)) longest_line long)) (refl, refl));
+        logged = (refl, inl (long_unlogged is_kept line long));
+      };
     };
     logged = sym (append-nil bytes);
     answered = told ∙ ap (λ (l : List ℕ). answers ++ (l ++ 10 ∷ [])) bad_line_is;
@@ -109,7 +128,7 @@ module _ {S : Type 0} (A : S → List ℕ → List ℕ → S → Type 0) (is_kep
 
   -- so far
   abbrev pub RunsSoFar : ℕ → List ℕ → Option (List ℕ) → S → S → List ℕ → List ℕ → Ledger → Ledger → Type 0
-  RunsSoFar count xs left old new bytes answers ledger ledger' = (rest : List ℕ) × (left ≡ Some rest) × RunsSome A is_kept count xs rest old new bytes answers ledger ledger'
+  RunsSoFar count xs left old new bytes answers ledger ledger' = (rest : List ℕ) × (left ≡ Some rest) × RunsSome A is_kept turns_away count xs rest old new bytes answers ledger ledger'
 
   pub runs_none : (o : Option (List ℕ)) (s : S) (bytes answers : List ℕ) (ledger : Ledger) → bytes ≡ [] → answers ≡ [] → IfSome o (λ xs. RunsSoFar 0 xs o s s bytes answers ledger ledger)
   runs_none None s bytes answers ledger no_bytes no_answers = tt
@@ -137,7 +156,7 @@ module _ {S : Type 0} (A : S → List ℕ → List ℕ → S → Type 0) (is_kep
 
   pub runs_more : ((line : List ℕ) → is_kept (35 ∷ line) ≡ false) → (count : ℕ) (line : EndedLine) (xs : List ℕ) (left left' : Option (List ℕ)) (old now new : S) (bytes bytes' answers answers' : List ℕ) (start ledger ledger' : Ledger)
       → RunsSoFar count xs left old now bytes answers start ledger → line ≢ End → IfSome left (λ ys. IsEndedLine (take_through 10 ys) line) → IfSome left (λ ys. left' ≡ Some (drop_through 10 ys))
-      → ((whole : List ℕ) → IsEndedLine whole line → RunsOne A is_kept whole now new bytes bytes' answers answers' ledger ledger')
+      → ((whole : List ℕ) → IsEndedLine whole line → RunsOne A is_kept turns_away whole now new bytes bytes' answers answers' ledger ledger')
       → RunsSoFar (count + 1) xs left' old new bytes' answers' start ledger'
   runs_more none count line xs left left' old now new bytes bytes' answers answers' start ledger ledger' (rest, is, r) more next behind one =
       let next' = subst (λ (o : Option (List ℕ)). IfSome o (λ ys. IsEndedLine (take_through 10 ys) line)) is next in
@@ -154,7 +173,7 @@ module _ {S : Type 0} (A : S → List ℕ → List ℕ → S → Type 0) (is_kep
           many = omega (arith, r.many, length-append turns last);
           parts = r.parts ∙ ap (λ (l : List (List ℕ)). lines_asked turns ++ l) (lines_of-step rest some ∙ ap (λ (l : List ℕ). l ∷ back) (sym o.line_is))
               ∙ sym (append_assoc (lines_asked turns) (o.turn.line ∷ []) back) ∙ ap (λ (l : List (List ℕ)). l ++ back) (sym (lines_join turns last));
-          runs = answers_join A is_kept old now new turns last r.runs (new, o.runs, refl);
+          runs = answers_join A is_kept turns_away old now new turns last r.runs (new, o.runs, refl);
           plain = subst IsBatch (sym (entries_join turns last)) (all_join _ (entries turns) (entries last) r.plain (plain_last o some));
           logged = o.logged ∙ ap (λ (l : List ℕ). l ++ text_of (entries last)) r.logged ∙ sym (text_join (entries turns) (entries last)) ∙ ap text_of (sym (entries_join turns last));
           answered = o.answered ∙ ap (λ (l : List ℕ). l ++ (o.turn.text ++ 10 ∷ [])) r.answered
@@ -164,20 +183,20 @@ module _ {S : Type 0} (A : S → List ℕ → List ℕ → S → Type 0) (is_kep
         },
       )
     where
-      plain_last : (o : RunsOne A is_kept (take_through 10 rest) now new bytes bytes' answers answers' ledger ledger') → 0 < length rest → IsBatch (entries (o.turn ∷ []))
+      plain_last : (o : RunsOne A is_kept turns_away (take_through 10 rest) now new bytes bytes' answers answers' ledger ledger') → 0 < length rest → IsBatch (entries (o.turn ∷ []))
       plain_last o some = at o.turn.logged refl
         where
           at : (k : Bool) → o.turn.logged ≡ k → IsBatch (cond k (record { line = o.turn.line; answer = o.turn.text } ∷ []) [])
           at false e = tt
           at true e =
-              let (logged, enough) = subst (λ k. LoggedAs A is_kept k now o.turn new) e o.runs.logged in
+              let (logged, enough) = logged_stands now o.turn new o.turn.away e o.runs.runs in
               let ends = subst (λ (l : List ℕ). ends_with_byte 10 l ≡ true) o.line_is (o.ended e) in
               (subst IsPlain (sym o.line_is) (next_plain rest some ends (subst (λ (l : List ℕ). starts_mark l ≡ false) o.line_is (logged_unmarked is_kept none o.turn.line logged))), tt)
 
   -- ---- how it ends
 
-  fewer : (count : ℕ) (xs rest : List ℕ) (old new : S) (bytes answers : List ℕ) (ledger ledger' : Ledger) → RunsSome A is_kept count xs rest old new bytes answers ledger ledger'
-      → (most : ℕ) → most ≤ count → RunsSome A is_kept most xs rest old new bytes answers ledger ledger'
+  fewer : (count : ℕ) (xs rest : List ℕ) (old new : S) (bytes answers : List ℕ) (ledger ledger' : Ledger) → RunsSome A is_kept turns_away count xs rest old new bytes answers ledger ledger'
+      → (most : ℕ) → most ≤ count → RunsSome A is_kept turns_away most xs rest old new bytes answers ledger ledger'
   fewer count xs rest old new bytes answers ledger ledger' r most less = record {
     turns = r.turns;
     many = omega (arith, less, r.many);
@@ -190,22 +209,22 @@ module _ {S : Type 0} (A : S → List ℕ → List ℕ → S → Type 0) (is_kep
   }
 
   pub gathered_some : (count : ℕ) (xs : List ℕ) (left : Option (List ℕ)) (old new : S) (bytes answers : List ℕ) (ledger ledger' : Ledger) → RunsSoFar count xs left old new bytes answers ledger ledger'
-      → 1 ≤ count → Gathers A is_kept gathered.Some xs left old new bytes answers ledger ledger'
+      → 1 ≤ count → Gathers A is_kept turns_away gathered.Some xs left old new bytes answers ledger ledger'
   gathered_some count xs left old new bytes answers ledger ledger' (rest, is, r) some =
       record { rest = rest; left_by = is; full = tt; runs = fewer count xs rest old new bytes answers ledger ledger' r 1 some }
 
   pub gathered_full : (count : ℕ) (xs : List ℕ) (left : Option (List ℕ)) (old new : S) (bytes answers : List ℕ) (ledger ledger' : Ledger) → RunsSoFar count xs left old new bytes answers ledger ledger'
-      → is_full ledger' ≡ true → Gathers A is_kept gathered.Full xs left old new bytes answers ledger ledger'
+      → is_full ledger' ≡ true → Gathers A is_kept turns_away gathered.Full xs left old new bytes answers ledger ledger'
   gathered_full count xs left old new bytes answers ledger ledger' (rest, is, r) full =
       record { rest = rest; left_by = is; full = full; runs = fewer count xs rest old new bytes answers ledger ledger' r 0 (omega arith) }
 
   pub gathered_failed : (count : ℕ) (xs : List ℕ) (left left' : Option (List ℕ)) (old new : S) (bytes answers : List ℕ) (ledger ledger' : Ledger) → RunsSoFar count xs left old new bytes answers ledger ledger'
-      → StaysInLine left left' → Gathers A is_kept gathered.Failed xs left' old new bytes answers ledger ledger'
+      → StaysInLine left left' → Gathers A is_kept turns_away gathered.Failed xs left' old new bytes answers ledger ledger'
   gathered_failed count xs left left' old new bytes answers ledger ledger' (rest, is, r) stays =
       record { rest = rest; left_by = subst (λ (o : Option (List ℕ)). StaysInLine o left') is stays; full = tt; runs = fewer count xs rest old new bytes answers ledger ledger' r 0 (omega arith) }
 
   pub gathered_unended : (count : ℕ) (xs : List ℕ) (left left' : Option (List ℕ)) (old new : S) (bytes answers : List ℕ) (ledger ledger' : Ledger) → RunsSoFar count xs left old new bytes answers ledger ledger'
-      → IfSome left (λ ys. IsEndedLine (take_through 10 ys) Unended) → IfSome left (λ ys. left' ≡ Some (drop_through 10 ys)) → Gathers A is_kept gathered.Unended xs left' old new bytes answers ledger ledger'
+      → IfSome left (λ ys. IsEndedLine (take_through 10 ys) Unended) → IfSome left (λ ys. left' ≡ Some (drop_through 10 ys)) → Gathers A is_kept turns_away gathered.Unended xs left' old new bytes answers ledger ledger'
   gathered_unended count xs left left' old new bytes answers ledger ledger' (rest, is, r) next behind =
       let (some, ends) = subst (λ (o : Option (List ℕ)). IfSome o (λ ys. IsEndedLine (take_through 10 ys) Unended)) is next in
       record {
@@ -216,7 +235,7 @@ module _ {S : Type 0} (A : S → List ℕ → List ℕ → S → Type 0) (is_kep
       }
 
   pub gathered_all : (count : ℕ) (xs : List ℕ) (left left' : Option (List ℕ)) (old new : S) (bytes answers : List ℕ) (ledger ledger' : Ledger) → RunsSoFar count xs left old new bytes answers ledger ledger'
-      → IfSome left (λ ys. IsEndedLine (take_through 10 ys) End) → IfSome left (λ ys. left' ≡ Some (drop_through 10 ys)) → Gathers A is_kept gathered.All xs left' old new bytes answers ledger ledger'
+      → IfSome left (λ ys. IsEndedLine (take_through 10 ys) End) → IfSome left (λ ys. left' ≡ Some (drop_through 10 ys)) → Gathers A is_kept turns_away gathered.All xs left' old new bytes answers ledger ledger'
   gathered_all count xs left left' old new bytes answers ledger ledger' (rest, is, r) next behind =
       let none = take_through-nil 10 rest (ap length (subst (λ (o : Option (List ℕ)). IfSome o (λ ys. IsEndedLine (take_through 10 ys) End)) is next)) in
       let left_is = subst (λ (o : Option (List ℕ)). IfSome o (λ ys. left' ≡ Some (drop_through 10 ys))) is behind in

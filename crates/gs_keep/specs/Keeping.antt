@@ -1,12 +1,12 @@
 -- What a run over a log does.
 use Rattle.std.specs.Prelude.{◌≡◌, ◌++◌, ℕ, Bool, true, false, List, [], take, drop, map, Option, Some, IfSome, Result, Ok, Err}
 use Rattle.gs_keep_log.specs.Log.{Held, MayLeave, whole}
-use Rattle.gs_shell_script.specs.Run.{Runs, lines_of}
+use Rattle.gs_shell_script.specs.Run.{Runs}
 use Rattle.gs_keep_mark.specs.Marks.{Entry, beginning, marked, text_of, totals_behind}
 use Rattle.gs_keep_mark.specs.Started.{AreBatches, IsBatch}
 use Rattle.gs_keep_mark.specs.declared.Ledger.{Ledger}
 use Rattle.gs_keep_mark.specs.Ledgers.{IsLedger}
-use Rattle.gs_keep.specs.Lines.{joined, kept_behind, texts_of}
+use Rattle.gs_keep.specs.Lines.{joined, kept_behind, lines_asked, taken, texts_of}
 use Rattle.gs_keep.specs.Replaying.{ReplayFails, RunsAgain}
 use Rattle.gs_keep.specs.Serving.{Fails, LeavesAtMost, RestsAt, Serves}
 use Rattle.gs_keep.specs.declared.again.ReplayFault.TheVariants as again
@@ -98,34 +98,36 @@ module _ {S : Type 0} (A : S → List ℕ → List ℕ → S → Type 0) (is_kep
     pub told : IsLedger ledger (kept_behind (totals_behind (beginning head) batches) last)
     pub rests : IfSome log (λ h. RestsAt log' (kept_behind (totals_behind (beginning head) batches) last).text)
 
+-- And for a test that says which lines it turns away.
+module _ {S : Type 0} (A : S → List ℕ → List ℕ → S → Type 0) (is_kept : List ℕ → Bool) (turns_away : S → List ℕ → Bool) where
   -- A log is begun on, and then the input is served.
   pub record KeepsOn (start : S) (head script input : List ℕ) (len : ℕ) (log log' : Option Held) (out out' : Option (List ℕ)) (end : S) : Type 0 where
     pub between : Option Held
     pub told : Ledger
     pub ended : Ledger
     pub mid : S
-    pub begins : Begins start head script len log between told mid
-    pub serves : Serves A is_kept mid input [] between log' out out' told ended end
-    -- what was run again and what is answered to the input are the answers to the log's lines and the input, one behind the other
-    pub together : Runs A start (map (λ e. e.line) (joined begins.batches ++ begins.last) ++ lines_of input) (map (λ e. e.answer) (joined begins.batches ++ begins.last) ++ texts_of serves.turns) end
+    pub begins : Begins A is_kept start head script len log between told mid
+    pub serves : Serves A is_kept turns_away mid input [] between log' out out' told ended end
+    -- what was run again and what is answered to the input are the answers to the log's lines and to those of the input that aren't turned away, one behind the other
+    pub together : Runs A start (map (λ e. e.line) (joined begins.batches ++ begins.last) ++ lines_asked (taken serves.turns)) (map (λ e. e.answer) (joined begins.batches ++ begins.last) ++ texts_of (taken serves.turns)) end
     -- what stands in the log then leads to where the run has come
     pub stands : RunsAgain A is_kept start ((joined begins.batches ++ begins.last) ++ joined serves.batches) end
     -- the log holds the batches of before and those of the run, each byte for good
     pub holds : IfSome log (λ h. RestsAt log' (totals_behind (kept_behind (totals_behind (beginning head) begins.batches) begins.last) serves.batches).text)
 
   -- A log is begun on, and then the run fails. Each crash leaves all that was answered, and any bytes behind it.
-  pub record StopsOn (fault : KeepFault) (start : S) (head script input : List ℕ) (left : Option (List ℕ)) (len : ℕ) (log log' : Option Held) (out out' : Option (List ℕ)) : Type 0 where
+  pub record StopsOn (fault : KeepFault) (start : S) (head script input : List ℕ) (left : Option (List ℕ)) (len : ℕ) (log log' : Option Held) (out out' : Option (List ℕ)) (end : S) : Type 0 where
     pub between : Option Held
     pub told : Ledger
     pub mid : S
-    pub begins : Begins start head script len log between told mid
-    pub fails : Fails A is_kept fault mid input left between log' out out' told
+    pub begins : Begins A is_kept start head script len log between told mid
+    pub fails : Fails A is_kept turns_away fault mid input left between log' out out' told end
     pub crashes : IfSome log (λ h. LeavesAll (totals_behind (kept_behind (totals_behind (beginning head) begins.batches) begins.last) fails.done.batches).text log')
 
-  abbrev pub StoreFails : StoreFault → S → List ℕ → List ℕ → List ℕ → Option (List ℕ) → ℕ → Option Held → Option Held → Option (List ℕ) → Option (List ℕ) → Type 0
-  StoreFails (fault.Replay f) start head script input left len log log' out out' =
+  abbrev pub StoreFails : StoreFault → S → List ℕ → List ℕ → List ℕ → Option (List ℕ) → ℕ → Option Held → Option Held → Option (List ℕ) → Option (List ℕ) → S → Type 0
+  StoreFails (fault.Replay f) start head script input left len log log' out out' end =
       (ledger : Ledger) × IsLedger ledger (beginning head) × ReplayFails A is_kept f start script ledger × (left ≡ Some input) × (log' ≡ log) × (out' ≡ out)
-  StoreFails fault.Aside start head script input left len log log' out out' = (log' ≡ log) × (left ≡ Some input) × (out' ≡ out)
-  StoreFails fault.Cut start head script input left len log log' out out' = LeavesFront len log log' × (left ≡ Some input) × (out' ≡ out)
-  StoreFails (fault.Begin f) start head script input left len log log' out out' = IfSome log (λ h. LeavesAll (head ++ script) log') × (left ≡ Some input) × (out' ≡ out)
-  StoreFails (fault.Serve f) start head script input left len log log' out out' = StopsOn f start head script input left len log log' out out'
+  StoreFails fault.Aside start head script input left len log log' out out' end = (log' ≡ log) × (left ≡ Some input) × (out' ≡ out)
+  StoreFails fault.Cut start head script input left len log log' out out' end = LeavesFront len log log' × (left ≡ Some input) × (out' ≡ out)
+  StoreFails (fault.Begin f) start head script input left len log log' out out' end = IfSome log (λ h. LeavesAll (head ++ script) log') × (left ≡ Some input) × (out' ≡ out)
+  StoreFails (fault.Serve f) start head script input left len log log' out out' end = StopsOn f start head script input left len log log' out out' end

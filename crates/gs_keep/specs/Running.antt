@@ -7,7 +7,7 @@ use Rattle.gs_keep_mark.specs.Ledgers.{IsLedger, is_full}
 use Rattle.gs_keep_mark.specs.Marks.{Totals, text_of, with_batch}
 use Rattle.gs_keep_mark.specs.Started.{IsBatch}
 use Rattle.gs_keep_mark.specs.declared.Ledger.{Ledger}
-use Rattle.gs_keep.specs.Lines.{MayStand, Turn, entries, is_logged, lines_asked, texts_of, turned_away_text}
+use Rattle.gs_keep.specs.Lines.{MayStand, Turn, entries, is_away, is_logged, lines_asked, texts_of, turned_away_text}
 use Rattle.gs_keep.specs.declared.batch.Gathered.{Gathered}
 use Rattle.gs_keep.specs.declared.batch.Gathered.TheVariants as gathered
 
@@ -23,16 +23,32 @@ LeftBy gathered.Unended rest left = IsUnended rest × (left ≡ Some (drop_throu
 LeftBy gathered.Failed rest left = StaysInLine (Some rest) left
 LeftBy gathered.Full rest left = left ≡ Some rest
 
--- For a relation that says what may be answered to a line, and a test that says which lines a machine acts on.
-module _ {S : Type 0} (A : S → List ℕ → List ℕ → S → Type 0) (is_kept : List ℕ → Bool) where
-  -- What is logged may stand there. What isn't changes nothing, and is none of the grammar, or memory is lacking for it, or it is turned away.
+-- For a relation that says what may be answered to a line, and tests that say which lines a machine acts on, and which it turns away.
+module _ {S : Type 0} (A : S → List ℕ → List ℕ → S → Type 0) (is_kept : List ℕ → Bool) (turns_away : S → List ℕ → Bool) where
+  -- What is logged may stand there. What isn't changes nothing, and is none of the grammar, or memory is lacking for it.
   abbrev pub LoggedAs : Bool → S → Turn → S → Type 0
   LoggedAs true old turn new = MayStand is_kept turn.line turn.text
-  LoggedAs false old turn new = (new ≡ old) × ((is_logged is_kept turn.line ≡ false) ⊎ ((turn.text ≡ memory_text) ⊎ (turn.text ≡ turned_away_text)))
+  LoggedAs false old turn new = (new ≡ old) × ((is_logged is_kept turn.line ≡ false) ⊎ (turn.text ≡ memory_text))
 
-  pub record AnswersTurn (old : S) (turn : Turn) (new : S) : Type 0 where
+  -- a line is answered by the machine
+  pub record Ran (old : S) (turn : Turn) (new : S) : Type 0 where
     pub answers : AnswersLine A old turn.line turn.text new
     pub logged : LoggedAs turn.logged old turn new
+
+  -- A line isn't run: nothing changes, nothing of it is logged, and its answer says so, or that memory is lacking.
+  pub record IsUnrun (old : S) (turn : Turn) (new : S) : Type 0 where
+    pub same : new ≡ old
+    pub unlogged : turn.logged ≡ false
+    pub told : (turn.text ≡ turned_away_text) ⊎ (turn.text ≡ memory_text)
+
+  abbrev pub RunsUnless : Bool → S → Turn → S → Type 0
+  RunsUnless true old turn new = IsUnrun old turn new
+  RunsUnless false old turn new = Ran old turn new
+
+  -- Exactly the lines that the machine turns away aren't run.
+  pub record AnswersTurn (old : S) (turn : Turn) (new : S) : Type 0 where
+    pub away : turn.away ≡ is_away turns_away old turn.line
+    pub runs : RunsUnless turn.away old turn new
 
   -- so are some lines, one after another
   abbrev pub AnswersAll : S → List Turn → S → Type 0

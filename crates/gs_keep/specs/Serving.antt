@@ -76,8 +76,8 @@ Ends gathered.Unended result = result ≡ Err fault.Unended
 Ends gathered.Failed result = result ≡ Err fault.Read
 Ends gathered.Full result = result ≡ Err fault.TooMany
 
--- For a relation that says what may be answered to a line, and a test that says which lines a machine acts on.
-module _ {S : Type 0} (A : S → List ℕ → List ℕ → S → Type 0) (is_kept : List ℕ → Bool) where
+-- For a relation that says what may be answered to a line, and tests that say which lines a machine acts on, and which it turns away.
+module _ {S : Type 0} (A : S → List ℕ → List ℕ → S → Type 0) (is_kept : List ℕ → Bool) (turns_away : S → List ℕ → Bool) where
   -- ---- a run, or a part of one
 
   -- The lines of the input before the rest are run. Those that have to be logged are, in batches, each with its mark and for good, and
@@ -86,7 +86,7 @@ module _ {S : Type 0} (A : S → List ℕ → List ℕ → S → Type 0) (is_kep
     pub turns : List Turn
     pub batches : List (List Entry)
     pub parts : lines_of input ≡ lines_asked turns ++ lines_of rest
-    pub answers : AnswersAll A is_kept start turns end
+    pub answers : AnswersAll A is_kept turns_away start turns end
     pub written : Appends out out' (unlines (texts_of turns))
     pub logged : entries turns ≡ joined batches
     pub plain : AreBatches batches
@@ -101,37 +101,36 @@ module _ {S : Type 0} (A : S → List ℕ → List ℕ → S → Type 0) (is_kep
   -- ---- a run that fails
 
   -- some lines more were run, and wait for their answers
-  pub record Waits (now : S) (rest : List ℕ) : Type 0 where
+  pub record Waits (now : S) (rest : List ℕ) (end : S) : Type 0 where
     pub turns : List Turn
     pub back : List ℕ
-    pub end : S
     pub parts : lines_of rest ≡ lines_asked turns ++ lines_of back
-    pub answers : AnswersAll A is_kept now turns end
+    pub answers : AnswersAll A is_kept turns_away now turns end
     pub plain : IsBatch (entries turns)
 
   -- Memory is lacking for an answer, or for the mark: of what was run since nothing is logged or answered. A read fails. The last line
-  -- lacks its end. There are more lines than can be counted. A write fails: of the answers a beginning is written, and what has to be logged of their
+  -- lacks its end. There are more lines than can be counted. In these three nothing more is run. A write fails: of the answers a beginning is written, and what has to be logged of their
   -- lines is, for good. The log fails: none of the answers is written, and a crash leaves any bytes behind what was kept.
-  abbrev pub EndsWith : KeepFault → S → List ℕ → Option (List ℕ) → Option Held → Option Held → Option (List ℕ) → Option (List ℕ) → Ledger → List Turn → Type 0
-  EndsWith fault.Memory now rest left log log' out out' ledger turns = (log' ≡ log) × (out' ≡ out)
-  EndsWith fault.Read now rest left log log' out out' ledger turns = StaysInLine (Some rest) left × (log' ≡ log) × (out' ≡ out)
-  EndsWith fault.Unended now rest left log log' out out' ledger turns = IsUnended rest × (left ≡ Some (drop_through 10 rest)) × (log' ≡ log) × (out' ≡ out)
-  EndsWith fault.TooMany now rest left log log' out out' ledger turns =
-      (left ≡ Some rest) × ((18446744073709551615 ≤ length turns) ⊎ (is_full ledger ≡ true)) × (log' ≡ log) × (out' ≡ out)
-  EndsWith fault.Write now rest left log log' out out' ledger turns =
-      (w : Waits now rest) × ((t : Totals) → IsLedger ledger t → RestsAt log t.text → RestsAt log' (kept_behind t (entries w.turns)).text)
+  abbrev pub EndsWith : KeepFault → S → S → List ℕ → Option (List ℕ) → Option Held → Option Held → Option (List ℕ) → Option (List ℕ) → Ledger → List Turn → Type 0
+  EndsWith fault.Memory now end rest left log log' out out' ledger turns = (log' ≡ log) × (out' ≡ out)
+  EndsWith fault.Read now end rest left log log' out out' ledger turns = StaysInLine (Some rest) left × (log' ≡ log) × (out' ≡ out) × (end ≡ now)
+  EndsWith fault.Unended now end rest left log log' out out' ledger turns = IsUnended rest × (left ≡ Some (drop_through 10 rest)) × (log' ≡ log) × (out' ≡ out) × (end ≡ now)
+  EndsWith fault.TooMany now end rest left log log' out out' ledger turns =
+      (left ≡ Some rest) × ((18446744073709551615 ≤ length turns) ⊎ (is_full ledger ≡ true)) × (log' ≡ log) × (out' ≡ out) × (end ≡ now)
+  EndsWith fault.Write now end rest left log log' out out' ledger turns =
+      (w : Waits now rest end) × ((t : Totals) → IsLedger ledger t → RestsAt log t.text → RestsAt log' (kept_behind t (entries w.turns)).text)
       × AppendsBeginning out out' (unlines (texts_of w.turns))
-  EndsWith fault.Log now rest left log log' out out' ledger turns =
-      (w : Waits now rest)
+  EndsWith fault.Log now end rest left log log' out out' ledger turns =
+      (w : Waits now rest end)
       × ((t : Totals) → IsLedger ledger t → RestsAt log t.text → LeavesAtMost t.text (text_of (entries w.turns) ++ mark_of (with_batch t (entries w.turns))) log')
       × (out' ≡ out)
 
   -- Some lines are served, and then the run ends before the input does.
-  pub record Fails (fault : KeepFault) (start : S) (input : List ℕ) (left : Option (List ℕ)) (log log' : Option Held) (out out' : Option (List ℕ)) (ledger : Ledger) : Type 0 where
+  pub record Fails (fault : KeepFault) (start : S) (input : List ℕ) (left : Option (List ℕ)) (log log' : Option Held) (out out' : Option (List ℕ)) (ledger : Ledger) (end : S) : Type 0 where
     pub now : S
     pub rest : List ℕ
     pub between : Option Held
     pub written : Option (List ℕ)
     pub told : Ledger
     pub done : Serves start input rest log between out written ledger told now
-    pub last : EndsWith fault now rest left between log' written out' told done.turns
+    pub last : EndsWith fault now end rest left between log' written out' told done.turns

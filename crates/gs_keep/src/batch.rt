@@ -78,7 +78,8 @@ fn run_kept<M: Keeping>(
 ) -> Result<(), AllocError>
     requires room { is_full ledger.old ≡ false }
     requires kept { M.is_kept (content line.now) ≡ true }
-    ensures { OnOk result (length (content line.now) ≤ longest_line → ends_with_byte 10 line.now ≡ true → RunsOne M.Answers M.is_kept line.now machine.old machine.new batch.old.bytes.items batch.new.bytes.items
+    requires taken { M.is_turned_away machine.old (content line.now) ≡ false }
+    ensures { OnOk result (length (content line.now) ≤ longest_line → ends_with_byte 10 line.now ≡ true → RunsOne M.Answers M.is_kept M.is_turned_away line.now machine.old machine.new batch.old.bytes.items batch.new.bytes.items
         batch.old.answers.items batch.new.answers.items ledger.old ledger.new) }
 {
     if batch.bytes.extend_from_slice(line).is_err() {
@@ -101,14 +102,15 @@ fn run_other<M: Keeping>(
     answers: &mut Vec<u8>,
 ) -> Result<(), AllocError>
     requires other { M.is_kept (content line.now) ≡ false }
-    ensures { OnOk result (length (content line.now) ≤ longest_line → (bytes : List ℕ) (ledger : Ledger) → RunsOne M.Answers M.is_kept line.now machine.old machine.new bytes bytes
+    requires taken { M.is_turned_away machine.old (content line.now) ≡ false }
+    ensures { OnOk result (length (content line.now) ≤ longest_line → (bytes : List ℕ) (ledger : Ledger) → RunsOne M.Answers M.is_kept M.is_turned_away line.now machine.old machine.new bytes bytes
         answers.old.items answers.new.items ledger ledger) }
 {
     let answer = machine.answer(alloc, content_of(line));
     put_answer(answers, text_of(&answer))
 }
 
-/// Runs a line that isn't too long.
+/// Runs a line that isn't too long, unless it is turned away.
 fn run_text<M: Keeping>(
     alloc: Global,
     machine: &mut M,
@@ -117,7 +119,7 @@ fn run_text<M: Keeping>(
     batch: &mut Batch,
 ) -> Result<(), AllocError>
     requires room { is_full ledger.old ≡ false }
-    ensures { OnOk result (length (content line.now) ≤ longest_line → ends_with_byte 10 line.now ≡ true → RunsOne M.Answers M.is_kept line.now machine.old machine.new batch.old.bytes.items batch.new.bytes.items
+    ensures { OnOk result (length (content line.now) ≤ longest_line → ends_with_byte 10 line.now ≡ true → RunsOne M.Answers M.is_kept M.is_turned_away line.now machine.old machine.new batch.old.bytes.items batch.new.bytes.items
         batch.old.answers.items batch.new.answers.items ledger.old ledger.new) }
 {
     let Ok(is_turned_away) = machine.turns_away(alloc, content_of(line)) else {
@@ -142,7 +144,7 @@ fn run_line<M: Keeping>(
     batch: &mut Batch,
 ) -> Result<(), AllocError>
     requires room { is_full ledger.old ≡ false }
-    ensures { OnOk result ((whole : List ℕ) → IsEndedLine whole line.now → RunsOne M.Answers M.is_kept whole machine.old machine.new
+    ensures { OnOk result ((whole : List ℕ) → IsEndedLine whole line.now → RunsOne M.Answers M.is_kept M.is_turned_away whole machine.old machine.new
         batch.old.bytes.items batch.new.bytes.items batch.old.answers.items batch.new.answers.items ledger.old ledger.new) }
 {
     match line {
@@ -185,7 +187,7 @@ impl Batch {
     ) -> Result<Gathered, AllocError>
         requires bytes { self.old.bytes.items ≡ [] }
         requires answers { self.old.answers.items ≡ [] }
-        ensures gathers { IfOk result (λ gathered. IfSome (remaining R.remaining reader.old) (λ xs. Gathers M.Answers M.is_kept gathered xs (remaining R.remaining reader.new)
+        ensures gathers { IfOk result (λ gathered. IfSome (remaining R.remaining reader.old) (λ xs. Gathers M.Answers M.is_kept M.is_turned_away gathered xs (remaining R.remaining reader.new)
             machine.old machine.new self.new.bytes.items self.new.answers.items ledger.old ledger.new)) }
         ensures unread { IfOk result (λ gathered. gathered ≡ Gathered.Failed → HasNoMore reader.new) }
     {

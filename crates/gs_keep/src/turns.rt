@@ -103,10 +103,10 @@ fn round<M: Keeping, L: Log, R: BufRead, W: Write>(
 ) -> Result<bool, KeepFault>
     requires { L.has_failed log.old ≡ false }
     ensures ok { IfOk result (λ more. IfSome (remaining R.remaining reader.old) (λ xs.
-        Rounds M.Answers M.is_kept machine.old more xs (remaining R.remaining reader.new) (L.holds log.old) (L.holds log.new) (sent W.contents writer.old) (sent W.contents writer.new)
+        Rounds M.Answers M.is_kept M.is_turned_away machine.old more xs (remaining R.remaining reader.new) (L.holds log.old) (L.holds log.new) (sent W.contents writer.old) (sent W.contents writer.new)
         ledger.old ledger.new machine.new)) }
     ensures err { IfErr result (λ e. IfSome (remaining R.remaining reader.old) (λ xs.
-        Fails M.Answers M.is_kept e machine.old xs (remaining R.remaining reader.new) (L.holds log.old) (L.holds log.new) (sent W.contents writer.old) (sent W.contents writer.new) ledger.old)) }
+        Fails M.Answers M.is_kept M.is_turned_away e machine.old xs (remaining R.remaining reader.new) (L.holds log.old) (L.holds log.new) (sent W.contents writer.old) (sent W.contents writer.new) ledger.old machine.new)) }
     ensures failed { L.has_failed log.new ≡ blames_log result }
     ensures unread { IfErr result (λ e. e ≡ KeepFault.Read → HasNoMore reader.new) }
     ensures unsent { IfErr result (λ e. e ≡ KeepFault.Write → HasStopped writer.new) }
@@ -147,9 +147,9 @@ pub fn serve<M: Keeping, L: Log, R: BufRead, W: Write>(
 ) -> Result<(), KeepFault>
     requires { L.has_failed log.old ≡ false }
     ensures ok { OnOk result (IfSome (remaining R.remaining reader.old) (λ input.
-        Serves M.Answers M.is_kept machine.old input [] (L.holds log.old) (L.holds log.new) (sent W.contents writer.old) (sent W.contents writer.new) ledger.old ledger.new machine.new)) }
+        Serves M.Answers M.is_kept M.is_turned_away machine.old input [] (L.holds log.old) (L.holds log.new) (sent W.contents writer.old) (sent W.contents writer.new) ledger.old ledger.new machine.new)) }
     ensures err { IfErr result (λ e. IfSome (remaining R.remaining reader.old) (λ input.
-        Fails M.Answers M.is_kept e machine.old input (remaining R.remaining reader.new) (L.holds log.old) (L.holds log.new) (sent W.contents writer.old) (sent W.contents writer.new) ledger.old)) }
+        Fails M.Answers M.is_kept M.is_turned_away e machine.old input (remaining R.remaining reader.new) (L.holds log.old) (L.holds log.new) (sent W.contents writer.old) (sent W.contents writer.new) ledger.old machine.new)) }
     ensures failed { L.has_failed log.new ≡ blames_log result }
     ensures unread { IfErr result (λ e. e ≡ KeepFault.Read → HasNoMore reader.new) }
     ensures unsent { IfErr result (λ e. e ≡ KeepFault.Write → HasStopped writer.new) }

@@ -58,9 +58,9 @@ pub fn keep_on<M: Keeping, L: Log, B: BufRead, A: Rest, R: BufRead, W: Write, P:
     requires logged { ReadsLog head.now len (L.holds log.old) (remaining B.remaining logged.old) }
     requires rest { LeavesRest len (L.holds log.old) (A.bytes rest.old) }
     ensures ok { OnOk result (IfSome (remaining B.remaining logged.old) (λ script. IfSome (remaining R.remaining reader.old) (λ input.
-        KeepsOn M.Answers M.is_kept machine.old head.now script input len (L.holds log.old) (L.holds log.new) (sent W.contents writer.old) (sent W.contents writer.new) machine.new))) }
+        KeepsOn M.Answers M.is_kept M.is_turned_away machine.old head.now script input len (L.holds log.old) (L.holds log.new) (sent W.contents writer.old) (sent W.contents writer.new) machine.new))) }
     ensures err { IfErr result (λ e. IfSome (remaining B.remaining logged.old) (λ script. IfSome (remaining R.remaining reader.old) (λ input.
-        StoreFails M.Answers M.is_kept e machine.old head.now script input (remaining R.remaining reader.new) len (L.holds log.old) (L.holds log.new) (sent W.contents writer.old) (sent W.contents writer.new)))) }
+        StoreFails M.Answers M.is_kept M.is_turned_away e machine.old head.now script input (remaining R.remaining reader.new) len (L.holds log.old) (L.holds log.new) (sent W.contents writer.old) (sent W.contents writer.new) machine.new))) }
     ensures aside { AsideAs result (A.is_alone rest.new) }
     ensures same { A.bytes rest.new ≡ A.bytes rest.old }
     ensures failed { L.has_failed log.new ≡ blames_log result }

@@ -1,5 +1,5 @@
 -- Memory may be lacking for the answer to any line.
-use Rattle.std.proofs.Common.{◌≡◌, ℕ, List, Option, Some, None, MatchOption, Result, Ok, Err, IfOk, OnErr, inl, inr, refl}
+use Rattle.std.proofs.Common.{◌≡◌, ℕ, List, false, Option, Some, None, MatchOption, Result, Ok, Err, IfOk, OnErr, inl, inr, refl}
 use Rattle.gs_shell_grammar.specs.Grammar.{Request, line_request}
 use Rattle.gs_shell_script.specs.Run.{memory_text}
 use Rattle.gs_shell_desk.specs.Answering.{AnswersText}
@@ -24,4 +24,14 @@ module _ {D A E : Type 0} (bytes : A → List ℕ) (seen : D → List ℕ) (fail
 
   pub kept_lacks : (old new : KeptDesk D) (r : Result A E) → new.is_lab ≡ old.is_lab → IfOk r (λ t. AnswersText seen failures old.desk line (bytes t) new.desk)
       → OnErr r (AnswersText seen failures old.desk line memory_text new.desk) → MayAnswer seen failures old line memory_text new
-  kept_lacks old new r lab ok err = inl (lab, lacks old.desk new.desk r ok err)
+  kept_lacks old new r lab ok err = record { lab = lab; answers = lacks old.desk new.desk r ok err; enough = inl refl }
+
+  -- where no node lacks memory
+  pub kept_answers : (old new : KeptDesk D) (r : Result A E) → new.is_lab ≡ old.is_lab → new.desk.wire.is_short ≡ false → IfOk r (λ t. AnswersText seen failures old.desk line (bytes t) new.desk)
+      → IfOk r (λ t. MayAnswer seen failures old line (bytes t) new)
+  kept_answers old new (Ok t) lab enough ok = record { lab = lab; answers = ok; enough = inr enough }
+  kept_answers old new (Err e) lab enough ok = tt
+
+  pub kept_fails : (old new : KeptDesk D) (r : Result A E) → new.is_lab ≡ old.is_lab → OnErr r (AnswersText seen failures old.desk line memory_text new.desk) → OnErr r (MayAnswer seen failures old line memory_text new)
+  kept_fails old new (Ok t) lab err = tt
+  kept_fails old new (Err e) lab err = record { lab = lab; answers = err; enough = inl refl }

@@ -1,14 +1,12 @@
--- A line that isn't of the grammar changes nothing, and is refused. One that harms the store may be turned away.
+-- What a desk may answer. A line that isn't of the grammar changes nothing, and is refused.
 use Rattle.std.specs.Prelude.{◌≡◌, ◌⊎◌, ◌∷◌, ◌==◌, ℕ, List, [], Bool, Option, None, Some, true, false, is_some, MatchOption, refl}
 use Rattle.std.specs.List.{onto_first, slice_split}
 use Rattle.std.specs.Str.{is_utf8}
-use Rattle.std.proofs.Common.{ap, cond, inl, inr, sym, true≢false, ◌∙◌}
+use Rattle.std.proofs.Common.{ap, cond, inl, inr, true≢false, ◌∙◌}
 use Rattle.gs_shell_grammar.specs.Grammar.{Request, ◌>>=◌, form_request, four_words, line_request, number_line, number_request, one_word, three_words, two_words, words_request}
 use Rattle.gs_shell_grammar.specs.Operands.{number_of}
 use Rattle.gs_shell_script.specs.Run.{bad_line_text, memory_text}
 use Rattle.gs_shell_desk.specs.Answering.{AnswersText}
-use Rattle.gs_keep.specs.Lines.{turned_away_text}
-use Rattle.gs_keep_desk.specs.Looks.{asks, harms, harms_line}
 use Rattle.gs_keep_desk.specs.declared.KeptDesk.{KeptDesk}
 
 -- where nothing is asked
@@ -16,18 +14,12 @@ none_asked : {A : Type 0} (asked : Option Request) (P : Type 0) (Q : Request →
 none_asked None P Q old new other h = h.1
 none_asked (Some request) P Q old new other h = absurd (true≢false other)
 
--- A desk answers as ever, or turns away a line that harms the store; then nothing changes.
-abbrev pub MayAnswer : {D : Type 0} → (D → List ℕ) → (D → ℕ) → KeptDesk D → List ℕ → List ℕ → KeptDesk D → Type 0
-MayAnswer seen failures old line text new =
-    ((new.is_lab ≡ old.is_lab) × AnswersText seen failures old.desk line text new.desk) ⊎ ((harms_line line ≡ true) × (text ≡ turned_away_text) × (new ≡ old))
-
-pub harming_lines_are_turned_away : {D : Type 0} (seen : D → List ℕ) (failures : D → ℕ) (old : KeptDesk D) (line : List ℕ) → harms_line line ≡ true → MayAnswer seen failures old line turned_away_text old
-harming_lines_are_turned_away seen failures old line harming = inr (harming, refl, refl)
-
--- where nothing is asked no line harms
-harmless : (asked : Option Request) → is_some asked ≡ false → asks harms asked ≡ true → ⊥
-harmless None other harming = true≢false (sym harming)
-harmless (Some request) other harming = true≢false other
+-- A desk answers as ever: it is never by an answer that a line is turned away. Where a node lacked memory, now or before, each answer says so.
+module _ {D : Type 0} (seen : D → List ℕ) (failures : D → ℕ) where
+  pub record MayAnswer (old : KeptDesk D) (line text : List ℕ) (new : KeptDesk D) : Type 0 where
+    pub lab : new.is_lab ≡ old.is_lab
+    pub answers : AnswersText seen failures old.desk line text new.desk
+    pub enough : (text ≡ memory_text) ⊎ (new.desk.wire.is_short ≡ false)
 
 same_desk : {D : Type 0} (old new : KeptDesk D) → new.is_lab ≡ old.is_lab → new.desk ≡ old.desk → new ≡ old
 same_desk old new lab desk = ap (λ d. record { desk = d; is_lab = new.is_lab }) desk ∙ ap (λ b. record { desk = old.desk; is_lab = b }) lab
@@ -35,9 +27,11 @@ same_desk old new lab desk = ap (λ d. record { desk = d; is_lab = new.is_lab })
 pub other_lines_change_nothing : {D : Type 0} (seen : D → List ℕ) (failures : D → ℕ) (old new : KeptDesk D) (line text : List ℕ) → is_some (line_request line) ≡ false
     → MayAnswer seen failures old line text new → new ≡ old
 unfolding AnswersText
-other_lines_change_nothing seen failures old new line text other (inl (lab, inl h)) = same_desk old new lab h.1
-other_lines_change_nothing seen failures old new line text other (inl (lab, inr h)) = same_desk old new lab (none_asked (line_request line) _ _ old.desk new.desk other h)
-other_lines_change_nothing seen failures old new line text other (inr (harming, told, same)) = same
+other_lines_change_nothing seen failures old new line text other may = at may.answers
+  where
+    at : AnswersText seen failures old.desk line text new.desk → new ≡ old
+    at (inl h) = same_desk old new may.lab h.1
+    at (inr h) = same_desk old new may.lab (none_asked (line_request line) _ _ old.desk new.desk other h)
 
 -- the answer where nothing is asked
 none_answered : (asked : Option Request) (P R : Type 0) (Q : Request → Type 0) → is_some asked ≡ false → MatchOption asked (P × R) Q → P
@@ -47,9 +41,11 @@ none_answered (Some request) P R Q other h = absurd (true≢false other)
 pub other_lines_are_refused : {D : Type 0} (seen : D → List ℕ) (failures : D → ℕ) (old new : KeptDesk D) (line text : List ℕ) → is_some (line_request line) ≡ false
     → MayAnswer seen failures old line text new → (text ≡ bad_line_text) ⊎ (text ≡ memory_text)
 unfolding AnswersText
-other_lines_are_refused seen failures old new line text other (inl (lab, inl h)) = inr h.0
-other_lines_are_refused seen failures old new line text other (inl (lab, inr h)) = none_answered (line_request line) _ _ _ other h
-other_lines_are_refused seen failures old new line text other (inr (harming, told, same)) = absurd (harmless (line_request line) other harming)
+other_lines_are_refused seen failures old new line text other may = at may.answers
+  where
+    at : AnswersText seen failures old.desk line text new.desk → (text ≡ bad_line_text) ⊎ (text ≡ memory_text)
+    at (inl h) = inr h.0
+    at (inr h) = none_answered (line_request line) _ _ _ other h
 
 -- ---- what begins as a mark is none of the grammar
 

@@ -65,14 +65,12 @@ impl<D: Disk + Drop> Answering for KeptDesk<D> {
 impl<D: Disk + Drop> Keeping for KeptDesk<D> {
     ghost use Rattle.std.specs.Prelude.{is_some};
     ghost use Rattle.gs_shell_grammar.specs.Grammar.{line_request};
-    ghost use Rattle.gs_keep_desk.specs.Keeps.{harming_lines_are_turned_away, marks_are_none, other_lines_are_refused, other_lines_change_nothing};
+    ghost use Rattle.gs_keep_desk.specs.Keeps.{marks_are_none, other_lines_are_refused, other_lines_change_nothing};
     ghost use Rattle.gs_keep_desk.specs.Looks.{harms_line};
 
     ghost is_kept = { λ line. is_some (line_request line) };
 
-    ghost may_turn_away = { harms_line };
-
-    ghost turned_away = { λ old line harming. harming_lines_are_turned_away D.seen D.failures old line harming };
+    ghost is_turned_away = { λ desk line. not desk.is_lab && harms_line line };
 
     ghost changes_nothing = { λ old new line text. other_lines_change_nothing D.seen D.failures old new line text };
 

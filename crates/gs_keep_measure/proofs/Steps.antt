@@ -14,7 +14,7 @@ use Rattle.gs_keep_measure.specs.declared.Measure.{Measure}
 use Rattle.gs_keep_measure.specs.declared.MeasureFault.{MeasureFault}
 use Rattle.gs_keep_measure.specs.declared.MeasureFault.TheVariants as fault
 use Rattle.gs_keep_measure.specs.Measure.{AreTooMany, HasLateMark, IsWhole, LastIsMark, Measures, NoneMark, Refuses, StopsFirst, bytes_in}
-use Rattle.gs_keep_measure.specs.Steps.{CantTake, Grows, Loses, MarksAs, Passes, RefusesNext, Takes, TakesOne}
+use Rattle.gs_keep_measure.specs.Steps.{CantTake, Loses, MarksAs, Passes, RefusesNext, Takes, TakesOne}
 
 all_join : {X : Type 0} (P : X → Type 0) (xs ys : List X) → AllByRecursion P xs → AllByRecursion P ys → AllByRecursion P (xs ++ ys)
 all_join P [] ys one two = two

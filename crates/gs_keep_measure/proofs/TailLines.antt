@@ -69,6 +69,9 @@ drop_one (x ∷ xs) some = at (eqb x 10) (drop_less xs)
 pub fewer_left : (all rest line more : List ℕ) (count : ℕ) → more ≡ drop_through 10 rest → 0 < length rest → count + length rest ≤ length all → (count + 1) + length more ≤ length all
 fewer_left all rest line more count is some bound = omega (arith, ap length is, drop_one rest some, bound)
 
+pub fewer : (rest more : List ℕ) → more ≡ drop_through 10 rest → 0 < length rest → length more < length rest
+fewer rest more is some = omega (arith, ap length is, drop_one rest some)
+
 pub all_none : (rest : List ℕ) → length rest ≡ 0 → true ≡ list_all is_returned (lines_of rest)
 all_none rest none = sym (ap (λ (l : List ℕ). list_all is_returned (lines_of l)) (none_left rest none))
 

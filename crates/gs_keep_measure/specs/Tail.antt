@@ -1,5 +1,5 @@
 -- What a crash doesn't leave after the last mark of a log.
-use Rattle.std.specs.Prelude.{◌≡◌, ◌==◌, ◌+◌, ◌-◌, ◌++◌, ◌∷◌, ◌&&◌, ℕ, zero, suc, Bool, true, false, not, List, [], length, drop, nat_lt, nat_le, slice_index, codes, Option, Some, None, if◌then◌else◌, refl}
+use Rattle.std.specs.Prelude.{◌≡◌, ◌==◌, ◌+◌, ◌-◌, ◌++◌, ◌∷◌, ◌&&◌, ℕ, suc, Bool, true, false, not, List, [], length, drop, nat_lt, nat_le, slice_index, codes, Option, Some, None, if◌then◌else◌, refl}
 use Rattle.std.specs.List.{list_all, list_any}
 use Rattle.gs_shell_line.specs.Line.{content}
 use Rattle.gs_shell_script.specs.Run.{lines_of}

@@ -74,10 +74,7 @@ fn all_returned(bytes: &[u8]) -> bool
     ensures { result ≡ list_all is_returned (lines_of bytes.now) }
 {
     let mut rest = bytes;
-    for count in 0..bytes.len() {
-        if rest.is_empty() {
-            return true;
-        }
+    while !rest.is_empty() {
         let next = next_line(rest);
         if !is_returned(next.line) {
             return false;
@@ -92,10 +89,7 @@ fn has_mark(bytes: &[u8]) -> bool
     ensures { result ≡ list_any begins_mark (lines_of bytes.now) }
 {
     let mut rest = bytes;
-    for count in 0..bytes.len() {
-        if rest.is_empty() {
-            return false;
-        }
+    while !rest.is_empty() {
         let next = next_line(rest);
         if begins_mark(next.line) {
             return true;

@@ -1,5 +1,4 @@
 use Rattle.std.proofs.Common.{arith, refl, inr}
-use Rattle.gs_keep_measure.specs.Measure.{Refuses}
 use Rattle.gs_keep_measure.proofs.Steps.{all_measured, if_err, if_some, none_yet, not_measured, one_more, too_many_lines}
 use Rattle.gs_keep_measure.proofs.measure_all.Goals as goal
 

@@ -1,8 +1,11 @@
-use Rattle.std.proofs.Common.{◌≡◌, ◌+◌, ◌≤◌, length}
+use Rattle.std.proofs.Common.{◌≡◌, length}
 use Rattle.std.specs.List.{list_any}
 use Rattle.gs_shell_script.specs.Run.{lines_of}
 use Rattle.gs_keep_measure.specs.Tail.{begins_mark}
 use Rattle.gs_keep_measure.proofs.tail.has_mark.Given as goal
 
-abbrev pub invariant-loop-count : goal.invariant-loop-count
-invariant-loop-count l = (list_any begins_mark (lines_of l.bytes) ≡ list_any begins_mark (lines_of l.rest)) × (l.count + length l.rest ≤ length l.bytes)
+abbrev pub invariant-loop-rest : goal.invariant-loop-rest
+invariant-loop-rest l = list_any begins_mark (lines_of l.bytes) ≡ list_any begins_mark (lines_of l.rest)
+
+abbrev pub decreases-loop-rest : goal.decreases-loop-rest
+decreases-loop-rest l = length l.rest
