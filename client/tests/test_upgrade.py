@@ -51,7 +51,7 @@ class Upgrades(StoreCase):
         told = self.fs("export", status=1)
         self.assertTrue(told.startswith("chunkfs: export: The master is rolling back. (12 RollingBack) `upgrade rollback` goes on"), told)
         told = self.fs("upgrade", "status", status=1)
-        self.assertIn("phase rolling, epoch 2\nchunk 1, on 2 of 3 servers as it was at the prepare: /f\nchunk 2, on 0 of 3", told)
+        self.assertIn("phase rolling, epoch 2: until the rollback is done the store answers nothing else\nchunk 1, on 2 of 3 servers as it was at the prepare: /f\nchunk 2, on 0 of 3", told)
         self.assertNotIn("keeps what stands now", told)
         self.cut_copy(told)
         self.assertEqual(self.fs("cat", "/g"), "bc")
