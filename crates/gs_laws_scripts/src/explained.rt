@@ -46,7 +46,7 @@ pub fn scripts_of_the_tree_are_explained<D>()
 {}
 
 /// While nothing is asked that changes something the machine explains what a desk answers, and it stands for the machine after each line: to `ls`, `rollingUpgrade query`, `at`, `hold`, `beat`, `lose`, `damage`, `deliver`, `restart` of a server, and to lines that are none.
-/// The store may have any files with any bytes, led chunks, held messages, lost and damaged replicas, and disks that fail. A list and a query may be refused by the store, and are else what the machine tells. Of other refusals nothing is said here, and of a query that tells a prepare that is begun.
+/// The store may have any files with any bytes, led chunks, held messages, lost and damaged replicas, and disks that fail. A list and a query are what the machine tells, refusals too; or the store refuses them, or nobody is sure (29). Of one that is answered 37, since what came back is for somebody else, nothing is said here; nor of a query that tells a prepare that is begun.
 fn still_lines_are_explained<D>()
     ensures { StillLinesAreExplained D }
 {}
@@ -59,7 +59,7 @@ fn a_desk_stands_after_a_commit<D>()
     configurations_have_sizes();
 }
 
-/// Right after a prepare or a rollback that is answered by an epoch, one machine explains what a script is answered: as long as its lines are `ls`, `rollingUpgrade query`, `at`, `hold`, `beat`, `lose`, `damage`, `deliver` and `restart` of a server, or bad, the store alone refuses a list or a query, and no query tells a prepare that is begun.
+/// Right after a prepare or a rollback that is answered by an epoch, one machine explains what a script is answered: as long as its lines are `ls`, `rollingUpgrade query`, `at`, `hold`, `beat`, `lose`, `damage`, `deliver` and `restart` of a server, or bad, no list or query is answered 37, and no query tells a prepare that is begun. Lists and queries may be refused.
 /// The machine is in that epoch, with an upgrade after a prepare and without one after a rollback. So all queries of these lines tell that, and all lists are of the same names. Whatever lines come before, with held messages, lost and damaged replicas, and disks that fail: of what they left nothing is known but the names.
 pub fn lines_after_a_commit_are_explained<D>()
     ensures ended { ScriptsAfterACommit D }

@@ -1,6 +1,6 @@
 -- What holds between two lines while nothing is asked that changes something, of the names and the phase alone; and lines that only look at these, or are about nodes.
-use Rattle.std.proofs.Common.{ap, arith, inl, inr}
-use Rattle.std.specs.Prelude.{[], ◌∷◌, ◌≡◌, ◌≢◌, ◌⊎◌, Bool, Err, List, None, Ok, Option, Some, codes, false, get_or, refl, true, ℕ}
+use Rattle.std.proofs.Common.{ap, arith, inl, inr, sym, ◌∙◌}
+use Rattle.std.specs.Prelude.{[], ◌∷◌, ◌≡◌, ◌≢◌, ◌⊎◌, Bool, Err, List, None, Ok, Option, Some, codes, false, get_or, length, refl, true, ℕ}
 use Rattle.std.specs.Char.{encode_utf8}
 use Rattle.std.specs.FinMap as fin
 use Rattle.std.specs.Fmt.{digits}
@@ -31,6 +31,7 @@ use Rattle.gs_world.specs.Histories.{History}
 use Rattle.gs_world.specs.Sent.{Sent}
 use Rattle.gs_laws_chunks.specs.answers.Asked.{AreAsked}
 use Rattle.gs_laws_chunks.specs.answers.Resting.{IsStill}
+use Rattle.gs_laws_chunks.specs.answers.Served.{AreServed}
 use Rattle.gs_laws_chunks.specs.desks.Reached.{Covers, history}
 use Rattle.gs_laws_chunks.specs.desks.Within.{IsReachedWithin}
 use Rattle.gs_laws_world.specs.steady.Saying.{KeepsTypes}
@@ -48,12 +49,14 @@ the_client = record { 0 = 1 }
 
 -- ---- what stands
 
--- The names are these, and stand while nothing is asked but look-ups: no call waits, and all that was called before has a number that the client has had. And of each reply there its client has asked, all keeps to its types, and the master lasts.
+-- The names are these, and stand while nothing is asked but look-ups: no call waits, and all that was called before has a number that the client has had. And of each reply there its client has asked, and of all that servers do for it; all keeps to its types, the master lasts, and there is one client.
 pub record IsUndisturbed {D : Type 0} (seen : D → List ℕ) (d : Durable) (number : ℕ) (h : History D) : Type 0 where
   pub still : IsStill d the_client number h
   pub asked : AreAsked seen h
   pub types : KeepsTypes h
   pub lasts : LastsThrough seen h.nodes.master
+  pub served : AreServed h
+  pub one : length h.nodes.clients ≡ 1
 
 -- The machine's tree has the names that are told, with some text in the place of each chunk: the same wherever the chunk stands. Its epoch and its phase are those that are told, and no prepare is begun.
 pub record ShowsNames (d : Durable) (m : Machine) : Type 0 where
@@ -100,17 +103,17 @@ is_still_line (Some (lines.Damage server handle block)) = true
 is_still_line (Some (lines.Deliver number)) = true
 is_still_line asked = false
 
--- an answer that isn't a refusal, or is one by the store
-abbrev pub IsRefusedByStoreAlone : List ℕ → Type 0
-IsRefusedByStoreAlone text = IsAccepted text ⊎ ((refusal : Refusal) × (text ≡ answer_text (Err refusal)) × IsOfStore refusal)
+-- it doesn't tell that what came back is for somebody else (37)
+abbrev pub TellsNoStray : List ℕ → Type 0
+TellsNoStray text = text ≢ answer_text (Err refusals.Stray)
 
 -- it doesn't tell that a prepare is begun
 abbrev pub TellsNoPrepare : List ℕ → Type 0
 TellsNoPrepare text = (epoch : ℕ) → text ≢ answer_text (Ok (answers.Phase phases.Preparing epoch))
 
--- Such a line with its answer: one that looks is refused by the store alone, and none is told that a prepare is begun.
+-- Such a line with its answer: one that looks isn't answered by a stray, and none is told that a prepare is begun.
 abbrev pub IsStillLine : List ℕ → List ℕ → Type 0
-IsStillLine whole text = (is_still_line (asked_in whole) ≡ true) × (is_name_look (asked_in whole) ≡ true → IsRefusedByStoreAlone text) × (is_query (asked_in whole) ≡ true → TellsNoPrepare text)
+IsStillLine whole text = (is_still_line (asked_in whole) ≡ true) × (is_name_look (asked_in whole) ≡ true → TellsNoStray text) × (is_query (asked_in whole) ≡ true → TellsNoPrepare text)
 
 -- all lines, with their answers
 abbrev pub AreStillLines : List (List ℕ) → List (List ℕ) → Type 0
@@ -141,10 +144,10 @@ a_change_is_none = refl
 
 -- lines that are such, with their answers
 abbrev some_lines : List (List ℕ)
-some_lines = codes "ls /" ∷ codes "rollingUpgrade query" ∷ codes "lose 1 2" ∷ codes "at 7" ∷ codes "beat 1" ∷ codes "ls /" ∷ codes "frob" ∷ []
+some_lines = codes "ls /" ∷ codes "rollingUpgrade query" ∷ codes "lose 1 2" ∷ codes "at 7" ∷ codes "beat 1" ∷ codes "ls /x" ∷ codes "frob" ∷ []
 
 abbrev some_texts : List (List ℕ)
-some_texts = codes "ok notes photos/" ∷ codes "ok upgrade 1" ∷ codes "ok" ∷ codes "ok" ∷ codes "ok 0" ∷ codes "refused 33 Memory" ∷ codes "refused 34 BadLine" ∷ []
+some_texts = codes "ok notes photos/" ∷ codes "ok upgrade 1" ∷ codes "ok" ∷ codes "ok" ∷ codes "ok 0" ∷ codes "refused 3 NotFound" ∷ codes "refused 34 BadLine" ∷ []
 
 an_upgrade_is_no_prepare : TellsNoPrepare (codes "ok upgrade 1")
 an_upgrade_is_no_prepare epoch is = never (ap (λ (t : List ℕ). get_or t 3 0) is)
@@ -152,9 +155,22 @@ an_upgrade_is_no_prepare epoch is = never (ap (λ (t : List ℕ). get_or t 3 0) 
     never : ◌≡◌ {A = ℕ} 117 112 → ⊥
     never e = omega arith
 
+pub what_is_accepted_is_no_stray : (text : List ℕ) → get_or text 0 0 ≡ 111 → TellsNoStray text
+what_is_accepted_is_no_stray text first is = never (sym first ∙ ap (λ (t : List ℕ). get_or t 0 0) is)
+  where
+    never : ◌≡◌ {A = ℕ} 111 114 → ⊥
+    never e = omega arith
+
+nothing_there_is_no_stray : TellsNoStray (codes "refused 3 NotFound")
+unfolding digits
+nothing_there_is_no_stray is = never (ap (λ (t : List ℕ). get_or t 9 0) is)
+  where
+    never : ◌≡◌ {A = ℕ} 32 55 → ⊥
+    never e = omega arith
+
 they_are_such : AreStillLines some_lines some_texts
 unfolding one_word two_words three_words upgrade_line number_line lose_line is_utf8 chars encode_utf8 digits
 they_are_such = (
-  (refl, (λ look. inl refl), (λ query. absurd (cc))),
-  ((refl, (λ look. inl refl), (λ query. an_upgrade_is_no_prepare)), ((refl, (λ look. inl refl), (λ query. absurd (cc))), ((refl, (λ look. inl refl), (λ query. absurd (cc))), ((refl, (λ look. inl refl), (λ query. absurd (cc))), ((refl, (λ look. inr (refusals.Memory, refl, refl)), (λ query. absurd (cc))), ((refl, (λ look. absurd (cc)), (λ query. absurd (cc))), tt)))))),
+  (refl, (λ look. what_is_accepted_is_no_stray (codes "ok notes photos/") refl), (λ query. absurd (cc))),
+  ((refl, (λ look. what_is_accepted_is_no_stray (codes "ok upgrade 1") refl), (λ query. an_upgrade_is_no_prepare)), ((refl, (λ look. absurd (cc)), (λ query. absurd (cc))), ((refl, (λ look. absurd (cc)), (λ query. absurd (cc))), ((refl, (λ look. absurd (cc)), (λ query. absurd (cc))), ((refl, (λ look. nothing_there_is_no_stray), (λ query. absurd (cc))), ((refl, (λ look. absurd (cc)), (λ query. absurd (cc))), tt)))))),
 )

@@ -15,7 +15,8 @@ use Rattle.gs_master_record.specs.declared.checkpoint.Phase.TheVariants.{Ordinar
 use Rattle.gs_master_spec.specs.Applied.{view_in}
 use Rattle.gs_master_spec.specs.Calls.{chunk_status, found_chunk, is_any_deep, is_locked, listing, location, location_on, looked_up, refused_before, status, told_phase}
 use Rattle.gs_master_spec.specs.Durable.{is_rolling as is_rolled}
-use Rattle.gs_master_spec.specs.Handling.{called_unless}
+use Rattle.gs_edit.specs.Mapped.{mapped_rows}
+use Rattle.gs_master_spec.specs.Handling.{called_unless, new_call}
 use Rattle.gs_master_spec.specs.State.{State, first_of, is_failed, reply_to}
 use Rattle.gs_msg.specs.declared.answer.Answer.{Answer as Said}
 use Rattle.gs_msg.specs.declared.answer.Answer.TheVariants as says
@@ -107,6 +108,40 @@ calm_shown false Ordinary is = refl
 calm_shown false Upgrade is = refl
 calm_shown false Rolling is = is
 
+-- ---- lists and queries
+
+said_now : (m : Machine) (call : Call) (plain result : Result Said Refusal) → called call m ≡ (plain, m) → result ≡ plain → AsksNow call m result m
+said_now m call plain result comes is = inl (subst (λ (x : Result Said Refusal × Machine). IsSaid x.0 result) (sym comes) (subst (λ r. IsSaid r result) is (itself result)), sym (ap (λ (x : Result Said Refusal × Machine). x.1) comes))
+
+refused_now : (m : Machine) (call : Call) (refusal : Refusal) (result : Result Said Refusal) → IsOfStore refusal → result ≡ Err refusal → AsksNow call m result m
+refused_now m call refusal result store is = inr (refusal, is, inl (store, refl))
+
+-- A list wants of the machine its names, and that it rolls back only where the master does.
+module _ (config : Config) (s : State) (req : ReqId) (moment : Moment) (m : Machine) (text : ℕ → Text) (tree : m.plain.tree ≡ mapped_rows text (fin.entries s.durable.names.tree)) (calms : is_rolled s.durable.phase ≡ false → is_rolling m.phase ≡ false) where
+  list_by : (p : Path) (result : Result Said Refusal) → is_any_deep (calls.List p) ≡ false → (o : Option Refusal) → IsGated (is_rolled s.durable.phase) o → OneSays req result (called_unless config s req moment (calls.List p) o).sent → AsksNow (calls.List p) m result m
+  list_by p result not_deep None calm said =
+      said_now m (calls.List p) (listing (fin.entries s.durable.names.tree) p (fin.get s.durable.names.tree p)) result (list_called text s.durable.names m p tree (calms calm) not_deep)
+      (looked_said s req (listing (fin.entries s.durable.names.tree) p (fin.get s.durable.names.tree p)) result said)
+  list_by p result not_deep (Some refusal) store said = refused_now m (calls.List p) refusal result store (one_said req (Err refusal) result said)
+
+  pub list_shown : (p : Path) (result : Result Said Refusal) → is_any_deep (calls.List p) ≡ false → OneSays req result (new_call config s req moment (calls.List p)).sent → AsksNow (calls.List p) m result m
+  list_shown p result not_deep said = list_by p result not_deep (refused_before s req (calls.List p)) (gates_deep (is_failed s.fault) (is_rolled s.durable.phase) s.volatile.is_preparing (is_any_deep (calls.List p)) (is_locked s req (calls.List p)) not_deep) said
+
+-- a query is refused by the store alone
+module _ (config : Config) (s : State) (req : ReqId) (moment : Moment) (refusal : Refusal) where
+  query_off_by : (o : Option Refusal) → IsStoreOr o → OneSays req (Err refusal) (called_unless config s req moment calls.Query o).sent → IsOfStore refusal
+  query_off_by None free said = absurd (never (one_said req (Ok (says.Phase (told_phase s.volatile.is_preparing s.durable.phase) s.durable.epoch)) (Err refusal) said))
+    where
+      never : {a : Said} → ◌≡◌ {A = Result Said Refusal} (Err refusal) (Ok a) → ⊥
+      never is = cc
+  query_off_by (Some other) store said = subst IsOfStore (sym (refusal_is (one_said req (Err other) (Err refusal) said))) store
+    where
+      refusal_is : {a b : Refusal} → ◌≡◌ {A = Result Said Refusal} (Err a) (Err b) → a ≡ b
+      refusal_is is = cc
+
+  pub query_refused : OneSays req (Err refusal) (new_call config s req moment calls.Query).sent → IsOfStore refusal
+  query_refused said = query_off_by (refused_before s req calls.Query) (query_gates (is_failed s.fault) (is_rolled s.durable.phase) s.volatile.is_preparing (is_locked s req calls.Query)) said
+
 module _ (config : Config) (s : State) (req : ReqId) (moment : Moment) (m : Machine) (shows : ShowsState s m) where
   calm_so : is_rolled s.durable.phase ≡ false → is_rolling m.phase ≡ false
   calm_so is = ap is_rolling shows.phase ∙ calm_shown s.volatile.is_preparing s.durable.phase is
@@ -116,27 +151,15 @@ module _ (config : Config) (s : State) (req : ReqId) (moment : Moment) (m : Mach
 
   -- ---- lists and queries
 
-  said_now : (call : Call) (plain result : Result Said Refusal) → called call m ≡ (plain, m) → result ≡ plain → AsksNow call m result m
-  said_now call plain result comes is = inl (subst (λ (x : Result Said Refusal × Machine). IsSaid x.0 result) (sym comes) (subst (λ r. IsSaid r result) is (itself result)), sym (ap (λ (x : Result Said Refusal × Machine). x.1) comes))
-
-  refused_now : (call : Call) (refusal : Refusal) (result : Result Said Refusal) → IsOfStore refusal → result ≡ Err refusal → AsksNow call m result m
-  refused_now call refusal result store is = inr (refusal, is, inl (store, refl))
-
-  list_by : (p : Path) (result : Result Said Refusal) → is_any_deep (calls.List p) ≡ false → (o : Option Refusal) → IsGated (is_rolled s.durable.phase) o → OneSays req result (called_unless config s req moment (calls.List p) o).sent → AsksNow (calls.List p) m result m
-  list_by p result not_deep None calm said =
-      said_now (calls.List p) (listing (fin.entries s.durable.names.tree) p (fin.get s.durable.names.tree p)) result (list_called shows.text s.durable.names m p shows.tree (calm_so calm) not_deep)
-      (looked_said s req (listing (fin.entries s.durable.names.tree) p (fin.get s.durable.names.tree p)) result said)
-  list_by p result not_deep (Some refusal) store said = refused_now (calls.List p) refusal result store (one_said req (Err refusal) result said)
-
   list_told : (p : Path) (result : Result Said Refusal) → is_any_deep (calls.List p) ≡ false → Replies config s req moment (calls.List p) result → AsksNow (calls.List p) m result m
-  list_told p result not_deep said = list_by p result not_deep (refused_before s req (calls.List p)) (gates_deep (is_failed s.fault) (is_rolled s.durable.phase) s.volatile.is_preparing (is_any_deep (calls.List p)) (is_locked s req (calls.List p)) not_deep) said
+  list_told p result not_deep said = list_shown config s req moment m shows.text shows.tree calm_so p result not_deep said
 
   query_by : (result : Result Said Refusal) (o : Option Refusal) → IsStoreOr o → OneSays req result (called_unless config s req moment calls.Query o).sent → AsksNow calls.Query m result m
   query_by result None free said =
-      said_now calls.Query (Ok (says.Phase m.phase m.epoch)) result (query_called m)
+      said_now m calls.Query (Ok (says.Phase m.phase m.epoch)) result (query_called m)
       (one_said req (Ok (says.Phase (told_phase s.volatile.is_preparing s.durable.phase) s.durable.epoch)) result said
       ∙ ap (λ phase. Ok (says.Phase phase s.durable.epoch)) (sym shows.phase) ∙ ap (λ epoch. Ok (says.Phase m.phase epoch)) (sym shows.epoch))
-  query_by result (Some refusal) store said = refused_now calls.Query refusal result store (one_said req (Err refusal) result said)
+  query_by result (Some refusal) store said = refused_now m calls.Query refusal result store (one_said req (Err refusal) result said)
 
   query_told : (result : Result Said Refusal) → Replies config s req moment calls.Query result → AsksNow calls.Query m result m
   query_told result said = query_by result (refused_before s req calls.Query) (query_gates (is_failed s.fault) (is_rolled s.durable.phase) s.volatile.is_preparing (is_locked s req calls.Query)) said

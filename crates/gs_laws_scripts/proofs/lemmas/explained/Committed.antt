@@ -12,10 +12,13 @@ use Rattle.gs_edit.specs.Mapped.{mapped_rows}
 use Rattle.gs_journal.specs.Records.{fresh, standing}
 use Rattle.gs_laws_chunks.proofs.lemmas.answers.Asked.{begins_asked, stays_unarmed}
 use Rattle.gs_laws_chunks.proofs.lemmas.answers.Behind.{MadeThere, all_back, all_front, made_there}
+use Rattle.gs_laws_chunks.proofs.lemmas.answers.Served.{begins_served, stays_served}
+use Rattle.gs_laws_chunks.proofs.lemmas.calls.Arming.{unarmed_alone}
 use Rattle.gs_laws_chunks.proofs.lemmas.desks.Ways.{joined}
 use Rattle.gs_laws_chunks.proofs.lemmas.desks.When.{StepsSo}
 use Rattle.gs_laws_chunks.specs.answers.Asked.{AreAsked}
 use Rattle.gs_laws_chunks.specs.answers.Behind.{IsOnly, asks_call, is_halt}
+use Rattle.gs_laws_chunks.specs.answers.Served.{AreServed}
 use Rattle.gs_laws_chunks.specs.desks.Reached.{history}
 use Rattle.gs_laws_chunks.specs.desks.Within.{IsReachedWithin}
 use Rattle.gs_laws_looks.proofs.lemmas.halts.Commits.{commits_halt, fits}
@@ -119,15 +122,22 @@ module _ (sizes : HaveSizes) {D : Type 0} (seen : D → List ℕ) (failures : D 
     to_mid : RunsTo seen failures unarmed (steps ++ commit_steps) start done.mid
     to_mid = joined seen failures true steps commit_steps start before done.mid runs (done.has.asked, (Ok tt, done.has.asks.happens), done.has.runs)
 
+    one_client : length done.mid.nodes.clients ≡ 1
+    one_client = (run_same seen failures unarmed (steps ++ commit_steps) start done.mid to_mid).clients ∙ ap (λ (k : Nodes D). length k.clients) reached.reached.begins.nodes
+
     only : IsOnly the_client done.mid
-    only other n there = only_one done.mid.nodes.clients ((run_same seen failures unarmed (steps ++ commit_steps) start done.mid to_mid).clients ∙ ap (λ (k : Nodes D). length k.clients) reached.reached.begins.nodes) other n there
+    only other n there = only_one done.mid.nodes.clients one_client other n there
+
+    served : AreServed done.mid
+    served = stays_served seen failures unarmed (unarmed_alone seen failures) (steps ++ commit_steps) start done.mid to_mid (all_join IsStepWithin steps commit_steps within done.has.within) types_first lasts_first
+        (begins_asked sizes seen failures unarmed config 1 disks start empty reached.reached.begins) (begins_served sizes seen failures unarmed config 1 disks start empty reached.reached.begins)
 
     halts : HaltsBy seen failures unarmed the_client before commit (says.Epoch epoch) done.mid done.has
     halts = commits_halt seen failures unarmed the_client before done.mid commit (says.Epoch epoch) are types lasts halt done.has only
 
     rests : IsUndisturbed seen halts.durable done.has.req.number (history done.after (way_of new.wire))
     rests = undisturbed_on seen failures halts.durable done.has.req.number (Takes the_client ∷ []) done.mid (history done.after (way_of new.wire)) done.takes (tt, tt) ((refl, tt), tt)
-        (record { still = halts.halted.still; asked = halts.halted.asked; types = halts.halted.types; lasts = halts.halted.lasts })
+        (record { still = halts.halted.still; asked = halts.halted.asked; types = halts.halted.types; lasts = halts.halted.lasts; served = served; one = one_client })
 
     -- ---- the turn of the commit
 

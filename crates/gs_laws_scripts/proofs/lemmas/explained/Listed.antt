@@ -15,7 +15,9 @@ use Rattle.gs_edit.specs.View.{NamesView}
 use Rattle.gs_laws_chunks.proofs.lemmas.answers.Answered.{answers_are_made}
 use Rattle.gs_laws_chunks.proofs.lemmas.answers.Behind.{MadeThere, all_front, all_spare, made_there}
 use Rattle.gs_laws_chunks.proofs.lemmas.answers.Resting.{stays_still}
+use Rattle.gs_laws_chunks.proofs.lemmas.answers.Served.{stays_served}
 use Rattle.gs_laws_chunks.proofs.lemmas.answers.Sparing.{asked_spared, lasts_spared}
+use Rattle.gs_laws_chunks.proofs.lemmas.calls.Arming.{unarmed_alone}
 use Rattle.gs_laws_chunks.specs.answers.Answered.{WasAnswered}
 use Rattle.gs_laws_chunks.specs.answers.Behind.{asks_call}
 use Rattle.gs_laws_chunks.specs.answers.Resting.{IsLooking, StandsStill, StandsStillAt}
@@ -52,9 +54,10 @@ use Rattle.gs_tree.specs.Edits.{same_path}
 use Rattle.gs_tree.specs.Entry.{Dir, Entry, File}
 use Rattle.gs_tree.specs.Find.{Rows, at}
 use Rattle.gs_tree.specs.Mapped.{mapped_at, mapped_entry}
+use Rattle.gs_world.proofs.Staying.{run_same}
 use Rattle.gs_world.specs.Histories.{History}
 use Rattle.gs_world.specs.Runs.{Comes, RunsTo, Step}
-use Rattle.gs_laws_scripts.specs.explained.Lines.{AsksOne, AsksTree, IsOfStore, IsSaid}
+use Rattle.gs_laws_scripts.specs.explained.Lines.{AsksOne, AsksTree, IsNoLook, IsSaid}
 use Rattle.gs_laws_scripts.specs.explained.Machine.{Machine, Text, called, is_preparing, is_rolling, taken, tree_called, tree_said}
 use Rattle.gs_laws_scripts.specs.explained.Standing.{IsUndisturbed, ShowsNames, the_client}
 
@@ -109,7 +112,7 @@ shallow true result is = absurd (never is)
 shallow false result is = refl
 
 -- it rolls back where that is told
-rolls_so : (phase : Durable_phase) → is_rolling (told_phase false phase) ≡ is_rolled phase
+pub rolls_so : (phase : Durable_phase) → is_rolling (told_phase false phase) ≡ is_rolled phase
 rolls_so Ordinary = refl
 rolls_so Upgrade = refl
 rolls_so Rolling = refl
@@ -138,9 +141,22 @@ list_is size d m p names shows is calm not_deep =
       sym (ap (λ (x : Result Said Refusal × Machine). x.1) comes),
     )
 
--- one that the store refuses
-pub list_off : (size : ℕ) (m : Machine) (p : Path) (refusal : Refusal) → IsOfStore refusal → AsksTree size (Ok (calls.List p)) m (Err refusal) m
-list_off size m p refusal store = (Err refusal, m, ([], inr (refusal, refl, inl (store, refl))), refl, refl)
+-- one that isn't answered
+pub list_off : (size : ℕ) (m : Machine) (p : Path) (refusal : Refusal) → IsNoLook refusal → AsksTree size (Ok (calls.List p)) m (Err refusal) m
+list_off size m p refusal (inl store) = (Err refusal, m, ([], inr (refusal, refl, inl (store, refl))), refl, refl)
+list_off size m p refusal (inr unsure) = (Err refusal, m, ([], inr (refusal, refl, inr (unsure, refl))), refl, refl)
+
+-- nothing but names is listed
+pub listed_names : (rows : Rows ℕ) (p : Path) (found : Option (Entry ℕ)) (answer : Said) → listing rows p found ≡ Ok answer → (names : List ListedName) × (answer ≡ says.Names names)
+listed_names rows p None answer is = absurd (cc)
+listed_names rows p (Some Dir) answer is = (_, sym (answer_is is))
+  where
+    answer_is : {a b : Said} → ◌≡◌ {A = Result Said Refusal} (Ok a) (Ok b) → a ≡ b
+    answer_is e = cc
+listed_names rows p (Some (File chunks)) answer is = (_, sym (answer_is is))
+  where
+    answer_is : {a b : Said} → ◌≡◌ {A = Result Said Refusal} (Ok a) (Ok b) → a ≡ b
+    answer_is e = cc
 
 -- ---- the phase
 
@@ -161,8 +177,9 @@ query_is size m phase epoch same so =
       ap (λ p. Ok (answers.Phase p epoch)) same ∙ ap (λ e. Ok (answers.Phase m.phase e)) so,
     )
 
-pub query_off : (size : ℕ) (m : Machine) (refusal : Refusal) → IsOfStore refusal → AsksOne size calls.Query m (Err refusal) m
-query_off size m refusal store = (Err refusal, ([], inr (refusal, refl, inl (store, refl))), refl)
+pub query_off : (size : ℕ) (m : Machine) (refusal : Refusal) → IsNoLook refusal → AsksOne size calls.Query m (Err refusal) m
+query_off size m refusal (inl store) = (Err refusal, ([], inr (refusal, refl, inl (store, refl))), refl)
+query_off size m refusal (inr unsure) = (Err refusal, ([], inr (refusal, refl, inr (unsure, refl))), refl)
 
 -- ---- a list that is new to the master
 
@@ -214,6 +231,8 @@ module _ {D : Type 0} (seen : D → List ℕ) (failures : D → ℕ) (d : Durabl
     asked = asked_spared seen failures unarmed steps old new runs (all_spare the_client steps looking) within u.types u.lasts u.asked;
     types = run_keeps seen failures unarmed steps old new runs within u.types;
     lasts = lasts_spared seen failures unarmed steps old new runs (all_spare the_client steps looking) within u.types u.lasts;
+    served = stays_served seen failures unarmed (unarmed_alone seen failures) steps old new runs within u.types u.lasts u.asked u.served;
+    one = (run_same seen failures unarmed steps old new runs).clients ∙ u.one;
   }
 
   -- a look-up that is answered

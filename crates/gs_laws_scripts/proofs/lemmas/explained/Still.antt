@@ -22,7 +22,11 @@ use Rattle.gs_laws_looks.specs.carrying.Exchanged.{HasReply, IsExchanged, Looks,
 use Rattle.gs_laws_moves.specs.answers.Resting.{is_look}
 use Rattle.gs_laws_world.specs.steady.Asking.{MayBeAsked, asks_at}
 use Rattle.gs_laws_world.specs.steady.Saying.{IsStepWithin}
-use Rattle.gs_master_spec.specs.Calls.{told_phase}
+use Rattle.std.specs.FinMap as fin
+use Rattle.gs_edit.specs.Mapped.{mapped_rows}
+use Rattle.gs_edit.specs.View.{NamesView}
+use Rattle.gs_master_spec.specs.Calls.{is_any_deep, told_phase}
+use Rattle.gs_master_spec.specs.Durable.{is_rolling as is_rolled}
 use Rattle.gs_msg.specs.declared.answer.Answer.TheVariants as says
 use Rattle.gs_msg.specs.declared.answer.Phase.{Phase}
 use Rattle.gs_msg.specs.declared.answer.Phase.TheVariants as phases
@@ -51,39 +55,20 @@ use Rattle.gs_shell_script.specs.Run.{AnswersIfShort, AnswersLine, Runs, memory_
 use Rattle.gs_world.specs.Histories.{History}
 use Rattle.gs_world.specs.Runs.{Comes as StepComes}
 use Rattle.gs_world.specs.Sent.{Sent}
-use Rattle.gs_laws_scripts.proofs.lemmas.explained.Alike.{refused_never}
-use Rattle.gs_laws_scripts.proofs.lemmas.explained.Listed.{is_calm, is_listed, is_shallow, is_told, list_is, list_off, query_is, query_off, undisturbed_on}
+use Rattle.gs_laws_scripts.proofs.lemmas.explained.Asked.{list_shown, query_refused}
+use Rattle.gs_laws_scripts.proofs.lemmas.explained.Listed.{is_calm, is_listed, is_told, list_is, list_off, listed_names, query_is, query_off, rolls_so, undisturbed_on}
 use Rattle.gs_laws_scripts.proofs.lemmas.explained.Passing.{LooksOn, nodes_do}
+use Rattle.gs_laws_scripts.proofs.lemmas.explained.Refused.{IsJudged, judged_or, read_is_shallow, refused_carried}
 use Rattle.gs_laws_scripts.proofs.lemmas.lists.Lines.{Carries_at, all_join, next_small}
 use Rattle.gs_laws_scripts.proofs.lemmas.reads.Clients.{still_mine}
 use Rattle.gs_laws_scripts.specs.answers.Meeting.{IsClientOf}
-use Rattle.gs_laws_scripts.specs.explained.Lines.{AsksOne, AsksTree, Explains, IsOfStore, Leads}
-use Rattle.gs_laws_scripts.specs.explained.Machine.{Machine}
-use Rattle.gs_laws_scripts.specs.explained.Standing.{AreStillLines, IsRefusedByStoreAlone, IsStillLine, ShowsNames, Stands, StillLinesAreExplained, TellsNoPrepare, is_name_look, is_query, is_still_line, the_client}
+use Rattle.gs_laws_scripts.specs.explained.Lines.{AsksOne, AsksTree, Explains, IsNoLook, IsOfStore, Leads}
+use Rattle.gs_laws_scripts.specs.explained.Machine.{Machine, is_rolling}
+use Rattle.gs_laws_scripts.specs.explained.Standing.{AreStillLines, IsStillLine, ShowsNames, Stands, StillLinesAreExplained, TellsNoPrepare, TellsNoStray, is_name_look, is_query, is_still_line, the_client}
 use Rattle.gs_laws_scripts.specs.plain.Machines.{asked_in}
 use Rattle.gs_laws_scripts.specs.plain.Machines as plainly
 
 -- ---- a list as a dialogue
-
-names_said : (reply : Reply) (names : List ListedName) → and_then names_in (looked reply) ≡ Ok names → reply ≡ replies.Answer (says.Names names)
-names_said (replies.Answer (says.Names other)) names is = ap (λ k. replies.Answer (says.Names k)) (names_are is)
-  where
-    names_are : {a b : List ListedName} → ◌≡◌ {A = Result (List ListedName) Refusal} (Ok a) (Ok b) → a ≡ b
-    names_are is = cc
-names_said (replies.Answer answer) names is = absurd cc
-names_said (replies.Refused refusal) names is = absurd cc
-names_said replies.Lost names is = absurd cc
-names_said reply names is = absurd cc
-
-phase_said : (reply : Reply) (phase : Phase) (epoch : ℕ) → and_then phase_in (looked reply) ≡ Ok (phase, epoch) → reply ≡ replies.Answer (says.Phase phase epoch)
-phase_said (replies.Answer (says.Phase other before)) phase epoch is = ap (λ (k : Phase × ℕ). replies.Answer (says.Phase k.0 k.1)) (pair_is is)
-  where
-    pair_is : {a b : Phase × ℕ} → ◌≡◌ {A = Result (Phase × ℕ) Refusal} (Ok a) (Ok b) → a ≡ b
-    pair_is e = cc
-phase_said (replies.Answer answer) phase epoch is = absurd cc
-phase_said (replies.Refused refusal) phase epoch is = absurd cc
-phase_said replies.Lost phase epoch is = absurd cc
-phase_said reply phase epoch is = absurd cc
 
 module _ {S : Type 0} (carries : S → Asked → Reply → S → Type 0) where
   -- Memory is wanting; or the path is none; or the list is asked, and its reply is told.
@@ -206,18 +191,13 @@ module _ {D : Type 0} (seen : D → List ℕ) (failures : D → ℕ) where
     abbrev Tree : Result Path Refusal → Result Answer Refusal → Type 0
     Tree parsed answer = AsksTree size (plainly.on parsed calls.List) m answer m
 
-    -- where a refusal is told, it is the store's
-    of_store : (text : List ℕ) (refusal : Refusal) → IsRefusedByStoreAlone text → text ≡ answer_text (Err refusal) → (other : Refusal) × (text ≡ answer_text (Err other)) × IsOfStore other
-    of_store text refusal (inl accepted) is = refused_never refusal text is accepted
-    of_store text refusal (inr store) is = store
-
     -- memory is wanting for the text
     is_short : (answer : Result Answer Refusal) (text : List ℕ) → answer ≡ Err refusals.Memory → IsText answer text → text ≡ memory_text
     is_short answer text is (inl said) = said ∙ ap answer_text is
     is_short answer text is (inr short) = short
 
     short_text : (parsed : Result Path Refusal) (text : List ℕ) → text ≡ memory_text → (answer : Result Answer Refusal) × Tree parsed answer × IsText answer text
-    short_text (Ok path) text short = (Err refusals.Memory, list_off size m path refusals.Memory refl, inr short)
+    short_text (Ok path) text short = (Err refusals.Memory, list_off size m path refusals.Memory (inl refl), inr short)
     short_text (Err refusal) text short = (Err refusal, (refl, refl), inr short)
 
     no_path : (parsed : Result Path Refusal) (refusal : Refusal) → parsed ≡ Err refusal → Tree parsed (Err refusal)
@@ -226,27 +206,57 @@ module _ {D : Type 0} (seen : D → List ℕ) (failures : D → ℕ) where
     on_path : (parsed : Result Path Refusal) (path : Path) (answer : Result Answer Refusal) → parsed ≡ Ok path → Tree (Ok path) answer → Tree parsed answer
     on_path parsed path answer is tree = subst (λ r. Tree r answer) (sym is) tree
 
-    told_text : (parsed : Result Path Refusal) (path : Path) (reply : Reply) (text : List ℕ) → parsed ≡ Ok path → IsRefusedByStoreAlone text → (c : IsLookCarried st.sent (at old) (at new) (calls.List path) reply) → (r : Result (List ListedName) Refusal) → and_then names_in (looked reply) ≡ r
-        → IsText (answered answers.Names r) text → (answer : Result Answer Refusal) × Tree parsed answer × IsText answer text
-    told_text parsed path reply text is store c (Ok names) said text_is =
-        let h : HasReply seen failures the_client (history st.sent (way_of old.wire)) (requests.Call (calls.List path)) (replies.Answer (says.Names names)) c.mid =
-        subst (λ r. Went seen failures the_client (history st.sent (way_of old.wire)) (requests.Call (calls.List path)) r c.mid) (names_said reply names said) c.went in (
-          Ok (answers.Names names),
-          on_path parsed path (Ok (answers.Names names)) is
-              (list_is size st.durable m path names st.shows (is_listed seen failures st.durable st.number (history st.sent (way_of old.wire)) c.mid path (says.Names names) st.rests h) (is_calm seen failures st.durable st.number (history st.sent (way_of old.wire)) c.mid path (says.Names names) st.rests h)
-              (is_shallow seen failures st.durable st.number (history st.sent (way_of old.wire)) c.mid path (says.Names names) st.rests h)),
-          text_is,
-        )
-    told_text parsed path reply text is store c (Err refusal) said (inl text_is) = let other = of_store text refusal store text_is in (Err other.0, on_path parsed path (Err other.0) is (list_off size m path other.0 other.2), inl other.1)
-    told_text parsed path reply text is store c (Err refusal) said (inr short) = short_text parsed text short
+    abbrev before : History D
+    before = history st.sent (way_of old.wire)
 
-    list_line : (p : List ℕ) (answer : Result Answer Refusal) (text : List ℕ) → IsRefusedByStoreAlone text → IsText answer text → ListGoes (Carries_at seen failures) (parse_hidden p) (at old) answer (at new) → Goes (lines.Ls p) text
-    list_line p answer text store text_is (Short is same) =
+    -- A list is answered as the machine answers it, refusals too; or what came back is for somebody else.
+    list_told : (path : Path) → is_any_deep (calls.List path) ≡ false → (reply : Reply) → Carries_at seen failures (at old) (requests.Call (calls.List path)) reply (at new) → IsLookCarried st.sent (at old) (at new) (calls.List path) reply
+        → (and_then names_in (looked reply) ≡ Err refusals.Stray) ⊎ Tree (Ok path) (answered answers.Names (and_then names_in (looked reply)))
+    list_told path deep (replies.Answer answer) carried c =
+        let is = is_listed seen failures st.durable st.number before c.mid path answer st.rests c.went in
+        let named = listed_names (fin.entries st.durable.names.tree) path (fin.get st.durable.names.tree path) answer is in
+        inr (subst (λ a. Tree (Ok path) (answered answers.Names (names_in a))) (sym named.1)
+        (list_is size st.durable m path named.0 st.shows (is ∙ ap (λ a. Ok a) named.1) (is_calm seen failures st.durable st.number before c.mid path answer st.rests c.went) deep))
+    list_told path deep (replies.Refused refusal) carried c = by_carried (refused_carried seen failures config st.sent (at old) (at new) (calls.List path) refusal (record { named = tt; met = λ names. tt }) st.ours st.covers st.moment st.rests.one carried)
+      where
+        refused : Tree (Ok path) (Err refusal) → (◌≡◌ {A = Result (List ListedName) Refusal} (Err refusal) (Err refusals.Stray)) ⊎ Tree (Ok path) (Err refusal)
+        refused tree = inr tree
+
+        by_judged : IsNoLook refusal ⊎ IsJudged seen failures st.durable (calls.List path) refusal → Tree (Ok path) (Err refusal)
+        by_judged (inl off) = list_off size m path refusal off
+        by_judged (inr j) =
+            let stands = j.stands.1 in (
+              Err refusal,
+              m,
+              (
+                [],
+                list_shown j.config j.state j.req j.moment m st.shows.text (st.shows.tree ∙ ap (λ (names : NamesView). mapped_rows st.shows.text (fin.entries names.tree)) (sym stands.names))
+                    (λ calm. ap is_rolling st.shows.phase ∙ rolls_so st.durable.phase ∙ ap is_rolled (sym stands.phase) ∙ calm) path (Err refusal) deep j.says,
+              ),
+              refl,
+              refl,
+            )
+
+        by_carried : IsOfStore refusal ⊎ ((mid : History D) × HasReply seen failures the_client before (requests.Call (calls.List path)) (replies.Refused refusal) mid) → (◌≡◌ {A = Result (List ListedName) Refusal} (Err refusal) (Err refusals.Stray)) ⊎ Tree (Ok path) (Err refusal)
+        by_carried (inl store) = refused (list_off size m path refusal (inl store))
+        by_carried (inr (mid, h)) = refused (by_judged (judged_or seen failures st.durable st.number before mid (calls.List path) refl refl refusal st.rests h))
+    list_told path deep replies.Lost carried c = inr (list_off size m path refusals.NoReplica (inl refl))
+    list_told path deep (replies.Given given) carried c = inl refl
+    list_told path deep (replies.Outcome outcome) carried c = inl refl
+
+    told_text : (parsed : Result Path Refusal) (path : Path) (text : List ℕ) → parsed ≡ Ok path → TellsNoStray text → (r : Result (List ListedName) Refusal) → (r ≡ Err refusals.Stray) ⊎ Tree (Ok path) (answered answers.Names r) → IsText (answered answers.Names r) text
+        → (answer : Result Answer Refusal) × Tree parsed answer × IsText answer text
+    told_text parsed path text is none r (inl stray) (inl said) = absurd (none (said ∙ ap (λ x. answer_text (answered answers.Names x)) stray))
+    told_text parsed path text is none r (inl stray) (inr short) = short_text parsed text short
+    told_text parsed path text is none r (inr tree) text_is = (answered answers.Names r, on_path parsed path (answered answers.Names r) is tree, text_is)
+
+    list_line : (p : List ℕ) (answer : Result Answer Refusal) (text : List ℕ) → TellsNoStray text → IsText answer text → ListGoes (Carries_at seen failures) (parse_hidden p) (at old) answer (at new) → Goes (lines.Ls p) text
+    list_line p answer text none text_is (Short is same) =
         let said = short_text (parse_hidden p) text (is_short answer text is text_is) in record { next = m; answer = said.0; leads = said.1; is = said.2; stands = stands_still same }
-    list_line p answer text store text_is (NoPath refusal parsed is same) = record { next = m; answer = Err refusal; leads = no_path (parse_hidden p) refusal parsed; is = subst (λ a. IsText a text) is text_is; stands = stands_still same }
-    list_line p answer text store text_is (IsAsked path reply parsed carried is) =
+    list_line p answer text none text_is (NoPath refusal parsed is same) = record { next = m; answer = Err refusal; leads = no_path (parse_hidden p) refusal parsed; is = subst (λ a. IsText a text) is text_is; stands = stands_still same }
+    list_line p answer text none text_is (IsAsked path reply parsed carried is) =
         let c = look_carried config st.sent (at old) (at new) (calls.List path) reply refl (record { named = tt; met = λ names. tt }) st.ours st.covers st.moment carried in
-        let said = told_text (parse_hidden p) path reply text parsed store c (and_then names_in (looked reply)) refl (subst (λ a. IsText a text) is text_is) in
+        let said = told_text (parse_hidden p) path text parsed none (and_then names_in (looked reply)) (list_told path (read_is_shallow p path parsed) reply carried c) (subst (λ a. IsText a text) is text_is) in
         record {
           next = m;
           answer = said.0;
@@ -261,33 +271,43 @@ module _ {D : Type 0} (seen : D → List ℕ) (failures : D → ℕ) where
     abbrev Query : Result Answer Refusal → Type 0
     Query answer = AsksOne size calls.Query m answer m
 
-    told_phase_text : (reply : Reply) (text : List ℕ) → TellsNoPrepare text → IsRefusedByStoreAlone text → (c : IsLookCarried st.sent (at old) (at new) calls.Query reply) → (r : Result (Phase × ℕ) Refusal) → and_then phase_in (looked reply) ≡ r → IsText (answered at_phase r) text
-        → (answer : Result Answer Refusal) × Query answer × IsText answer text
-    told_phase_text reply text none store c (Ok (phase, epoch)) said text_is =
-        let h : HasReply seen failures the_client (history st.sent (way_of old.wire)) (requests.Call calls.Query) (replies.Answer (says.Phase phase epoch)) c.mid =
-        subst (λ r. Went seen failures the_client (history st.sent (way_of old.wire)) (requests.Call calls.Query) r c.mid) (phase_said reply phase epoch said) c.went in
-        let told = is_told seen failures st.durable st.number (history st.sent (way_of old.wire)) c.mid (says.Phase phase epoch) st.rests h in by_told told.0 told.1
+    -- what a refused query comes to
+    abbrev QueryOff : Refusal → Type 0
+    QueryOff refusal = (◌≡◌ {A = Result (Phase × ℕ) Refusal} (Err refusal) (Err refusals.Stray)) ⊎ (((epoch : ℕ) × (◌≡◌ {A = Result (Phase × ℕ) Refusal} (Err refusal) (Ok (phases.Preparing, epoch)))) ⊎ Query (Err refusal))
+
+    -- A query is answered so too, or tells that a prepare is begun.
+    query_told : (reply : Reply) → Carries_at seen failures (at old) (requests.Call calls.Query) reply (at new) → IsLookCarried st.sent (at old) (at new) calls.Query reply
+        → (and_then phase_in (looked reply) ≡ Err refusals.Stray) ⊎ (((epoch : ℕ) × (and_then phase_in (looked reply) ≡ Ok (phases.Preparing, epoch))) ⊎ Query (answered at_phase (and_then phase_in (looked reply))))
+    query_told (replies.Answer answer) carried c = (let told = is_told seen failures st.durable st.number before c.mid answer st.rests c.went in by_told told.0 told.1)
       where
-        phase_is : {a b : Phase} {j k : ℕ} → says.Phase a j ≡ says.Phase b k → a ≡ b
-        phase_is e = cc
+        by_told : (preparing : Bool) → answer ≡ says.Phase (told_phase preparing st.durable.phase) st.durable.epoch
+            → (phase_in answer ≡ Err refusals.Stray) ⊎ (((epoch : ℕ) × (phase_in answer ≡ Ok (phases.Preparing, epoch))) ⊎ Query (answered at_phase (phase_in answer)))
+        by_told true is = inr (inl (st.durable.epoch, ap phase_in is))
+        by_told false is = inr (inr (subst (λ a. Query (answered at_phase (phase_in a))) (sym is) (query_is size m (told_phase false st.durable.phase) st.durable.epoch (sym st.shows.phase) (sym st.shows.epoch))))
+    query_told (replies.Refused refusal) carried c = by_carried (refused_carried seen failures config st.sent (at old) (at new) calls.Query refusal (record { named = tt; met = λ names. tt }) st.ours st.covers st.moment st.rests.one carried)
+      where
+        by_judged : IsNoLook refusal ⊎ IsJudged seen failures st.durable calls.Query refusal → QueryOff refusal
+        by_judged (inl off) = inr (inr (query_off size m refusal off))
+        by_judged (inr j) = inr (inr (query_off size m refusal (inl (query_refused j.config j.state j.req j.moment refusal j.says))))
 
-        epoch_is : {a b : Phase} {j k : ℕ} → says.Phase a j ≡ says.Phase b k → j ≡ k
-        epoch_is e = cc
+        by_carried : IsOfStore refusal ⊎ ((mid : History D) × HasReply seen failures the_client before (requests.Call calls.Query) (replies.Refused refusal) mid) → QueryOff refusal
+        by_carried (inl store) = inr (inr (query_off size m refusal (inl store)))
+        by_carried (inr (mid, h)) = by_judged (judged_or seen failures st.durable st.number before mid calls.Query refl refl refusal st.rests h)
+    query_told replies.Lost carried c = inr (inr (query_off size m refusals.NoReplica (inl refl)))
+    query_told (replies.Given given) carried c = inl refl
+    query_told (replies.Outcome outcome) carried c = inl refl
 
-        begun : phase ≡ phases.Preparing → IsText (Ok (answers.Phase phase epoch)) text → (answer : Result Answer Refusal) × Query answer × IsText answer text
-        begun is (inl told) = absurd (none epoch (told ∙ ap (λ p. answer_text (Ok (answers.Phase p epoch))) is))
-        begun is (inr short) = (Err refusals.Memory, query_off size m refusals.Memory refl, inr short)
+    told_phase_text : (text : List ℕ) → TellsNoPrepare text → TellsNoStray text → (r : Result (Phase × ℕ) Refusal) → (r ≡ Err refusals.Stray) ⊎ (((epoch : ℕ) × (r ≡ Ok (phases.Preparing, epoch))) ⊎ Query (answered at_phase r)) → IsText (answered at_phase r) text
+        → (answer : Result Answer Refusal) × Query answer × IsText answer text
+    told_phase_text text none stray r told (inr short) = (Err refusals.Memory, query_off size m refusals.Memory (inl refl), inr short)
+    told_phase_text text none stray r (inl is) (inl said) = absurd (stray (said ∙ ap (λ x. answer_text (answered at_phase x)) is))
+    told_phase_text text none stray r (inr (inl (epoch, is))) (inl said) = absurd (none epoch (said ∙ ap (λ x. answer_text (answered at_phase x)) is))
+    told_phase_text text none stray r (inr (inr query)) (inl said) = (answered at_phase r, query, inl said)
 
-        by_told : (preparing : Bool) → says.Phase phase epoch ≡ says.Phase (told_phase preparing st.durable.phase) st.durable.epoch → (answer : Result Answer Refusal) × Query answer × IsText answer text
-        by_told true told = begun (phase_is told) text_is
-        by_told false told = (Ok (answers.Phase phase epoch), query_is size m phase epoch (phase_is told ∙ sym st.shows.phase) (epoch_is told ∙ sym st.shows.epoch), text_is)
-    told_phase_text reply text none store c (Err refusal) said (inl text_is) = let other = of_store text refusal store text_is in (Err other.0, query_off size m other.0 other.2, inl other.1)
-    told_phase_text reply text none store c (Err refusal) said (inr short) = (Err refusals.Memory, query_off size m refusals.Memory refl, inr short)
-
-    query_line : (answer : Result Answer Refusal) (text : List ℕ) → TellsNoPrepare text → IsRefusedByStoreAlone text → IsText answer text → QueryGoes (Carries_at seen failures) (at old) answer (at new) → Goes (lines.RollingUpgrade upgrades.Query) text
-    query_line answer text none store text_is q =
+    query_line : (answer : Result Answer Refusal) (text : List ℕ) → TellsNoPrepare text → TellsNoStray text → IsText answer text → QueryGoes (Carries_at seen failures) (at old) answer (at new) → Goes (lines.RollingUpgrade upgrades.Query) text
+    query_line answer text none stray text_is q =
         let c = look_carried config st.sent (at old) (at new) calls.Query q.reply refl (record { named = tt; met = λ names. tt }) st.ours st.covers st.moment q.asks in
-        let said = told_phase_text q.reply text none store c (and_then phase_in (looked q.reply)) refl (subst (λ a. IsText a text) q.is text_is) in
+        let said = told_phase_text text none stray (and_then phase_in (looked q.reply)) (query_told q.reply q.asks c) (subst (λ a. IsText a text) q.is text_is) in
         record {
           next = m;
           answer = said.0;
@@ -321,7 +341,7 @@ module _ {D : Type 0} (seen : D → List ℕ) (failures : D → ℕ) where
 
     -- ---- any such line
 
-    request_goes : (request : Request) (answer : Result Answer Refusal) (text : List ℕ) → is_still_line (Some request) ≡ true → IsSpoken request → (is_name_look (Some request) ≡ true → IsRefusedByStoreAlone text) → (is_query (Some request) ≡ true → TellsNoPrepare text) → Comes seen failures request old answer new → IsText answer text → Goes request text
+    request_goes : (request : Request) (answer : Result Answer Refusal) (text : List ℕ) → is_still_line (Some request) ≡ true → IsSpoken request → (is_name_look (Some request) ≡ true → TellsNoStray text) → (is_query (Some request) ≡ true → TellsNoPrepare text) → Comes seen failures request old answer new → IsText answer text → Goes request text
     unfolding Comes
     request_goes (lines.Ls p) answer text is spoken store query comes text_is = list_line p answer text (store refl) text_is (list_goes (Carries_at seen failures) (parse_hidden p) (at old) (at new) answer comes)
     request_goes (lines.At moment) answer text is spoken store query comes text_is = node_line (lines.At moment) answer text (record m { moment = moment }) is spoken text_is (m, ([], refl), is_set moment answer comes, refl) (shows_then moment) comes
@@ -357,7 +377,7 @@ module _ {D : Type 0} (seen : D → List ℕ) (failures : D → ℕ) where
     LineGoes whole text = (next : Machine) × AnswersLine (Explains size block) m whole text next × Stands seen config new next
 
     abbrev Given : Option Request → List ℕ → Type 0
-    Given o text = (is_still_line o ≡ true) × (is_name_look o ≡ true → IsRefusedByStoreAlone text) × (is_query o ≡ true → TellsNoPrepare text)
+    Given o text = (is_still_line o ≡ true) × (is_name_look o ≡ true → TellsNoStray text) × (is_query o ≡ true → TellsNoPrepare text)
 
     by_request : (line text : List ℕ) (o : Option Request) → line_request line ≡ o → Given o text
         → MatchOption o (IsText (Err refusals.BadLine) text × (new ≡ old)) (λ request. (answer : Result Answer Refusal) × Comes seen failures request old answer new × IsText answer text)
