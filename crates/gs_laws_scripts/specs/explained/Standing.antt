@@ -8,7 +8,6 @@ use Rattle.std.specs.Str.{chars, is_utf8}
 use Rattle.gs_base.specs.Told.{IsNumber}
 use Rattle.gs_base.specs.declared.config.Config.{Config}
 use Rattle.gs_base.specs.declared.numbers.ClientId.{ClientId}
-use Rattle.gs_base.specs.declared.refusal.Refusal.{Refusal}
 use Rattle.gs_base.specs.declared.refusal.Refusal.TheVariants as refusals
 use Rattle.gs_edit.specs.Mapped.{mapped_rows}
 use Rattle.gs_journal.specs.Records.{fresh, standing}
@@ -37,10 +36,9 @@ use Rattle.gs_laws_chunks.specs.desks.Within.{IsReachedWithin}
 use Rattle.gs_laws_world.specs.steady.Saying.{KeepsTypes}
 use Rattle.gs_laws_world.specs.steady.Through.{LastsThrough}
 use Rattle.gs_laws_scripts.specs.answers.Meeting.{IsClientOf}
-use Rattle.gs_laws_scripts.specs.explained.Lines.{Explains, IsOfStore}
+use Rattle.gs_laws_scripts.specs.explained.Lines.{Explains}
 use Rattle.gs_laws_scripts.specs.explained.Machine.{Machine, Text}
 use Rattle.gs_laws_scripts.specs.lists.Lines.{commits_prepare, commits_rollback}
-use Rattle.gs_laws_scripts.specs.lists.Scripts.{IsAccepted}
 use Rattle.gs_laws_scripts.specs.plain.Machines.{asked_in}
 
 -- the one client of a script's store

@@ -1,5 +1,5 @@
 -- What scripts of lines of the tree and of an upgrade are answered.
-use Rattle.std.specs.Prelude.{[], ◌+◌, ◌++◌, ◌∷◌, ◌≡◌, ◌≢◌, List, Option, Some, take, true, ℕ}
+use Rattle.std.specs.Prelude.{[], ◌++◌, ◌∷◌, ◌≡◌, ◌≢◌, List, Option, Some, take, true, ℕ}
 use Rattle.std.specs.List.{AllByRecursion}
 use Rattle.gs_base.specs.Refusals.{refusal_text}
 use Rattle.gs_base.specs.declared.config.Config.{Config}

@@ -30,7 +30,7 @@ use Rattle.gs_shell_calls.specs.declared.answer.Answer.{Answer}
 use Rattle.gs_shell_calls.specs.declared.answer.Answer.TheVariants as answers
 use Rattle.gs_tree.specs.Entry.{Dir, Entry, File}
 use Rattle.gs_tree.specs.Find.{at}
-use Rattle.gs_laws_scripts.specs.explained.Lines.{Adds, Appends, Edits, IsNoLook, IsOfStore, IsPutOff, Lands, LandsOr, MayBe, OfFile, OnPath, Writes, done, is_too_long, LandsOrPasses}
+use Rattle.gs_laws_scripts.specs.explained.Lines.{Adds, Appends, Edits, IsNoLook, IsOfStore, IsPutOff, Lands, MayBe, OfFile, OnPath, Writes, done, is_too_long, LandsOrPasses}
 use Rattle.gs_laws_scripts.specs.explained.Machine.{Machine, Payment, Text, fits, is_preparing, is_rolling, paid_now, text_at}
 use Rattle.gs_laws_scripts.specs.explained.Machine as machines
 use Rattle.gs_laws_scripts.specs.explained.Told.{AppendsAreExplained, IsLeft, Pays, TellsEdited, TellsStatus, WritesAreExplained}

@@ -1,9 +1,8 @@
 -- What a look-up is refused by, where the names stand: by the store, or since nobody is sure of it; or so as the master says in its turn.
-use Rattle.std.proofs.Common.{[], ap, arith, inl, inr, refl, subst, sym, ◌<◌, ◌∷◌, ◌∙◌, ◌≡◌, ◌⊎◌, Bool, Err, List, MatchOption, None, Ok, Option, Result, Some, if◌then◌else◌, length, nat_le, slice_set, true, ℕ, ◌-◌}
+use Rattle.std.proofs.Common.{[], ap, arith, inl, inr, refl, subst, sym, ◌∷◌, ◌∙◌, ◌≡◌, ◌⊎◌, Bool, Err, List, MatchOption, None, Ok, Option, Result, Some, if◌then◌else◌, length, nat_le, slice_set, true, ℕ, ◌-◌}
 use Rattle.std.specs.List.{AllByRecursion, list_all}
 use Rattle.std.specs.Prelude.{Vec, false, not, unwrap_or, ◌&&◌, ◌==◌, ◌||◌}
 use Rattle.std.specs.declared.alloc.Global.{Global}
-use Rattle.gs_base.specs.Refusals.{number_of}
 use Rattle.gs_base.specs.Told.{IsNumber}
 use Rattle.gs_base.specs.declared.config.Config.{Config}
 use Rattle.gs_base.specs.declared.numbers.Moment.{Moment}
@@ -23,7 +22,7 @@ use Rattle.gs_laws_chunks.specs.answers.Resting.{IsLooking, StandsStill, StandsS
 use Rattle.gs_laws_chunks.specs.answers.Served.{IsUnjudged}
 use Rattle.gs_laws_chunks.specs.desks.Reached.{Covers, history}
 use Rattle.gs_laws_looks.proofs.lemmas.carrying.Asked.{requests_are_carried}
-use Rattle.gs_laws_looks.specs.carrying.Asked.{Delivers, IsAnswered, OnlyDelivers, WasAsked, WasAskedAndTaken, WasRefused}
+use Rattle.gs_laws_looks.specs.carrying.Asked.{Delivers, IsAnswered, WasAskedAndTaken, WasRefused}
 use Rattle.gs_laws_looks.specs.carrying.Exchanged.{HasReply}
 use Rattle.gs_laws_moves.specs.answers.AtOnce.{OneSays, is_answered_at_once}
 use Rattle.gs_laws_moves.specs.answers.Resting.{is_look}
@@ -41,17 +40,15 @@ use Rattle.gs_msg.specs.declared.event.Happening.TheVariants as happenings
 use Rattle.gs_msg.specs.declared.event.Request.{Request}
 use Rattle.gs_msg.specs.declared.event.Request.TheVariants as requests
 use Rattle.gs_msg.specs.declared.message.Message.{Message}
-use Rattle.gs_msg.specs.declared.node.NodeId.{NodeId}
-use Rattle.gs_msg.specs.declared.node.StoreNode.TheVariants as keepers
 use Rattle.gs_nodes.specs.Happenings.{AtClient, ClientAsks, client_in}
 use Rattle.gs_nodes.specs.Nodes.{with_clients}
 use Rattle.gs_path.specs.Path.{Path}
 use Rattle.gs_path.specs.Rules.{elements_of, is_within_depth, judged, parse_hidden}
 use Rattle.gs_path.specs.Element.{is_stored}
-use Rattle.gs_shell_desk.specs.Ways.{Way, way_of}
+use Rattle.gs_shell_desk.specs.Ways.{way_of}
 use Rattle.gs_shell_desk.specs.declared.wire.Wire.{Wire}
-use Rattle.gs_world.specs.Histories.{AsksAt, Happens, History, Tells, Upshot, asked}
-use Rattle.gs_world.specs.Runs.{Comes, RunsTo, Step, Takes}
+use Rattle.gs_world.specs.Histories.{AsksAt, Happens, History, Tells, asked}
+use Rattle.gs_world.specs.Runs.{Comes, Step, Takes}
 use Rattle.gs_world.specs.Sent.{Sent}
 use Rattle.gs_laws_scripts.proofs.lemmas.explained.Listed.{undisturbed_on}
 use Rattle.gs_laws_scripts.proofs.lemmas.lists.Lines.{Carries_at, next_small}

@@ -1,6 +1,6 @@
 -- Wrong answers, which nothing explains.
 use Rattle.std.proofs.Common.{ap, inl, inr, subst, sym, true≢false, ◌∙◌}
-use Rattle.std.specs.Prelude.{[], ◌+◌, ◌==◌, ◌∷◌, ◌≡◌, ◌⊎◌, Err, List, MatchBool, Ok, Option, Result, Some, codes, false, length, map, refl, replicate, suc, true, zero, ℕ}
+use Rattle.std.specs.Prelude.{[], ◌+◌, ◌==◌, ◌∷◌, ◌≡◌, ◌⊎◌, Err, List, MatchBool, Ok, Option, Result, Some, codes, false, length, map, refl, replicate, suc, zero, ℕ}
 use Rattle.std.specs.Char.{encode_utf8}
 use Rattle.std.specs.Fmt.{digits}
 use Rattle.std.specs.Str.{chars, is_utf8}

@@ -1,10 +1,10 @@
 -- Runs that tell that nothing went wrong answer as the function does.
-use Rattle.std.proofs.Common.{◌≡◌, ◌∙◌, ℕ, List, Option, Result, sym, ap}
+use Rattle.std.proofs.Common.{◌∙◌, ℕ, List, Option, Result, sym, ap}
 use Rattle.gs_base.specs.declared.config.Config.{Config}
 use Rattle.gs_journal.specs.Memory.{bytes_of, times_failed}
 use Rattle.gs_nodes.specs.NewDisks.{OverEmpty}
 use Rattle.gs_shell.proofs.Answered.{answers}
-use Rattle.gs_shell.specs.Answering.{Answers, IsUntroubled}
+use Rattle.gs_shell.specs.Answering.{Answers}
 use Rattle.gs_shell.specs.Telling.{Tells}
 use Rattle.gs_shell.specs.Watching.{both_watched, failures_of, seen_of}
 use Rattle.gs_shell.specs.declared.trouble.Trouble.{Trouble}
