@@ -454,7 +454,7 @@ WRONG = {
 # How many rollbacks are made with each number of servers, in how many runs a growth is refused, and in how many each later one too.
 FEW_ROLLBACKS, FEW_GROWTHS, FEW_LASTING = 12, 96, 32
 # A run is over sooner, also where what was asked has to be asked once more. Only a request that is given up takes longer.
-SLOW_SECONDS = 25
+SLOW_SECONDS = 60
 # So is one in which a request is given up.
 HUNG_SECONDS = 180
 
