@@ -78,10 +78,13 @@ def fsck(session: Session, asked: Namespace) -> int:
     # What was deleted below may come back, so it has to be as sound as what stands.
     tops += [path for path in removed(session) if path.startswith(tuple(f"{top.rstrip('/')}/" for top in tops))]
     if asked.handle is not None:
-        paths = paths_of(looked_at(session, tops).entries)[asked.handle]
-        if not paths:
+        found = looked_at(session, tops)
+        paths, untold = paths_of(found.entries)[asked.handle], [path for path, _ in found.wrong]
+        if not paths + untold:
             raise Failed(f"no file has chunk {asked.handle}")
-        say("\n".join(map(place, paths)))
+        if not paths:
+            warn(f"chunk {asked.handle} is of none but these, whose chunks can't be told")
+        say("\n".join(map(place, paths or untold)))
         return WELL
     found, made, refused = repaired(session, tops) if asked.repair else (checked(session, tops), 0, None)
     wanted, paths, short = session.sizes.replicas, paths_of(found.entries), found.short(session.sizes.replicas)
@@ -112,10 +115,10 @@ def chunk_text(chunk: Chunk) -> str:
 
 def report(session: Session, asked: Namespace) -> None:
     """Servers with what is on each, what is short, the upgrade's phase, and the file in which the store is kept."""
-    found, sizes = looked_at(session, ["/"]), session.sizes
-    chunk_bytes = {chunk.handle: size for entry in found.entries for chunk, size in sized_chunks(entry, session)}
     name, epoch = phase(session)
     say(f"phase {name}, epoch {epoch}")
+    found, sizes = looked_at(session, ["/"]), session.sizes
+    chunk_bytes = {chunk.handle: size for entry in found.entries for chunk, size in sized_chunks(entry, session)}
     say(f"{len(found.entries)} files, {len(found.chunks)} chunks, {len(found.short(sizes.replicas))} short of {sizes.replicas} replicas")
     for server in range(sizes.servers):
         handles = [chunk.handle for chunk in found.chunks.values() if server in chunk.servers]

@@ -63,7 +63,7 @@ COMMANDS = (
     Command("get", transfer.get, "brings files and directories out of the store", "get /photos .", (SOURCES, TARGET, FORCE)),
     Command("cat", transfer.cat, "writes files to standard output", "cat /notes.txt", (SOME,)),
     Command("tail", transfer.cat, "writes the ends of files to standard output", "tail -c 100 /notes.txt", (
-        SOME, word("-c", dest="bytes", type=int, default=transfer.TAIL_BYTES, help="how many bytes"))),
+        SOME, word("-c", dest="bytes", type=int, default=1_024, help="how many bytes"))),
     Command("append", transfer.append, "puts files, or standard input, at the end of a file", "append /notes.txt more.txt", (
         ONE, word("files", nargs="*", type=there, metavar="LOCAL")), True),
     Command("ls", listing.ls, "what stands in a directory", "ls -l -h /photos", (

@@ -5,7 +5,7 @@ from collections import defaultdict
 from fnmatch import fnmatchcase
 
 from client.attempts import each_path, for_each, targets
-from client.names import child, last, line_path, named, parent, shown
+from client.names import child, last, line_path, named, shown
 from client.progress import human
 from client.session import Session
 from client.store import Chunk, Entry, children, is_directory, stat, stats, told_below, walk, walk_names
@@ -31,17 +31,13 @@ def ls(session: Session, asked: Namespace, top: str) -> None:
     if not is_directory(session, top):
         found = [(top, stat(session, top))]
     elif asked.recursive:
-        found = sorted(((path, told) for path, told in told_below(session, top) if path != top), key=by_path)
+        # What stands in a directory follows it.
+        found = sorted(((path, told) for path, told in told_below(session, top) if path != top), key=lambda one: one[0].split("/"))
     else:
         names = children(session, top)
         found = zip(names, stats(session, (child(top, name) for name in names)))
     for name, told in found:
         say(entry_line(told, asked, name))
-
-
-def by_path(told: tuple[str, object]) -> list[str]:
-    """The order of paths in which what stands in a directory follows it."""
-    return told[0].split("/")
 
 
 @each_path
@@ -76,25 +72,23 @@ def count(session: Session, asked: Namespace, top: str) -> None:
 def tree(session: Session, asked: Namespace) -> None:
     """A picture of what stands below a path."""
     top = line_path(asked.path or ".", asked.folder)
-    below: dict[str, list[tuple[str, bool]]] = defaultdict(list)
-    for path, is_folder in walk_names(session, top):
-        if path != top:
-            below[parent(path)].append((path, is_folder))
 
     def draw(folder: str, before: str) -> None:
-        paths = sorted(below[folder])
-        for path, is_folder in paths:
-            is_last = path == paths[-1][0]
-            say(f"{before}{'└── ' if is_last else '├── '}{shown(last(path))}{'/' if is_folder else ''}")
-            draw(path, before + ("    " if is_last else "│   "))
+        names = children(session, folder)
+        final = max(names, default="")
+        for name, is_folder in names.items():
+            say(f"{before}{'└── ' if name == final else '├── '}{shown(name)}{'/' * is_folder}")
+            if is_folder:
+                draw(child(folder, name), before + ("    " if name == final else "│   "))
 
     say(shown(top))
-    draw(top, "")
+    if is_directory(session, top):
+        draw(top, "")
 
 
 def find(session: Session, asked: Namespace) -> None:
     top = line_path(asked.path, asked.folder)
-    for path, _ in sorted(walk_names(session, top), key=by_path):
+    for path, _ in sorted(walk_names(session, top), key=lambda one: one[0].split("/")):
         if asked.name is None or fnmatchcase(shown(last(path)), asked.name):
             say(shown(path))
 

@@ -10,7 +10,7 @@ import explain
 from client import shell
 from client.attempts import attempt
 from client.commands import COMMANDS, Command, add_commands, there, word
-from client.session import Ended, Session, Sizes
+from client.session import Ended, Session, Sizes, sizes_of
 from client.telling import MISUSED, WRONG, Failed, local, warn
 
 SHELL = Command("shell", shell.run, "a prompt for these commands", "shell -f commands.txt", (
@@ -49,7 +49,7 @@ def main(words: list[str]) -> int:
         file = None if asked.store == MEMORY else asked.store
         given = {name: getattr(asked, name) for name in Sizes._fields if getattr(asked, name) is not None}
         with local(None):
-            if wrong := explain.wrong_sizes(Sizes(**given)._asdict()):
+            if wrong := explain.wrong_sizes(sizes_of(file, given)._asdict()):
                 warn("\n".join(wrong))
                 return MISUSED
             if file and not asked.makes and not file.exists():

@@ -42,7 +42,7 @@ def shown_element(element: str) -> str:
 def line_path(text: str, folder: str = "/") -> str:
     """The path in lines of what somebody has typed, which may be relative to a folder of the store."""
     if text.startswith(AS_IT_STANDS):
-        return text.removeprefix(AS_IT_STANDS)
+        return re.sub(r"\s", lambda found: escaped(found[0]), text.removeprefix(AS_IT_STANDS))
     below = "/".join(map(escaped, text.split("/")))
     return posixpath.normpath("/" + posixpath.join(folder, below).lstrip("/"))
 

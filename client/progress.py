@@ -4,15 +4,14 @@ import sys
 import time
 from collections.abc import Iterable, Iterator
 
-UNITS = ("B", "K", "M", "G", "T")
 WIDTH = 30
 SECONDS_BETWEEN = 0.2
 
 
 def human(size: float) -> str:
     """A count of bytes as people read it."""
-    unit = min(max(int(size).bit_length() - 1, 0) // 10, len(UNITS) - 1)
-    return f"{size / 1_024**unit:.{min(unit, 1)}f} {UNITS[unit]}"
+    unit = min(max(int(size).bit_length() - 1, 0) // 10, 4)
+    return f"{size / 1_024**unit:.{min(unit, 1)}f} {'BKMGT'[unit]}"
 
 
 class Progress:

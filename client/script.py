@@ -45,10 +45,8 @@ def made_again(session: Session, entry: Entry, path: str, hidden: dict[str, dict
 def script(session: Session) -> Iterator[str]:
     """The lines of a script, with its digest at its end."""
     name, _ = phase(session)
-    if name == "rolling":
-        raise Refused("refused 12 RollingBack", "export")
     if name != "ordinary":
-        raise Failed("an upgrade stands, which a script can't take along: `upgrade finalize` or `upgrade rollback` first")
+        raise Failed(f"an upgrade stands (phase {name}), which a script can't take along: `upgrade status` says how it can end")
     hidden: dict[str, dict[str, Entry | Refused]] = defaultdict(dict)
     for place, told in removed(session).items():
         hidden[parent(place)][place] = told
@@ -103,8 +101,7 @@ def import_script(session: Session, asked: Namespace) -> None:
     if children(session, "/"):
         raise Failed("a script is for a new store, and something stands in this one")
     # The whole script is looked at before a line of it is asked.
-    for _ in checked_lines(asked.file):
-        pass
+    deque(checked_lines(asked.file), maxlen=0)
     files = Files()
     for answer in session.ask_all(checked_lines(asked.file)):
         files.passed(answer.line, answer.value)

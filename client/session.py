@@ -71,7 +71,7 @@ class Sizes(NamedTuple):
 
 def sizes_of(file: Path | None, given: dict[str, int]) -> Sizes:
     """Those of the first line of a store's file, or those of a new store."""
-    if file is None or not file.exists():
+    if file is None or not file.exists() or file.is_fifo():
         return Sizes(**given)
     with local(file), open(file, errors="replace") as log:
         return Sizes(**{name: int(size) for name, size in SIZE.findall(log.readline(1_000))})
@@ -83,7 +83,7 @@ def cost_of(line: str) -> int:
     return LINE_COST + len(line) + (2 * int(read[1]) if read else 0)
 
 
-class Session:
+class Session(contextlib.AbstractContextManager["Session"]):
     """A program that is asked lines, many of them before their answers come, so that its log is synced seldom."""
 
     def __init__(self, file: Path | None, given: dict[str, int], flags: Iterable[str] = (), is_recorded: bool = True):
@@ -104,17 +104,15 @@ class Session:
         self.sender, self.is_heard = Thread(target=self.send, daemon=True), False
         self.sender.start()
 
-    def __enter__(self) -> "Session":
-        return self
-
     def __exit__(self, kind: type | None, *_: object) -> None:
         self.unsent.put(b"")
-        if kind:
+        is_left = kind or self.asked
+        if is_left:
             # Nobody reads its answers any more, for which it may wait.
             self.program.stdout.close()
         self.sender.join()
         with self.said, contextlib.closing(self.program.stdout):
-            if self.program.wait() and kind is None:
+            if self.program.wait() and not is_left:
                 raise self.ended()
 
     def send(self) -> None:
@@ -147,7 +145,11 @@ class Session:
         own: deque[Answer] = deque()
         ahead = 0
         for line in lines:
-            self.ask_one(line, own)
+            if "\n" in line:
+                raise Failed(f"{line!r}: a line can't have an end of a line within it")
+            self.asked.append((line, own))
+            self.recorded.append(line)
+            self.unsent.put(bytes_of(f"{line}\n"))
             ahead += cost_of(line)
             while ahead > AHEAD_BYTES:
                 ahead -= cost_of(self.hear(own).line)
@@ -155,13 +157,6 @@ class Session:
         while ahead:
             ahead -= cost_of(self.hear(own).line)
             yield own.popleft()
-
-    def ask_one(self, line: str, own: deque[Answer]) -> None:
-        if "\n" in line:
-            raise Failed(f"{line!r}: a line can't have an end of a line within it")
-        self.asked.append((line, own))
-        self.recorded.append(line)
-        self.unsent.put(bytes_of(f"{line}\n"))
 
     def hear(self, own: deque[Answer]) -> Answer:
         """The first answer of a place. What is told before it is put into places of its own."""
@@ -205,8 +200,8 @@ class Session:
             return
         with open(self.file, newline="\n", encoding="utf-8", errors="surrogateescape") as log:
             next(log)
-            # A line that begins with # is a mark.
-            yield from (line.removesuffix("\n") for line in log if not line.startswith("#"))
+            # A line that begins with # is a mark. One may end with \r\n.
+            yield from (line.removesuffix("\n").removesuffix("\r") for line in log if not line.startswith("#"))
 
     def again(self) -> "Session":
         """A store without a file, that is asked nothing yet, for the lines of this one to be run again."""

@@ -50,7 +50,7 @@ class Shell:
 
     def do(self, typed: str) -> int | None:
         """Does what a line says, and answers the status of that."""
-        name, _, line = typed.partition(" ")
+        name, _, line = typed.lstrip().partition(" ")
         if self.is_in_lines or name == "lines" and line != "--help":
             # What stands in a line of the store is taken as it stands.
             return self.lines(self.session, Namespace(line=typed if self.is_in_lines else line))
@@ -111,20 +111,20 @@ def typed_lines(shell: Shell) -> Iterator[str]:
     """The lines that somebody types at a prompt."""
     with contextlib.suppress(OSError):
         HISTORY.parent.mkdir(parents=True, exist_ok=True)
-        atexit.register(readline.write_history_file, HISTORY)
+        atexit.register(attempt, lambda: readline.write_history_file(HISTORY))
+        readline.set_history_length(1_000)
         readline.read_history_file(HISTORY)
     readline.set_completer(shell.complete)
     readline.set_completer_delims(" ")
     readline.parse_and_bind("tab: complete")
-    try:
+    with contextlib.suppress(EOFError):
         while True:
             try:
                 yield input("lines> " if shell.is_in_lines else f"{shown(shell.folder)}> ")
             except KeyboardInterrupt:
                 # The line that was begun is given up.
                 print()
-    except EOFError:
-        print()
+    print()
 
 
 def run(session: Session, asked: Namespace) -> int | None:

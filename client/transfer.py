@@ -26,7 +26,6 @@ MOST_ELEMENTS = 64
 TOO_LONG = f"a name has {MOST_NAME_BYTES} bytes at most as it stands in lines, and a path {MOST_ELEMENTS} elements"
 # What follows the name of a store's file in the names of others that are made beside it.
 OWN = re.compile(r"(\.new|\.cut(\.\d+)?)?")
-TAIL_BYTES = 1_024
 
 
 class Local(NamedTuple):
@@ -50,13 +49,9 @@ def opened(file: Path) -> Iterator[BinaryIO]:
         yield source
 
 
-def pieces(source: BinaryIO) -> Iterator[bytes]:
-    return iter(lambda: source.read(LINE_BYTES), b"")
-
-
 def file_pieces(file: Path) -> Iterator[bytes]:
     with opened(file) as source:
-        yield from pieces(source)
+        yield from iter(lambda: source.read(LINE_BYTES), b"")
 
 
 def is_own(session: Session, file: Path) -> bool:
@@ -210,9 +205,11 @@ def append(session: Session, asked: Namespace) -> None:
     """Puts bytes of files, or of standard input, at the end of a file. One line is answered before the next is asked, so that no gap is left where
     one is refused."""
     path = line_path(asked.path, asked.folder)
+    if any(is_own(session, file) for file in asked.files or [Path("/dev/stdin")]):
+        raise Failed(f"{session.file}: the store isn't put into itself")
     if not session.told(f"stat {path}", NOT_FOUND).is_ok:
         session.ask("create", path)
-    parts = itertools.chain.from_iterable(map(file_pieces, asked.files)) if asked.files else pieces(sys.stdin.buffer)
+    parts = itertools.chain.from_iterable(map(file_pieces, asked.files)) if asked.files else iter(lambda: sys.stdin.buffer.read(LINE_BYTES), b"")
     with local("standard input"), closing(Progress(sum(file.stat().st_size for file in asked.files))) as progress:
         for line in write_lines(path, file_size(session, path), progress.counted(parts)):
             session.ask(line)

@@ -5,11 +5,12 @@ deleted, and the store itself is asked which of them stand."""
 
 from argparse import Namespace
 from bisect import bisect_left
+from collections.abc import Iterable, Iterator
 from datetime import datetime
 
 from client.attempts import each_path
 from client.names import child, hidden_parts, last, named, old_path, parent, shown
-from client.session import Session
+from client.session import Answer, Session
 from client.store import NO_REPLICA, Entry, report_all, stats
 from client.telling import NOT_FOUND, Failed, Refused, say
 
@@ -17,28 +18,37 @@ from client.telling import NOT_FOUND, Failed, Refused, say
 KEPT_SECONDS = 259_200
 
 
-def moves_of(line: str, told: str) -> list[tuple[str, str]]:
-    """From where to where an accepted line may have moved things."""
-    words = line.split(" ")
-    if words[0] == "mv":
-        return [(words[1], words[2]), (words[1], child(words[2], last(words[1])))]
-    if words[0] == "undelete":
-        return [(words[1], told)]
-    return [(words[-1], told)] if words[0] == "rm" and told != "false" else []
+def with_looks(lines: Iterable[str]) -> Iterator[str]:
+    """The same lines. Before each `mv` stands one that asks whether it leads into a directory."""
+    for line in lines:
+        if line.startswith("mv "):
+            yield f"stat {line.split(' ')[-1]}"
+        yield line
+
+
+def moves(answers: Iterable[Answer]) -> Iterator[tuple[str, str]]:
+    """From where to where each accepted line has moved something, of lines with such looks."""
+    is_into = False
+    for answer in answers:
+        word, *paths = answer.line.split(" ")
+        if answer.is_ok and word == "mv":
+            yield paths[0], child(paths[1], last(paths[0])) if is_into else paths[1]
+        elif answer.is_ok and word in ("undelete", "rm") and answer.value != "false":
+            yield paths[-1], answer.value
+        is_into = answer.text == "ok dir"
 
 
 def hidden_paths(session: Session) -> list[str]:
-    """Each place where something deleted may stand."""
+    """Each place where something deleted may stand. It stays one after a move away from it, since a rollback may bring that back."""
     places: list[str] = []
     with session.again() as again:
-        for answer in again.ask_all(session.history()):
-            for before, after in moves_of(answer.line, answer.text[3:]) if answer.is_ok else ():
-                # What stands below a path stands together in the order of texts.
-                below = places[bisect_left(places, f"{before}/") : bisect_left(places, f"{before}0")]
-                for place in [after + place.removeprefix(before) for place in below] + [after] * bool(hidden_parts(after)):
-                    at = bisect_left(places, place)
-                    if places[at : at + 1] != [place]:
-                        places.insert(at, place)
+        for before, after in moves(again.ask_all(with_looks(session.history()))):
+            # What stands below a path stands together in the order of texts.
+            below = places[bisect_left(places, f"{before}/") : bisect_left(places, f"{before}0")]
+            for place in [after + place.removeprefix(before) for place in below] + [after] * bool(hidden_parts(after)):
+                at = bisect_left(places, place)
+                if places[at : at + 1] != [place]:
+                    places.insert(at, place)
     return sorted(places, key=lambda path: hidden_parts(path)[1])
 
 

@@ -1,12 +1,12 @@
 """An upgrade: its beginning, how it stands, and its end."""
 
+import itertools
 import shlex
 from argparse import Namespace
 from collections import Counter, deque
-from collections.abc import Iterator
 
 from client.names import shown
-from client.session import Answer, Session
+from client.session import Session
 from client.store import heal, paths_of, phase, report_all, walk
 from client.telling import WELL, WRONG, Failed, Refused, say
 from client.transfer import opened
@@ -16,31 +16,23 @@ PREPARES = ("rollingUpgrade prepare", "prepare-commit")
 ROLLBACKS = ("rollingUpgrade rollback", "rollback-commit")
 
 
-def up_to_prepare(lines: Iterator[str]) -> Iterator[str]:
-    for line in lines:
-        yield line
-        if line in PREPARES:
-            return
-
-
-def runs_to_prepare(again: Session, lines: Iterator[str], epoch: int) -> None:
-    """Runs lines in a store without a file up to the prepare that began an epoch. No line after it is sent."""
-    while last := deque(again.ask_all(up_to_prepare(lines)), maxlen=1):
-        if last[0].line in PREPARES and last[0].text == f"ok {epoch}":
-            return
-    raise Failed(f"the lines of the store have no prepare of epoch {epoch}")
-
-
 def what_a_rollback_finds(session: Session) -> tuple[list[str], list[str], int]:
     """A line for each chunk of the prepare, with how many servers have it as it was, a line for each that none has, and as which line of the store,
     without marks, a rollback was begun last. The lines of the store are run again in one without a file, that one is rolled back, and its servers
     are asked. The store itself isn't touched. While it rolls back its epoch is already the next."""
     name, epoch = phase(session)
-    with session.again() as again:
-        runs_to_prepare(again, session.history(), epoch if name == "upgrade" else epoch - 1)
-        chunks = {handle: ", ".join(map(shown, paths)) for handle, paths in sorted(paths_of(walk(again, "/")).items())}
-    with session.again() as again:
-        begun = max((at for at, answer in enumerate(again.ask_all(session.history()), 1) if begins_a_rollback(answer)), default=0)
+    begins = f"ok {epoch - (name == 'rolling')}"
+    prepared = begun = 0
+    with session.again() as before, session.again() as again:
+        for at, answer in enumerate(again.ask_all(session.history()), 1):
+            prepared = at if answer.line in PREPARES and answer.text == begins else prepared
+            # One may have been refused at its commit.
+            if answer.line in (ROLLBACKS[0], "rollback-begin") and (answer.is_ok or answer.refusal.number == UNRESTORED):
+                begun = at
+        if not prepared:
+            raise Failed(f"the lines of the store have no prepare that was answered {begins}")
+        deque(before.ask_all(itertools.islice(session.history(), prepared)), maxlen=0)
+        chunks = {handle: ", ".join(map(shown, paths)) for handle, paths in sorted(paths_of(walk(before, "/")).items())}
         refusal = rolled_back(again, name)
         report_all(again)
         servers: Counter[int] = Counter()
@@ -53,11 +45,6 @@ def what_a_rollback_finds(session: Session) -> tuple[list[str], list[str], int]:
     told = [f"chunk {handle}, on {servers[handle]} of {all_of}: {paths}" for handle, paths in chunks.items()]
     lost = [f"chunk {handle} has no sound replica of the prepare: {paths}" for handle, paths in chunks.items() if not servers[handle]]
     return told, lost, begun
-
-
-def begins_a_rollback(answer: Answer) -> bool:
-    """Whether a line has begun a rollback, which may have been refused at its commit."""
-    return answer.line.rstrip() in (ROLLBACKS[0], "rollback-begin") and (answer.is_ok or answer.refusal.number == UNRESTORED)
 
 
 def rolled_back(session: Session, name: str) -> Refused | None:
@@ -98,9 +85,10 @@ def status(session: Session, asked: Namespace) -> int | None:
     if name == "rolling" and session.file:
         # A copy that ends at the mark before that line's batch is the store before it. A file of form 1 may have no mark there, and needs none.
         with opened(session.file) as lines:
-            marks = [at for at, line in enumerate(lines, 1) if line.startswith(b"#") and int(line.split()[1]) < begun]
-        before = f"head -n {max(marks, default=begun)} {shlex.quote(str(session.file))}"
-        say(f"`{before} > COPY` makes the store before it, where `upgrade finalize` can be done")
+            marks = {at: int(line.split()[1]) for at, line in enumerate(lines, 1) if line.startswith(b"#")}
+        if last := max((at for at, count in marks.items() if count < begun), default=0 if marks else begun):
+            before = f"head -n {last} {shlex.quote(str(session.file))}"
+            say(f"`{before} > COPY` makes the store before it. If the upgrade stands there, `upgrade finalize` can be done")
     return WRONG
 
 

@@ -60,6 +60,10 @@ class Checks(StoreCase):
     def test_paths_of_a_chunk(self) -> None:
         self.assertEqual(self.fs("fsck", "--chunk", "1"), "/g\n/a/f\n")
         self.assertEqual(self.fs("fsck", "--chunk", "9", status=1), "chunkfs: no file has chunk 9\n")
+        self.lines(*(f"lose {server} 3" for server in range(3)))
+        self.assertEqual(self.fs("fsck", "--chunk", "1"), "/g\n/a/f\n")
+        # Of a file whose last chunk no server has nobody tells the chunks.
+        self.assertEqual(self.fs("fsck", "--chunk", "3"), "/h\nchunkfs: chunk 3 is of none but these, whose chunks can't be told\n")
 
     def test_a_report(self) -> None:
         self.lines("lose 1 2", "beat 1", "rollingUpgrade prepare")

@@ -1,5 +1,6 @@
 import io
 import shlex
+import subprocess
 import sys
 from contextlib import redirect_stderr
 from pathlib import Path
@@ -8,6 +9,7 @@ from unittest.mock import patch
 import explain
 import launch
 
+from client import ROOT
 from client.commands import COMMANDS, STEPS
 from client.main import SHELL, open_missing, words_of
 from client.tests import TINY, StoreCase
@@ -47,6 +49,15 @@ class Words(StoreCase):
         self.assertIn("invalid choice: 'upgade' (choose from 'put', 'get',", self.fs("upgade", status=2))
         self.assertIn("invalid choice: 'stauts' (choose from 'prepare', 'status',", self.fs("upgrade", "stauts", status=2))
         self.assertIn("invalid choice: 'hlep'", self.fs("shell", said=b"hlep\n", status=2))
+
+    def test_sizes_of_a_store_that_stands(self) -> None:
+        self.sizes = {"servers": 5, "replicas": 5, "chunk": 16, "block": 4}
+        self.fs("mkdir", "/a")
+        words = [sys.executable, ROOT / "chunkfs", "--replicas", "5", self.store, "ls"]
+        self.assertEqual(subprocess.run(words, capture_output=True, check=True).stdout, b"a/\n")
+        self.store = self.folder / "new"
+        self.sizes = {"replicas": 5}
+        self.assertIn("1 to as many as servers, which are 3", self.fs("mkdir", "/a", status=2))
 
     def test_a_store_that_cant_be_one(self) -> None:
         self.store = self.folder

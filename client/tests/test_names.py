@@ -34,6 +34,7 @@ class Names(unittest.TestCase):
         # A file of this machine may have a name of that form. It isn't hidden in the store.
         self.assertEqual(line_path(f"/a/{HIDDEN}"), f"/a/{escaped(HIDDEN)}")
         self.assertEqual(named(line_path(f"/a/{HIDDEN}")), f"/a/{HIDDEN}")
+        self.assertEqual(line_path("lines:/a b\nc"), "/a%20b%0Ac")
         self.assertEqual(line_path("b c", "/a%20b/" + HIDDEN.replace(" ", "")), f"/a%20b/{HIDDEN.replace(' ', '')}/b%20c")
 
     def test_hidden_names(self) -> None:

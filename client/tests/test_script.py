@@ -1,3 +1,6 @@
+import hashlib
+
+from client.script import SUM
 from client.tests import TINY, StoreCase, tree_of
 
 
@@ -46,6 +49,12 @@ class Scripts(StoreCase):
         script.write_bytes(text)
         self.fs("import", "script")
         self.assertIn("something stands in this one", self.fs("import", "script", status=1))
+
+    def test_a_line_that_harms_is_refused(self) -> None:
+        self.store = self.folder / "new"
+        text = b"create /f\nlose 0 1\n"
+        self.local("script", text + f"{SUM}{hashlib.sha256(text).hexdigest()}\n".encode())
+        self.assertIn("lose 0: The line harms a store, or is one of a trial of faults", self.fs("import", "script", status=1))
 
     def test_what_is_refused(self) -> None:
         self.fs("export", "--to", "script")

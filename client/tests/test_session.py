@@ -59,7 +59,7 @@ class Sessions(StoreCase):
             with self.assertRaisesRegex(Failed, "can't have an end of a line"):
                 session.told("ls /a\nrm -r /a")
             self.assertEqual(session.ask("ls", "/"), "a/")
-        self.assertIn("can't have an end of a line", self.fs("ls", "lines:/a\nrm -r /a", status=1))
+        self.assertIn("3 NotFound", self.fs("ls", "lines:/a\nrm -r /a", status=1))
         self.assertEqual(self.fs("ls"), "a/\n")
 
     def test_an_interrupt_while_an_answer_is_awaited_kills_the_program(self) -> None:

@@ -20,7 +20,7 @@ def refused(number: int) -> Refused:
 
 class Refusals(unittest.TestCase):
     def test_each_has_a_meaning_and_what_to_do(self) -> None:
-        self.assertEqual(sorted(told()), list(range(1, 39)))
+        self.assertEqual(sorted(told()), list(range(1, 41)))
         for number, row in told().items():
             self.assertTrue(row["what it says"].endswith("."), number)
             # This one is met at the start alone, and the program says then what is wrong.

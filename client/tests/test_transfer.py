@@ -170,6 +170,28 @@ class Transfers(StoreCase):
             self.assertEqual(f"chunkfs: {disk / name}: no space left on device\n", self.fs(*words, status=1))
             self.assertEqual(list(disk.iterdir()), [])
 
+    def test_who_cant_write_what_comes_leaves_the_store(self) -> None:
+        self.sizes = {}
+        self.local("big", bytes(12_000_000))
+        self.fs("put", "big", "/")
+        with open("/dev/full", "wb") as full:
+            done = subprocess.run(self.command("cat", "/big"), stdout=full, stderr=subprocess.PIPE, timeout=300)
+        self.assertEqual(done.returncode, 1)
+        self.assertIn(b"chunkfs: standard output: no space left on device\n", done.stderr)
+        limited = ["prlimit", "--fsize=2000000", *self.command("get", "/big", "out")]
+        done = subprocess.run(limited, stdout=subprocess.DEVNULL, stderr=subprocess.PIPE, timeout=300)
+        self.assertEqual(done.returncode, 1)
+        self.assertIn(b": file too large\n", done.stderr)
+        self.assertEqual(self.fs("ls"), "big\n")
+
+    def test_the_store_isnt_appended_to_itself(self) -> None:
+        self.fs("mkdir", "/a")
+        self.assertIn("the store isn't put into itself", self.fs("append", "/f", self.store, status=1))
+        with open(self.store, "rb") as own:
+            done = subprocess.run(self.command("append", "/f"), stdin=own, stderr=subprocess.PIPE, timeout=300)
+        self.assertIn(b"the store isn't put into itself", done.stderr)
+        self.assertEqual(self.fs("ls"), "a/\n")
+
     def test_what_came_otherwise_is_told_and_gets_no_name(self) -> None:
         self.local("f", b"f")
         with patch("client.transfer.file_sha256", return_value="another"):

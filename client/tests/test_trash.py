@@ -1,7 +1,11 @@
 import re
+import subprocess
 
+import launch
+
+from client.session import Answer
 from client.tests import TINY, StoreCase
-from client.trash import moves_of
+from client.trash import hidden_paths, moves, with_looks
 
 LISTED = re.compile(r"^(\S+ \S+) +(\S+) (\S+) (\S+)$", re.MULTILINE)
 
@@ -67,8 +71,26 @@ class Trash(StoreCase):
         self.assertEqual(self.listed(), [])
 
     def test_which_lines_move(self) -> None:
-        self.assertEqual(moves_of("mv /a /b", ""), [("/a", "/b"), ("/a", "/b/a")])
-        self.assertEqual(moves_of("rm -r /a", "/.deleted.x"), [("/a", "/.deleted.x")])
-        self.assertEqual(moves_of("undelete /x", "/a"), [("/x", "/a")])
-        for line, told in (("rm /a", "false"), ("mkdir /a", ""), ("ls /a", "b")):
-            self.assertEqual(moves_of(line, told), [])
+        self.assertEqual(list(with_looks(["mkdir /b", "mv /a /b"])), ["mkdir /b", "stat /b", "mv /a /b"])
+        told = (("stat /b", "ok dir"), ("mv /a /b", "ok"), ("stat /c", "refused 3 NotFound"), ("mv /a /c", "ok"), ("mv /a /d", "refused 3 NotFound"))
+        self.assertEqual(list(moves(Answer(*one) for one in told)), [("/a", "/b/a"), ("/a", "/c")])
+        told = (("rm -r /a", "ok /.deleted.x"), ("undelete /x", "ok /a"), ("rm /a", "ok false"), ("mkdir /a", "ok"), ("ls /a", "ok b"))
+        self.assertEqual(list(moves(Answer(*one) for one in told)), [("/a", "/.deleted.x"), ("/x", "/a")])
+
+    def test_places_dont_grow_with_renames(self) -> None:
+        self.lines("create /a/f", "rm /a/f", *(["mv /a /b", "mv /b /a"] * 40))
+        self.assertEqual(self.listed(), [("0", "/a/f")])
+        with self.session() as session:
+            self.assertEqual(len(hidden_paths(session)), 2)
+
+    def test_a_move_of_a_path_that_is_nearly_too_deep(self) -> None:
+        deep = "/a" + "".join(f"/{number}" for number in range(62))
+        self.lines(f"create {deep}/f", f"rm {deep}/f", "mv /a /b")
+        self.assertEqual(len(self.listed()), 1)
+
+    def test_lines_that_end_as_in_dos(self) -> None:
+        lines = b"mkdir /a\r\ncreate /a/x\r\nrm /a/x\r\nmv /a /b\r\n"
+        words = [launch.program_of("chunkkeep").path, self.store, "--chunk", "16", "--block", "4"]
+        subprocess.run(words, input=lines, stdout=subprocess.DEVNULL, stderr=subprocess.DEVNULL, check=True)
+        self.assertEqual(self.listed(), [("0", "/b/x")])
+        self.assertIn("/b/x is back", self.fs("undelete", "/b/x"))

@@ -1,6 +1,8 @@
 import re
 import subprocess
 
+import launch
+
 from client.tests import TINY, StoreCase
 
 
@@ -49,7 +51,8 @@ class Upgrades(StoreCase):
             self.assertIn("12 RollingBack", self.fs("ls", status=1))
         self.assertIn("12 RollingBack", self.fs("upgrade", "finalize", status=1))
         told = self.fs("export", status=1)
-        self.assertTrue(told.startswith("chunkfs: export: The master is rolling back. (12 RollingBack) `upgrade rollback` goes on"), told)
+        self.assertEqual(told, "chunkfs: an upgrade stands (phase rolling), which a script can't take along: `upgrade status` says how it can end\n")
+        self.assertTrue(self.fs("report", status=1).startswith("phase rolling, epoch 2\n"))
         told = self.fs("upgrade", "status", status=1)
         self.assertIn("phase rolling, epoch 2: until the rollback is done the store answers nothing else\nchunk 1, on 2 of 3 servers as it was at the prepare: /f\nchunk 2, on 0 of 3", told)
         self.assertNotIn("keeps what stands now", told)
@@ -77,6 +80,17 @@ class Upgrades(StoreCase):
         self.assertEqual(self.fs("ls"), "d/\nf\ng\n")
         self.assertIn("phase upgrade, epoch 1", self.fs("upgrade", "status", status=1))
         self.assertIn("finalized, epoch 2", self.fs("upgrade", "finalize"))
+
+    def test_no_copy_is_told_where_no_mark_stands_before_the_rollback(self) -> None:
+        self.store.unlink()
+        words = [launch.program_of("chunkkeep").path, self.store, "--chunk", "16", "--block", "4", "--lab"]
+        lost = "".join(f"lose {server} 1\n" for server in range(3))
+        lines = f"create /f\r\nwrite /f 0 61\r\nrollingUpgrade prepare\r\n{lost}rollingUpgrade rollback\n"
+        told = subprocess.run(words, input=lines.encode(), capture_output=True, check=True).stdout
+        self.assertTrue(told.endswith(b"refused 16 Unrestored 1\n"), told)
+        told = self.fs("upgrade", "status", status=1)
+        self.assertIn("chunk 1, on 0 of 3", told)
+        self.assertNotIn("COPY", told)
 
     def test_where_a_file_of_form_1_is_cut(self) -> None:
         self.lines("rollingUpgrade prepare", "mkdir /d", "lose 0 1", "lose 1 1", "lose 2 1", "rollback-begin")
