@@ -85,10 +85,10 @@ def status(session: Session, asked: Namespace) -> int | None:
     if name == "rolling" and session.file:
         # A copy that ends at the mark before that line's batch is the store before it. A file of form 1 may have no mark there, and needs none.
         with opened(session.file) as lines:
-            marks = {at: int(line.split()[1]) for at, line in enumerate(lines, 1) if line.startswith(b"#")}
-        if last := max((at for at, count in marks.items() if count < begun), default=0 if marks else begun):
-            before = f"head -n {last} {shlex.quote(str(session.file))}"
-            say(f"`{before} > COPY` makes the store before it. If the upgrade stands there, `upgrade finalize` can be done")
+            is_first = next(lines).startswith(b"chunkkeep 1 ")
+            marks = [at for at, line in enumerate(lines, 2) if line.startswith(b"#") and int(line.split()[1]) < begun]
+        if last := max(marks, default=begun * is_first):
+            say(f"`head -n {last} {shlex.quote(str(session.file))} > COPY` makes the store before it. An upgrade that stands there can be finalized")
     return WRONG
 
 
