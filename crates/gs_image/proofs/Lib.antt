@@ -1,0 +1,5 @@
+mod Numbers
+mod Parts
+mod Refusing
+mod Finding
+mod Putting
