@@ -45,8 +45,8 @@ part_found bytes part rest n h told long is has behind =
     sym (take-append-drop n (drop 8 bytes)) ∙ ap (λ (l : List ℕ). l ++ drop n (drop 8 bytes)) (sym is) ∙ ap (λ (l : List ℕ). part ++ l) (drop-drop n 8 bytes) in (
       omega (arith, size, fits),
       sym (take-append-drop 8 bytes)
-      ∙ ap (λ (l : List ℕ). l ++ drop 8 bytes) first
-      ∙ ap (λ (l : List ℕ). number (length part) ++ l) (middle ∙ ap (λ (l : List ℕ). part ++ l) last ∙ sym (append_assoc part (sha256 part) rest)),
+          ∙ ap (λ (l : List ℕ). l ++ drop 8 bytes) first
+          ∙ ap (λ (l : List ℕ). number (length part) ++ l) (middle ∙ ap (λ (l : List ℕ). part ++ l) last ∙ sym (append_assoc part (sha256 part) rest)),
     )
 
 -- ---- parts

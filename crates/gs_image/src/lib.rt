@@ -9,3 +9,6 @@ mod writing;
 pub use fault::ImageFault;
 pub use reading::read;
 pub use writing::ImageWriter;
+
+#[cfg(test)]
+mod tests;
