@@ -1,10 +1,9 @@
 -- What the functions of a reading find.
-use Rattle.std.proofs.Common.{◌≡◌, ◌≢◌, ◌<◌, ◌≤◌, ◌+◌, ◌-◌, ◌^◌, ◌++◌, ◌∷◌, [], ℕ, List, length, map, take, drop, refl, sym, ap, subst, ◌∙◌, arith, append_assoc, length-append, length-drop, Result, Ok, Err, Bor}
+use Rattle.std.proofs.Common.{◌≡◌, ◌<◌, ◌≤◌, ◌+◌, ◌-◌, ◌^◌, ◌++◌, ◌∷◌, [], ℕ, List, length, take, drop, refl, sym, ap, subst, ◌∙◌, arith, append_assoc, length-append, length-drop, Err, Bor}
 use Rattle.std.specs.List.{flat_map, AllByRecursion}
-use Rattle.std.proofs.lemmas.List.{drop-drop, flat_map_more, length-take-le, map_push, take-append-drop, take_all}
+use Rattle.std.proofs.lemmas.List.{drop-drop, flat_map_more, length-take-le, map_push, take-append-drop}
 use Rattle.byteorder.specs.Endian.{big_number}
 use Rattle.sha2.specs.Sha256.{sha256}
-use Rattle.sha2.proofs.Facts256.{length-sha256}
 use Rattle.gs_image.specs.Images.{AreParts, AreShort, body, front, magic, number, part_written, version, written}
 use Rattle.gs_image.specs.Refused.{EndsInPart, HasOtherDigest, IsWrongAt, Refuses, pointed}
 use Rattle.gs_image.specs.inner.Found.{FindsEnd, FindsFront, FindsPart, FindsParts}

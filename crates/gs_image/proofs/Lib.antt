@@ -3,3 +3,4 @@ mod Parts
 mod Refusing
 mod Finding
 mod Putting
+mod Worked

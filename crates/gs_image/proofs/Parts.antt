@@ -7,7 +7,7 @@ use Rattle.sha2.specs.Sha256.{sha256}
 use Rattle.sha2.proofs.Facts256.{length-sha256}
 use Rattle.gs_image.specs.Images.{AreParts, AreShort, body, front, number, part_written}
 use Rattle.gs_image.specs.Refused.{digest_at, part_at}
-use Rattle.gs_image.proofs.Numbers.{number_told, split_front}
+use Rattle.gs_image.proofs.Numbers.{number_told}
 
 -- ---- one part
 
@@ -71,11 +71,14 @@ pub front_same : (m n : ℕ) (x y : List ℕ) → m < 2 ^ 64 → n < 2 ^ 64 → 
 front_same m n x y fits fits' same =
     (sym (number_told m x fits) ∙ ap (λ (l : List ℕ). big_number 8 (drop 19 l)) same ∙ number_told n y fits', ap (λ (l : List ℕ). drop 27 l) same)
 
+none_more : (ps qs more : List (List ℕ)) → qs ≡ ps ++ more → length ps ≡ length qs → more ≡ []
+none_more ps qs more is many = nil_from_length more (omega (arith, many, ap length is, length-append ps more))
+
 pub bodies_same : (ps qs : List (List ℕ)) (x y : List ℕ) → AreParts ps → AreParts qs → body ps ++ x ≡ body qs ++ y → (ps ≡ qs) × (x ≡ y)
 bodies_same ps qs x y are are' same =
     let f = flat_map part_written in
     let (many, rest) = front_same (length ps) (length qs) (f ps ++ x) (f qs ++ y) are.0 are'.0
     (sym (append_assoc (front (length ps)) (f ps) x) ∙ same ∙ append_assoc (front (length qs)) (f qs) y) in
     let g = goes_on ps qs x y are.1 are'.1 (omega (arith, many)) rest in
-    let none : g.more ≡ [] = nil_from_length g.more (omega (arith, many, ap length g.is, length-append ps g.more)) in
+    let none = none_more ps qs g.more g.is many in
     (sym (g.is ∙ ap (λ (l : List (List ℕ)). ps ++ l) none ∙ append-nil ps), g.behind ∙ ap (λ (l : List (List ℕ)). f l ++ y) none)

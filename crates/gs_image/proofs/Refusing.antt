@@ -1,18 +1,17 @@
 -- Bytes that are refused are no image.
-use Rattle.std.proofs.Common.{◌≡◌, ◌≢◌, ◌<◌, ◌≤◌, ◌+◌, ◌^◌, ◌++◌, ◌∷◌, [], ℕ, List, length, take, drop, refl, sym, ap, subst, ◌∙◌, arith, append_assoc, length-append, Result, Ok, Err, Bor, inl, inr}
+use Rattle.std.proofs.Common.{◌≡◌, ◌<◌, ◌^◌, ◌++◌, ◌∷◌, [], ℕ, List, length, take, drop, refl, sym, ap, subst, ◌∙◌, arith, append_assoc, length-append, Result, Ok, Err, Bor, inl, inr}
 use Rattle.std.specs.Prelude.{◌⊎◌, IfErr}
 use Rattle.std.specs.Global.{Vec}
 use Rattle.std.specs.List.{flat_map}
 use Rattle.std.proofs.lemmas.List.{take_all}
-use Rattle.byteorder.specs.Endian.{big_number}
 use Rattle.sha2.specs.Sha256.{sha256}
 use Rattle.sha2.proofs.Facts256.{length-sha256}
-use Rattle.gs_image.specs.Images.{AreParts, AreShort, body, front, part_written, written}
-use Rattle.gs_image.specs.Refused.{EndsInDigest, EndsInPart, HasBytesBehind, HasOtherDigest, HasWrongEnd, HasWrongPart, IsNoImage, IsOtherDigest, Reads, Refuses, digest_at, part_at, pointed}
-use Rattle.gs_image.specs.Promises.{Gives, ImagesTellParts, RefusedBytesAreNoImage, WhatWasWrittenIsRead}
+use Rattle.gs_image.specs.Images.{AreShort, body, front, part_written, written}
+use Rattle.gs_image.specs.Refused.{EndsInDigest, EndsInPart, HasBytesBehind, HasOtherDigest, HasWrongEnd, HasWrongPart, IsNoImage, IsOtherDigest, Reads, pointed}
+use Rattle.gs_image.specs.Promises.{ImagesTellParts, RefusedBytesAreNoImage, WhatWasWrittenIsRead}
 use Rattle.gs_image.specs.declared.fault.ImageFault.{ImageFault}
 use Rattle.gs_image.specs.declared.fault.ImageFault.TheVariants as fault
-use Rattle.gs_image.proofs.Parts.{GoesOn, bodies_same, digest_told, front_same, goes_on, length_told, part_long, part_told}
+use Rattle.gs_image.proofs.Parts.{bodies_same, digest_told, front_same, goes_on, length_told, part_long, part_told}
 
 -- a written part isn't wrong
 not_ended : (part rest : List ℕ) → length part < 2 ^ 64 → EndsInPart (part_written part ++ rest) → ⊥

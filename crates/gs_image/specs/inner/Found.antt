@@ -1,5 +1,5 @@
 -- What the functions of a reading find.
-use Rattle.std.specs.Prelude.{◌≡◌, ◌≢◌, ◌<◌, ◌^◌, ◌++◌, ℕ, List, length, take, drop, flat_map, Result, Ok, Err}
+use Rattle.std.specs.Prelude.{◌≡◌, ◌<◌, ◌^◌, ◌++◌, ℕ, List, length, flat_map, Result, Ok, Err}
 use Rattle.sha2.specs.Sha256.{sha256}
 use Rattle.gs_image.specs.Images.{AreShort, front, part_written}
 use Rattle.gs_image.specs.Refused.{EndsInDigest, EndsInPart, HasBytesBehind, HasOtherDigest, IsOtherDigest, IsWrongAt, Refuses, pointed}

@@ -1,4 +1,4 @@
-use Rattle.std.proofs.Common.{◌≡◌, ◌+◌, ◌-◌, rules, arith, ◌∙◌, ap, sym, take, drop, List, ℕ}
+use Rattle.std.proofs.Common.{◌≡◌, ◌+◌, ◌-◌, rules, arith, ◌∙◌, ap, sym, take, drop, ℕ}
 use Rattle.std.proofs.lemmas.List.{take_rest}
 use Rattle.sha2.specs.Sha256.{sha256}
 use Rattle.gs_image.proofs.Finding.{part_found}
