@@ -1,0 +1,6 @@
+mod Numbers
+mod Parts
+mod Refusing
+mod Finding
+mod Putting
+mod Worked

@@ -1,0 +1,4 @@
+pub mod Images
+pub mod Refused
+pub mod Promises
+pub mod inner
