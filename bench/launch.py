@@ -254,13 +254,6 @@ def is_explained(name: str, words: list[str]) -> bool:
     return name == "chunkstore" and None not in streams and ("--explain" in words or sys.stderr.isatty())
 
 
-def is_standard_error(word: str) -> bool:
-    """Whether standard error is the file of that name, into which nothing may be told then."""
-    with contextlib.suppress(OSError, ValueError):
-        return os.path.samestat(os.stat(word), os.fstat(2))
-    return False
-
-
 def main(name: str, words: list[str]) -> int:
     for number in (signal.SIGTERM, signal.SIGHUP):
         signal.signal(number, lambda number, _: sys.exit(128 + number))
@@ -276,7 +269,8 @@ def main(name: str, words: list[str]) -> int:
     program = program_of(name)
     if is_explained(name, words):
         return explain.run_explaining(program.path, name, [word for word in words if word != "--explain"])
-    if name == "chunkkeep" and sys.stderr and not any(map(is_standard_error, words)):
+    # A store that stands has sizes of its own.
+    if name == "chunkkeep" and sys.stderr and not any(map(os.path.exists, words)):
         explain.tell_sizes(name, words)
     # Python ignores these, and a program that it becomes would too.
     for number in (signal.SIGPIPE, signal.SIGXFSZ):
