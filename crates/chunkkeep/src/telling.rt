@@ -41,6 +41,8 @@ impl<'a, R: Eprint + Clock> Teller<'a, R> {
 }
 
 impl<R: Eprint + Clock> Progress for Teller<'_, R> {
+    fn measured(&mut self, _rest: u64) {}
+
     fn passed(&mut self, lines: u64) {
         if lines % LINES != 0 {
             return;
