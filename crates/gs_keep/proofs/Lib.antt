@@ -6,3 +6,4 @@ pub mod Logs
 pub mod Rounds
 pub mod Replaying
 pub mod Going
+pub mod Standings

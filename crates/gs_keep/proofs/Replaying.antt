@@ -17,7 +17,7 @@ use Rattle.gs_keep.specs.declared.again.ReplayFault.TheVariants as fault
 use Rattle.gs_keep.proofs.Batches.{again_join, all_join, joined_join, marked_join, text_join, totals_join, with_join}
 use Rattle.gs_keep.proofs.Lines.{next_plain, short_logged, short_test}
 
-both_parts : (xs : List ℕ) → take_through 10 xs ++ drop_through 10 xs ≡ xs
+pub both_parts : (xs : List ℕ) → take_through 10 xs ++ drop_through 10 xs ≡ xs
 both_parts [] = refl
 both_parts (x ∷ xs) = at (eqb x 10) (both_parts xs)
   where

@@ -58,6 +58,14 @@ blames_log (Err (fault.Serve keep.Unended)) = false
 blames_log (Err (fault.Serve keep.TooMany)) = false
 blames_log (Err (fault.Serve keep.Log)) = true
 
+-- A log isn't changed before its lines are run again, and what stands after them is put aside.
+abbrev pub IsUntouched : StoreFault → Type 0 → Type 0
+IsUntouched (fault.Replay f) same = same
+IsUntouched fault.Aside same = same
+IsUntouched fault.Cut same = Unit {0}
+IsUntouched (fault.Begin f) same = Unit {0}
+IsUntouched (fault.Serve f) same = Unit {0}
+
 -- A run that blames the reader of the log, or of the input, or the writer is told so by it.
 abbrev pub IsTold : StoreFault → Type 0 → Type 0 → Type 0 → Type 0
 IsTold (fault.Replay again.Read) unlogged unread unsent = unlogged

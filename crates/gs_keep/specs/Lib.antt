@@ -4,3 +4,4 @@ pub mod Sending
 pub mod Serving
 pub mod Replaying
 pub mod Keeping
+pub mod Starting

@@ -58,6 +58,9 @@ pub struct Replayed {
 
 /// Whoever is told how far a log has been run again.
 pub trait Progress {
+    /// What is run again is known, and so many bytes stand after it.
+    fn measured(&mut self, rest: u64);
+
     /// So many lines have been run.
     fn passed(&mut self, lines: u64);
 

@@ -8,6 +8,9 @@ mod fault;
 mod keeping;
 mod rest;
 mod sending;
+mod source;
+mod standing;
+mod starting;
 mod turns;
 mod whole;
 
@@ -16,5 +19,8 @@ pub use fault::{KeepFault, StoreFault};
 pub use keeping::Keeping;
 pub use rest::Rest;
 pub use sending::Answers;
+pub use source::{Aside, Made, Making, Source};
+pub use standing::{FirstLineFault, Standing, StandingFault, found_in};
+pub use starting::{StartFault, start};
 pub use turns::serve;
 pub use whole::keep_on;

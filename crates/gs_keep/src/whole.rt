@@ -3,7 +3,7 @@ ghost use Rattle.std.specs.Prelude.{◌≡◌, ◌≤◌, false, length, IfErr, 
 ghost use Rattle.gs_keep_log.specs.Log.{LogDoes, shortened, whole};
 ghost use Rattle.gs_shell_line.specs.Ended.{HasNoMore, remaining};
 ghost use Rattle.gs_keep.specs.Sending.{HasStopped, sent};
-ghost use Rattle.gs_keep.specs.Keeping.{AsideAs, IsTold, KeepsOn, LeavesFront, LeavesRest, ReadsLog, StoreFails, blames_log};
+ghost use Rattle.gs_keep.specs.Keeping.{AsideAs, IsTold, IsUntouched, KeepsOn, LeavesFront, LeavesRest, ReadsLog, StoreFails, blames_log};
 
 use crate::again::{Progress, replay};
 use crate::fault::StoreFault;
@@ -61,6 +61,7 @@ pub fn keep_on<M: Keeping, L: Log, B: BufRead, A: Rest, R: BufRead, W: Write, P:
         KeepsOn M.Answers M.is_kept M.is_turned_away machine.old head.now script input len (L.holds log.old) (L.holds log.new) (sent W.contents writer.old) (sent W.contents writer.new) machine.new))) }
     ensures err { IfErr result (λ e. IfSome (remaining B.remaining logged.old) (λ script. IfSome (remaining R.remaining reader.old) (λ input.
         StoreFails M.Answers M.is_kept M.is_turned_away e machine.old head.now script input (remaining R.remaining reader.new) len (L.holds log.old) (L.holds log.new) (sent W.contents writer.old) (sent W.contents writer.new) machine.new))) }
+    ensures untouched { IfErr result (λ e. IsUntouched e (log.new ≡ log.old)) }
     ensures aside { AsideAs result (A.is_alone rest.new) }
     ensures same { A.bytes rest.new ≡ A.bytes rest.old }
     ensures failed { L.has_failed log.new ≡ blames_log result }

@@ -49,6 +49,8 @@ const NO_FAULT: Fault = Fault {
 struct Nobody;
 
 impl Progress for Nobody {
+    fn measured(&mut self, _rest: u64) {}
+
     fn passed(&mut self, _lines: u64) {}
 
     fn ended(&mut self, _replayed: Replayed) {}
