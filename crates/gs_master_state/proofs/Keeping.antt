@@ -17,13 +17,13 @@ use Rattle.gs_base.specs.declared.refusal.Refusal.{Refusal}
 use Rattle.gs_refs.specs.Counts.{Counts, lowered_each, raised_each}
 use Rattle.gs_path.specs.Path.{Name, Path, path_total, begins, same_name}
 use Rattle.gs_tree.specs.Chunks.{rows_under}
-use Rattle.gs_tree.specs.Edits.{last, moved, old_name, parent, remove, same_path}
+use Rattle.gs_tree.specs.Edits.{last, moved, old_name, parent, same_path}
 use Rattle.gs_tree.specs.Find.{Rows, at}
 use Rattle.gs_tree.specs.Follows.{FollowsPlain}
 use Rattle.gs_tree.specs.Entry.{Entry}
 use Rattle.gs_tree.specs.Listing.{HasVisible, HasVisibleBut}
-use Rattle.gs_tree.specs.Places.{IsTakenOut, KeepsPlace, can_return, put_back, returned, without_place}
-use Rattle.gs_tree.specs.Plain.{Plain, Same, after, part_at, rooted, with_at, without}
+use Rattle.gs_tree.specs.Places.{KeepsPlace, can_return, put_back, returned, without_place}
+use Rattle.gs_tree.specs.Plain.{Plain, after, part_at, rooted, with_at, without}
 use Rattle.gs_tree.specs.declared.inverse.TreeInverse.{TreeInverse}
 use Rattle.gs_tree.specs.declared.inverse.TreeInverse.TheVariants.{Moved, Removed}
 use Rattle.gs_tree.proofs.Children.{match_map}

@@ -1,4 +1,4 @@
-use Rattle.std.proofs.Common.{◌≡◌, ◌∙◌, true, false, ap, refl, subst, sym}
+use Rattle.std.proofs.Common.{◌≡◌, ◌∙◌, true, false, refl, subst, sym}
 use Rattle.std.specs.Prelude.{IfOk}
 use Rattle.gs_edit.specs.Places.{is_move}
 use Rattle.gs_edit.specs.declared.edit.Edit.{Edit}

@@ -1,17 +1,12 @@
-use Rattle.std.proofs.Common.{◌≡◌, ◌⊎◌, ◌∙◌, [], ◌∷◌, ◌++◌, ap, refl, subst, sym}
+use Rattle.std.proofs.Common.{◌≡◌, ◌∙◌, [], ◌∷◌, ◌++◌, ap, subst, sym}
 use Rattle.std.specs.List.{list_any}
-use Rattle.std.specs.Prelude.{Err, Ok, Result}
-use Rattle.gs_base.specs.declared.refusal.Refusal.TheVariants.{Memory}
+use Rattle.std.specs.Prelude.{Ok}
 use Rattle.gs_edit.specs.Edits.{renamed}
 use Rattle.gs_edit.specs.View.{NamesView}
-use Rattle.gs_edit.specs.declared.edit.Edit.{Edit}
 use Rattle.gs_edit.specs.declared.edit.Edit.TheVariants as edits
 use Rattle.gs_path.specs.Path.{begins}
-use Rattle.gs_tree.specs.Find.{at}
-use Rattle.gs_tree.specs.Plain.{with_at}
-use Rattle.gs_refs.specs.Counts.{raised_each}
 use Rattle.std.specs.FinMap.{get}
-use Rattle.gs_master_state.specs.inner.Held.{HeldView, IsSeen, KeepsAll, StandsBy, all_but_last, without_kept}
+use Rattle.gs_master_state.specs.inner.Held.{HeldView, IsSeen, KeepsAll, StandsBy, without_kept}
 use Rattle.gs_master_state.proofs.Edits.{names_after}
 use Rattle.gs_master_state.proofs.Keeping.{removal_made}
 use Rattle.gs_master_state.proofs.held_names.HeldNames.enter_removal.Goals as goal

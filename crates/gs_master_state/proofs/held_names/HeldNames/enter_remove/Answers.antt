@@ -1,4 +1,4 @@
-use Rattle.std.proofs.Common.{◌≡◌, [], true, false, not, ap}
+use Rattle.std.proofs.Common.{◌≡◌, false, ap}
 use Rattle.std.specs.List.{list_any}
 use Rattle.gs_path.specs.Path.{begins}
 use Rattle.gs_master_state.proofs.held_names.HeldNames.enter_remove.Goals as goal

@@ -1,5 +1,4 @@
-use Rattle.std.proofs.Common.{rules, ◌≡◌, ◌∙◌, [], ap, refl, subst, sym}
-use Rattle.gs_edit.specs.View.{NamesView}
+use Rattle.std.proofs.Common.{rules, ◌≡◌, ◌∙◌, [], ap, subst, sym}
 use Rattle.gs_master_state.specs.inner.Held.{ArePlaces, HeldView, still, without_kept}
 use Rattle.gs_master_state.proofs.Keeping.{keeps_none, none_kept}
 use Rattle.gs_master_state.proofs.held_names.HeldNames.give_up_places.Goals as goal

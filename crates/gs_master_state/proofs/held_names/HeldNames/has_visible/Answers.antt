@@ -4,7 +4,7 @@ use Rattle.std.specs.FinMap.{get}
 use Rattle.gs_edit.specs.View.{NamesView}
 use Rattle.gs_tree.specs.Listing.{HasVisible, HasVisibleBut}
 use Rattle.gs_tree.specs.Plain.{part_at}
-use Rattle.gs_master_state.specs.inner.Held.{HeldView, without_kept}
+use Rattle.gs_master_state.specs.inner.Held.{HeldView}
 use Rattle.gs_master_state.proofs.Keeping.{other_parts, same_parts, visible_beside, visible_elsewhere, visible_first}
 use Rattle.gs_master_state.proofs.held_names.HeldNames.has_visible.Goals as goal
 

@@ -1,7 +1,6 @@
-use Rattle.std.proofs.Common.{◌≡◌, ◌∙◌, [], ◌∷◌, ◌++◌, ap, subst, sym}
-use Rattle.gs_path.specs.Path.{Path}
+use Rattle.std.proofs.Common.{◌≡◌, ◌∙◌, ap, subst, sym}
 use Rattle.gs_edit.specs.View.{NamesView}
-use Rattle.gs_master_state.specs.inner.Held.{ArePlaces, HeldView, HiddenBehind, KeepsAll, all_but_last, without_kept}
+use Rattle.gs_master_state.specs.inner.Held.{ArePlaces, HeldView, KeepsAll, all_but_last, without_kept}
 use Rattle.gs_master_state.specs.inner.TakingBack.{AreNamesBefore, IsLastPlace}
 use Rattle.gs_master_state.specs.declared.undo.NamesBefore.TheVariants.{Removed as RemovedFrom}
 use Rattle.gs_master_state.proofs.Keeping.{but_last, hidden_left, put_home, rest_is, stood_again}
