@@ -43,8 +43,7 @@ returns-clause-back c =
     let seen : record { names = without_kept c.self.inside.places.items c.self.inside.names; places = c.self.inside.places.items } ≡ c.args.self.now = c.self.view_is in
     let apart = ap (λ (v : HeldView). list_any (begins c.args.path.now) v.places) seen ∙ c.requires.apart in
     let does = removal_made c.args.path.now c.in_ok-path.path c.in_ok-kept.kept c.self.inside.places.items c.push_within.new.items.items c.self.inside.names c.remove_keeping_place.new.self c.in-Ok.out.node c.in-Ok.out.chunks.items
-    c.in_ok-path.ensures c.in_ok-kept.ensures (c.push_within.ensures.items ∙ ap (λ ps. ps ++ c.in_ok-kept.kept ∷ []) c.reserve.ensures.items) c.self.invariant.0 apart c.in-Ok.ensures.made in
-    (
+    c.in_ok-path.ensures c.in_ok-kept.ensures (c.push_within.ensures.items ∙ ap (λ ps. ps ++ c.in_ok-kept.kept ∷ []) c.reserve.ensures.items) c.self.invariant.0 apart c.in-Ok.ensures.made in (
       λ q. ap (λ (v : HeldView). get v.names.tree q) (sym seen) ∙ does.tree q,
       does.refs ∙ ap (λ (v : HeldView). Ok v.names.refs) seen,
     )
