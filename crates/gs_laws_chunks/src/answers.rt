@@ -8,7 +8,7 @@ ghost use Rattle.gs_laws_chunks.specs.answers.Asked.{BeginsAsked, ScriptsAsked, 
 ghost use Rattle.gs_laws_chunks.specs.answers.Behind.{ListsAreByCommits};
 ghost use Rattle.gs_laws_chunks.specs.answers.Replied.{BeginsReplied, StaysReplied};
 ghost use Rattle.gs_laws_chunks.specs.answers.Resting.{StaysStill};
-ghost use Rattle.gs_laws_chunks.specs.answers.Served.{BeginsServed, RefusalsAreMade, ScriptsServed, StaysServed};
+ghost use Rattle.gs_laws_chunks.specs.answers.Served.{BeginsServed, CallsAreForTheMaster, RefusalsAreMade, ScriptsServed, StaysServed};
 
 use gs_block::promises::configurations_have_sizes;
 
@@ -31,7 +31,7 @@ fn an_answer_is_made_for_its_call<D>()
     ensures { (seen : D → List ℕ) (failures : D → ℕ) (armed : DiskId → ℕ → MasterPlace D → MasterPlace D) → AnswersAreMade seen failures armed }
 {}
 
-/// Each message that asks a server for an edit, or for a part of a chunk, is of a request that its client has asked. So is each by which a server refuses an edit, or tells of a part.
+/// Each message that asks a server for an edit, or for a part of a chunk, is of a request that its client has asked. So is each by which a server tells what an edit came to, or what a part is; and so is each edit that waits at a server for the members of its chunk.
 /// So it is over each run of a store that has begun new, in which all that is asked is within its types, whatever disks of the master fail; and so it is of what a script leaves.
 fn of_each_request_to_a_server_its_client_has_asked<D>()
     ensures begun { (seen : D → List ℕ) (failures : D → ℕ) (armed : DiskId → ℕ → MasterPlace D → MasterPlace D) → BeginsServed seen failures armed }
@@ -45,6 +45,12 @@ fn of_each_request_to_a_server_its_client_has_asked<D>()
 /// No server says anything of the number of a call. The master isn't started again meanwhile, and no failure of a disk is arranged.
 fn a_refusal_is_made_for_its_call<D>()
     ensures { (seen : D → List ℕ) (failures : D → ℕ) (armed : DiskId → ℕ → MasterPlace D → MasterPlace D) → RefusalsAreMade seen failures armed }
+{}
+
+/// A client that has asked a call which is answered at once has no reply of a server to it: neither what an edit came to nor a part of a chunk. So what it has is an answer or a refusal, and the master has said that.
+/// Each message says what it is in reply to, and each number is asked under once. The master isn't started again meanwhile, and no failure of a disk is arranged.
+fn no_server_answers_a_call<D>()
+    ensures { (seen : D → List ℕ) (failures : D → ℕ) (armed : DiskId → ℕ → MasterPlace D → MasterPlace D) → CallsAreForTheMaster seen failures armed }
 {}
 
 /// Whatever a client has as its reply, a message was sent that says it, for the number that the client has used last: an answer, what an edit came to, a part of a chunk, or a refusal. So it is over each run, whatever comes, and in which order.
