@@ -6,6 +6,7 @@ ghost use Rattle.gs_nodes.specs.declared.place.MasterPlace.{MasterPlace};
 ghost use Rattle.gs_laws_chunks.specs.answers.Answered.{AnswersAreMade};
 ghost use Rattle.gs_laws_chunks.specs.answers.Asked.{BeginsAsked, ScriptsAsked, StaysAsked, StaysAskedUnarmed};
 ghost use Rattle.gs_laws_chunks.specs.answers.Behind.{ListsAreByCommits};
+ghost use Rattle.gs_laws_chunks.specs.answers.Calm.{CommitsAreCalm, StaysCalm};
 ghost use Rattle.gs_laws_chunks.specs.answers.Replied.{BeginsReplied, StaysReplied};
 ghost use Rattle.gs_laws_chunks.specs.answers.Resting.{StaysStill};
 ghost use Rattle.gs_laws_chunks.specs.answers.Served.{BeginsServed, CallsAreForTheMaster, RefusalsAreMade, ScriptsServed, StaysServed};
@@ -62,6 +63,12 @@ fn each_reply_was_sent_for_its_request<D>()
 /// As long as a client only looks, whatever else comes, the names, the phase and the epoch of the master stand where no call waits, and all that was called before has a number that the client has had: nothing of before changes them.
 fn names_stand_while_a_client_looks<D>()
     ensures { (seen : D → List ℕ) (failures : D → ℕ) (armed : DiskId → ℕ → MasterPlace D → MasterPlace D) → StaysStill seen failures armed }
+{}
+
+/// As long as a client only looks no prepare is begun at the master, unless a disk of it fails, where none is, no call waits, and all that was called before has a number that the client has had. So it is right after the event at which the commit of a prepare, or of a rollback, is answered.
+fn no_prepare_is_begun_while_a_client_looks<D>()
+    ensures stays { (seen : D → List ℕ) (failures : D → ℕ) (armed : DiskId → ℕ → MasterPlace D → MasterPlace D) → StaysCalm seen failures armed }
+    ensures commits { (seen : D → List ℕ) (failures : D → ℕ) (armed : DiskId → ℕ → MasterPlace D → MasterPlace D) → CommitsAreCalm seen failures armed }
 {}
 
 /// A client that is the only one has the answer to its commit of a prepare, or of a rollback, and lists a path then, and asks nothing else between but look-ups. What it gets is the listing by the names that stood right behind the event
