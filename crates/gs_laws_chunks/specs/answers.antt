@@ -4,3 +4,4 @@ pub mod Resting
 pub mod Behind
 pub mod Replied
 pub mod Served
+pub mod Calm

@@ -6,9 +6,10 @@ ghost use Rattle.gs_nodes.specs.declared.place.MasterPlace.{MasterPlace};
 ghost use Rattle.gs_laws_chunks.specs.answers.Answered.{AnswersAreMade};
 ghost use Rattle.gs_laws_chunks.specs.answers.Asked.{BeginsAsked, ScriptsAsked, StaysAsked, StaysAskedUnarmed};
 ghost use Rattle.gs_laws_chunks.specs.answers.Behind.{ListsAreByCommits};
+ghost use Rattle.gs_laws_chunks.specs.answers.Calm.{CommitsAreCalm, StaysCalm};
 ghost use Rattle.gs_laws_chunks.specs.answers.Replied.{BeginsReplied, StaysReplied};
 ghost use Rattle.gs_laws_chunks.specs.answers.Resting.{StaysStill};
-ghost use Rattle.gs_laws_chunks.specs.answers.Served.{BeginsServed, RefusalsAreMade, ScriptsServed, StaysServed};
+ghost use Rattle.gs_laws_chunks.specs.answers.Served.{BeginsServed, CallsAreForTheMaster, RefusalsAreMade, ScriptsServed, StaysServed};
 
 use gs_block::promises::configurations_have_sizes;
 
@@ -31,7 +32,7 @@ fn an_answer_is_made_for_its_call<D>()
     ensures { (seen : D → List ℕ) (failures : D → ℕ) (armed : DiskId → ℕ → MasterPlace D → MasterPlace D) → AnswersAreMade seen failures armed }
 {}
 
-/// Each message that asks a server for an edit, or for a part of a chunk, is of a request that its client has asked. So is each by which a server refuses an edit, or tells of a part.
+/// Each message that asks a server for an edit, or for a part of a chunk, is of a request that its client has asked. So is each by which a server tells what an edit came to, or what a part is; and so is each edit that waits at a server for the members of its chunk.
 /// So it is over each run of a store that has begun new, in which all that is asked is within its types, whatever disks of the master fail; and so it is of what a script leaves.
 fn of_each_request_to_a_server_its_client_has_asked<D>()
     ensures begun { (seen : D → List ℕ) (failures : D → ℕ) (armed : DiskId → ℕ → MasterPlace D → MasterPlace D) → BeginsServed seen failures armed }
@@ -47,6 +48,12 @@ fn a_refusal_is_made_for_its_call<D>()
     ensures { (seen : D → List ℕ) (failures : D → ℕ) (armed : DiskId → ℕ → MasterPlace D → MasterPlace D) → RefusalsAreMade seen failures armed }
 {}
 
+/// A client that has asked a call which is answered at once has no reply of a server to it: neither what an edit came to nor a part of a chunk. So what it has is an answer or a refusal, and the master has said that.
+/// Each message says what it is in reply to, and each number is asked under once. The master isn't started again meanwhile, and no failure of a disk is arranged.
+fn no_server_answers_a_call<D>()
+    ensures { (seen : D → List ℕ) (failures : D → ℕ) (armed : DiskId → ℕ → MasterPlace D → MasterPlace D) → CallsAreForTheMaster seen failures armed }
+{}
+
 /// Whatever a client has as its reply, a message was sent that says it, for the number that the client has used last: an answer, what an edit came to, a part of a chunk, or a refusal. So it is over each run, whatever comes, and in which order.
 fn each_reply_was_sent_for_its_request<D>()
     ensures begun { (seen : D → List ℕ) (failures : D → ℕ) (armed : DiskId → ℕ → MasterPlace D → MasterPlace D) → BeginsReplied seen failures armed }
@@ -56,6 +63,12 @@ fn each_reply_was_sent_for_its_request<D>()
 /// As long as a client only looks, whatever else comes, the names, the phase and the epoch of the master stand where no call waits, and all that was called before has a number that the client has had: nothing of before changes them.
 fn names_stand_while_a_client_looks<D>()
     ensures { (seen : D → List ℕ) (failures : D → ℕ) (armed : DiskId → ℕ → MasterPlace D → MasterPlace D) → StaysStill seen failures armed }
+{}
+
+/// As long as a client only looks no prepare is begun at the master, unless a disk of it fails, where none is, no call waits, and all that was called before has a number that the client has had. So it is right after the event at which the commit of a prepare, or of a rollback, is answered.
+fn no_prepare_is_begun_while_a_client_looks<D>()
+    ensures stays { (seen : D → List ℕ) (failures : D → ℕ) (armed : DiskId → ℕ → MasterPlace D → MasterPlace D) → StaysCalm seen failures armed }
+    ensures commits { (seen : D → List ℕ) (failures : D → ℕ) (armed : DiskId → ℕ → MasterPlace D → MasterPlace D) → CommitsAreCalm seen failures armed }
 {}
 
 /// A client that is the only one has the answer to its commit of a prepare, or of a rollback, and lists a path then, and asks nothing else between but look-ups. What it gets is the listing by the names that stood right behind the event

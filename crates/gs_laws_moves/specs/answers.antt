@@ -1,3 +1,4 @@
 pub mod AtOnce
+pub mod Changes
 pub mod Concerned
 pub mod Resting

@@ -3,6 +3,7 @@ pub mod Commits
 pub mod Digested
 pub mod Following
 pub mod Lines
+pub mod Looked
 pub mod Machine
 pub mod Rows
 pub mod Scripts

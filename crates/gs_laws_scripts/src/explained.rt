@@ -7,6 +7,7 @@ ghost use Rattle.gs_laws_scripts.specs.explained.Commits.{AfterACommitUntilARead
 ghost use Rattle.gs_laws_scripts.specs.explained.Asking.{ListsAreTold, PlacesAreTold, QueriesAreTold, StatusesAreTold};
 ghost use Rattle.gs_laws_scripts.specs.explained.Digested.{DigestsAreExplained};
 ghost use Rattle.gs_laws_scripts.specs.explained.Following.{LooksComeBack, PlainAnswersAreAFunction};
+ghost use Rattle.gs_laws_scripts.specs.explained.Looked.{PlacesAreToldThere, StatusesAreToldThere};
 ghost use Rattle.gs_laws_scripts.specs.explained.Scripts.{AreExplainedUntilAReadFails, AreExplainedUntilAWriteFails, ScriptsOfTheTreeAreExplained};
 ghost use Rattle.gs_laws_scripts.specs.explained.Standing.{CommitsStand, StillLinesAreExplained};
 ghost use Rattle.gs_laws_scripts.specs.explained.Told.{AppendsAreExplained, ReadsAreExplained, StatsAreExplained, WritesAreExplained};
@@ -45,8 +46,8 @@ pub fn scripts_of_the_tree_are_explained<D>()
     ensures write_fails { (seen : D → List ℕ) (failures : D → ℕ) (config : Config) (disks : D × D) → AreExplainedUntilAWriteFails seen failures config disks }
 {}
 
-/// While nothing is asked that changes something the machine explains what a desk answers, and it stands for the machine after each line: to `ls`, `rollingUpgrade query`, `at`, `hold`, `beat`, `lose`, `damage`, `deliver`, `restart` of a server, and to lines that are none.
-/// The store may have any files with any bytes, led chunks, held messages, lost and damaged replicas, and disks that fail. A list and a query are what the machine tells, refusals too; or the store refuses them, or nobody is sure (29). Of one that is answered 37, since what came back is for somebody else, nothing is said here; nor of a query that tells a prepare that is begun.
+/// While nothing is asked that changes something the machine explains what a desk answers, and it stands for the machine after each line: to `ls`, `rollingUpgrade query`, `at`, `hold`, `beat`, `lose`, `damage`, `deliver`, `restart` of a server, to lines that are none, and to `stat` where it is answered `ok dir`.
+/// The store may have any files with any bytes, led chunks, held messages, lost and damaged replicas, and disks that fail. A list and a query are what the machine tells, refusals too; or the store refuses them, or nobody is sure (29).
 fn still_lines_are_explained<D>()
     ensures { StillLinesAreExplained D }
 {}
@@ -59,7 +60,7 @@ fn a_desk_stands_after_a_commit<D>()
     configurations_have_sizes();
 }
 
-/// Right after a prepare or a rollback that is answered by an epoch, one machine explains what a script is answered: as long as its lines are `ls`, `rollingUpgrade query`, `at`, `hold`, `beat`, `lose`, `damage`, `deliver` and `restart` of a server, or bad, no list or query is answered 37, and no query tells a prepare that is begun. Lists and queries may be refused.
+/// Right after a prepare or a rollback that is answered by an epoch, one machine explains what a script is answered: as long as its lines are `ls`, `rollingUpgrade query`, `at`, `hold`, `beat`, `lose`, `damage`, `deliver` and `restart` of a server, `stat` that is answered `ok dir`, or bad. Lists and queries may be refused.
 /// The machine is in that epoch, with an upgrade after a prepare and without one after a rollback. So all queries of these lines tell that, and all lists are of the same names. Whatever lines come before, with held messages, lost and damaged replicas, and disks that fail: of what they left nothing is known but the names.
 pub fn lines_after_a_commit_are_explained<D>()
     ensures ended { ScriptsAfterACommit D }
@@ -76,4 +77,11 @@ fn looks_are_told()
     ensures queries { QueriesAreTold }
     ensures statuses { StatusesAreTold }
     ensures places { PlacesAreTold }
+{}
+
+/// Where a desk stands for a machine, its client is told the status of an entry, and where a chunk of a file is, as the machine has it, refusals too; and the desk stands for it still. Else the store refuses it, or nobody is sure.
+/// The store may have led chunks, held messages, lost and damaged replicas, and disks that fail. Paths have no more elements than one that is read. For a status no file has more chunks than one may have.
+fn looks_are_told_where_a_desk_stands<D>()
+    ensures statuses { StatusesAreToldThere D }
+    ensures places { PlacesAreToldThere D }
 {}

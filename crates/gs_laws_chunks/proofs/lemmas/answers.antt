@@ -6,3 +6,4 @@ pub mod Sparing
 pub mod Behind
 pub mod Replied
 pub mod Served
+pub mod Calm

@@ -21,12 +21,16 @@ abbrev pub OutboxAsks : (ReqId → Type 0) → Option PrimaryLease → Type 0
 OutboxAsks Asks None = Unit {0}
 OutboxAsks Asks (Some l) = (number : ℕ) (edit : Open) → Contains l.outbox (number, edit) → Asks edit.req
 
-abbrev pub WaitsAsked : (ℕ → Asked) → Server → Type 0
-WaitsAsked asked s = (chunk : ℕ) → OutboxAsks (AsksFor asked chunk) (place_of chunk s).lease
+-- under the lease of each chunk of a server
+abbrev pub WaitsFor : (ℕ → ReqId → Type 0) → Server → Type 0
+WaitsFor Asks s = (chunk : ℕ) → OutboxAsks (Asks chunk) (place_of chunk s).lease
 
 -- at each server of a store
+abbrev pub AllWaitFor : {D : Type 0} → (ℕ → ReqId → Type 0) → History D → Type 0
+AllWaitFor Asks h = (id : ℕ) (s : Server) → slice_get h.nodes.servers id ≡ Some s → WaitsFor Asks s
+
 abbrev pub AllWaitAsked : {D : Type 0} → (ℕ → Asked) → History D → Type 0
-AllWaitAsked asked h = (id : ℕ) (s : Server) → slice_get h.nodes.servers id ≡ Some s → WaitsAsked asked s
+AllWaitAsked asked h = AllWaitFor (AsksFor asked) h
 
 -- So it stays at each step of a store in which all that was sent for a request is of its one edit.
 abbrev pub WaitsGoOn : {D : Type 0} → (D → List ℕ) → (D → ℕ) → (DiskId → ℕ → MasterPlace D → MasterPlace D) → (ℕ → Asked) → Type 0

@@ -5,3 +5,4 @@ pub mod Plans
 pub mod Answering
 pub mod Concerning
 pub mod Resting
+pub mod Changes

@@ -15,7 +15,7 @@ use Rattle.gs_shell_script.specs.Run.{Runs, lines_of}
 use Rattle.gs_shell_script.specs.declared.RunFault.TheVariants as fault
 use Rattle.gs_laws_scripts.specs.explained.Lines.{Explains}
 use Rattle.gs_laws_scripts.specs.explained.Machine.{Machine}
-use Rattle.gs_laws_scripts.specs.explained.Standing.{AreStillLines, phase_after, what_is_accepted_is_no_stray}
+use Rattle.gs_laws_scripts.specs.explained.Standing.{AreStillLines, phase_after}
 use Rattle.gs_laws_scripts.specs.lists.Lines.{commits_prepare, commits_rollback}
 use Rattle.gs_laws_scripts.specs.lists.Scripts.{AsksFor}
 
@@ -88,5 +88,5 @@ it_is_such_a_script had said = record {
   by = lines.RollingUpgrade upgrades.Prepare;
   commits = inl refl;
   asks = refl;
-  are = ((refl, (λ look. what_is_accepted_is_no_stray (codes "ok f") refl), (λ query. absurd (cc))), ((refl, (λ look. absurd (cc)), (λ query. absurd (cc))), ((refl, (λ look. absurd (cc)), (λ query. absurd (cc))), ((refl, (λ look. what_is_accepted_is_no_stray (codes "ok f") refl), (λ query. absurd (cc))), tt))));
+  are = ((refl, (λ stat. absurd (cc))), ((refl, (λ stat. absurd (cc))), ((refl, (λ stat. absurd (cc))), ((refl, (λ stat. absurd (cc))), tt))));
 }

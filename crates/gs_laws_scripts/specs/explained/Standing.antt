@@ -1,14 +1,13 @@
 -- What holds between two lines while nothing is asked that changes something, of the names and the phase alone; and lines that only look at these, or are about nodes.
-use Rattle.std.proofs.Common.{ap, arith, inl, inr, sym, ◌∙◌}
-use Rattle.std.specs.Prelude.{[], ◌∷◌, ◌≡◌, ◌≢◌, ◌⊎◌, Bool, Err, List, None, Ok, Option, Some, codes, false, get_or, length, refl, true, ℕ}
+use Rattle.std.proofs.Common.{inl, inr}
+use Rattle.std.specs.Prelude.{[], ◌∷◌, ◌≡◌, ◌⊎◌, Bool, List, None, Ok, Option, Some, codes, false, length, refl, true, ℕ}
 use Rattle.std.specs.Char.{encode_utf8}
 use Rattle.std.specs.FinMap as fin
-use Rattle.std.specs.Fmt.{digits}
 use Rattle.std.specs.Str.{chars, is_utf8}
 use Rattle.gs_base.specs.Told.{IsNumber}
 use Rattle.gs_base.specs.declared.config.Config.{Config}
 use Rattle.gs_base.specs.declared.numbers.ClientId.{ClientId}
-use Rattle.gs_base.specs.declared.refusal.Refusal.TheVariants as refusals
+use Rattle.gs_client.specs.declared.reading.Stat.TheVariants as stats
 use Rattle.gs_edit.specs.Mapped.{mapped_rows}
 use Rattle.gs_journal.specs.Records.{fresh, standing}
 use Rattle.gs_master_spec.specs.Durable.{Durable}
@@ -29,6 +28,8 @@ use Rattle.gs_shell_script.specs.Run.{Runs}
 use Rattle.gs_world.specs.Histories.{History}
 use Rattle.gs_world.specs.Sent.{Sent}
 use Rattle.gs_laws_chunks.specs.answers.Asked.{AreAsked}
+use Rattle.gs_laws_chunks.specs.answers.Calm.{IsCalmAt}
+use Rattle.gs_laws_chunks.specs.answers.Replied.{AreReplied}
 use Rattle.gs_laws_chunks.specs.answers.Resting.{IsStill}
 use Rattle.gs_laws_chunks.specs.answers.Served.{AreServed}
 use Rattle.gs_laws_chunks.specs.desks.Reached.{Covers, history}
@@ -47,13 +48,15 @@ the_client = record { 0 = 1 }
 
 -- ---- what stands
 
--- The names are these, and stand while nothing is asked but look-ups: no call waits, and all that was called before has a number that the client has had. And of each reply there its client has asked, and of all that servers do for it; all keeps to its types, the master lasts, and there is one client.
+-- The names are these, and stand while nothing is asked but look-ups: no call waits, and all that was called before has a number that the client has had. And of each reply there its client has asked, and of all that servers do for it; what the client has as its reply was sent to it; no prepare is begun; all keeps to its types, the master lasts, and there is one client.
 pub record IsUndisturbed {D : Type 0} (seen : D → List ℕ) (d : Durable) (number : ℕ) (h : History D) : Type 0 where
   pub still : IsStill d the_client number h
   pub asked : AreAsked seen h
   pub types : KeepsTypes h
   pub lasts : LastsThrough seen h.nodes.master
   pub served : AreServed h
+  pub replied : AreReplied h
+  pub calm : IsCalmAt h.nodes.master
   pub one : length h.nodes.clients ≡ 1
 
 -- The machine's tree has the names that are told, with some text in the place of each chunk: the same wherever the chunk stands. Its epoch and its phase are those that are told, and no prepare is begun.
@@ -76,21 +79,16 @@ pub record Stands {D : Type 0} (seen : D → List ℕ) (config : Config) (desk :
 
 -- ---- lines that leave it
 
--- a line that asks for the phase
-abbrev pub is_query : Option Request → Bool
-is_query (Some (lines.RollingUpgrade upgrades.Query)) = true
-is_query asked = false
+-- one that asks what stands at a path
+abbrev pub is_stat : Option Request → Bool
+is_stat (Some (lines.Stat p)) = true
+is_stat asked = false
 
--- one that does so, or lists names
-abbrev pub is_name_look : Option Request → Bool
-is_name_look (Some (lines.Ls p)) = true
-is_name_look (Some (lines.RollingUpgrade upgrades.Query)) = true
-is_name_look asked = false
-
--- Such a line, one that sets the moment, or one about servers and messages; or one that asks for nothing.
+-- Such a line, one that lists names, one that sets the moment, or one about servers and messages; or one that asks for nothing.
 abbrev pub is_still_line : Option Request → Bool
 is_still_line None = true
 is_still_line (Some (lines.Ls p)) = true
+is_still_line (Some (lines.Stat p)) = true
 is_still_line (Some (lines.RollingUpgrade upgrades.Query)) = true
 is_still_line (Some (lines.At moment)) = true
 is_still_line (Some (lines.Hold kind)) = true
@@ -101,17 +99,13 @@ is_still_line (Some (lines.Damage server handle block)) = true
 is_still_line (Some (lines.Deliver number)) = true
 is_still_line asked = false
 
--- it doesn't tell that what came back is for somebody else (37)
-abbrev pub TellsNoStray : List ℕ → Type 0
-TellsNoStray text = text ≢ answer_text (Err refusals.Stray)
+-- it tells of a directory
+abbrev pub TellsDirectory : List ℕ → Type 0
+TellsDirectory text = text ≡ answer_text (Ok (answers.Stat stats.Directory))
 
--- it doesn't tell that a prepare is begun
-abbrev pub TellsNoPrepare : List ℕ → Type 0
-TellsNoPrepare text = (epoch : ℕ) → text ≢ answer_text (Ok (answers.Phase phases.Preparing epoch))
-
--- Such a line with its answer: one that looks isn't answered by a stray, and none is told that a prepare is begun.
+-- such a line with its answer: each `stat` is told of a directory
 abbrev pub IsStillLine : List ℕ → List ℕ → Type 0
-IsStillLine whole text = (is_still_line (asked_in whole) ≡ true) × (is_name_look (asked_in whole) ≡ true → TellsNoStray text) × (is_query (asked_in whole) ≡ true → TellsNoPrepare text)
+IsStillLine whole text = (is_still_line (asked_in whole) ≡ true) × (is_stat (asked_in whole) ≡ true → TellsDirectory text)
 
 -- all lines, with their answers
 abbrev pub AreStillLines : List (List ℕ) → List (List ℕ) → Type 0
@@ -142,33 +136,14 @@ a_change_is_none = refl
 
 -- lines that are such, with their answers
 abbrev some_lines : List (List ℕ)
-some_lines = codes "ls /" ∷ codes "rollingUpgrade query" ∷ codes "lose 1 2" ∷ codes "at 7" ∷ codes "beat 1" ∷ codes "ls /x" ∷ codes "frob" ∷ []
+some_lines = codes "ls /" ∷ codes "stat /photos" ∷ codes "rollingUpgrade query" ∷ codes "lose 1 2" ∷ codes "at 7" ∷ codes "beat 1" ∷ codes "ls /x" ∷ codes "frob" ∷ []
 
 abbrev some_texts : List (List ℕ)
-some_texts = codes "ok notes photos/" ∷ codes "ok upgrade 1" ∷ codes "ok" ∷ codes "ok" ∷ codes "ok 0" ∷ codes "refused 3 NotFound" ∷ codes "refused 34 BadLine" ∷ []
-
-an_upgrade_is_no_prepare : TellsNoPrepare (codes "ok upgrade 1")
-an_upgrade_is_no_prepare epoch is = never (ap (λ (t : List ℕ). get_or t 3 0) is)
-  where
-    never : ◌≡◌ {A = ℕ} 117 112 → ⊥
-    never e = omega arith
-
-pub what_is_accepted_is_no_stray : (text : List ℕ) → get_or text 0 0 ≡ 111 → TellsNoStray text
-what_is_accepted_is_no_stray text first is = never (sym first ∙ ap (λ (t : List ℕ). get_or t 0 0) is)
-  where
-    never : ◌≡◌ {A = ℕ} 111 114 → ⊥
-    never e = omega arith
-
-nothing_there_is_no_stray : TellsNoStray (codes "refused 3 NotFound")
-unfolding digits
-nothing_there_is_no_stray is = never (ap (λ (t : List ℕ). get_or t 9 0) is)
-  where
-    never : ◌≡◌ {A = ℕ} 32 55 → ⊥
-    never e = omega arith
+some_texts = codes "ok notes photos/" ∷ codes "ok dir" ∷ codes "ok upgrade 1" ∷ codes "ok" ∷ codes "ok" ∷ codes "ok 0" ∷ codes "refused 3 NotFound" ∷ codes "refused 34 BadLine" ∷ []
 
 they_are_such : AreStillLines some_lines some_texts
-unfolding one_word two_words three_words upgrade_line number_line lose_line is_utf8 chars encode_utf8 digits
+unfolding one_word two_words three_words upgrade_line number_line lose_line is_utf8 chars encode_utf8
 they_are_such = (
-  (refl, (λ look. what_is_accepted_is_no_stray (codes "ok notes photos/") refl), (λ query. absurd (cc))),
-  ((refl, (λ look. what_is_accepted_is_no_stray (codes "ok upgrade 1") refl), (λ query. an_upgrade_is_no_prepare)), ((refl, (λ look. absurd (cc)), (λ query. absurd (cc))), ((refl, (λ look. absurd (cc)), (λ query. absurd (cc))), ((refl, (λ look. absurd (cc)), (λ query. absurd (cc))), ((refl, (λ look. nothing_there_is_no_stray), (λ query. absurd (cc))), ((refl, (λ look. absurd (cc)), (λ query. absurd (cc))), tt)))))),
+  (refl, (λ stat. absurd (cc))),
+  ((refl, (λ stat. refl)), ((refl, (λ stat. absurd (cc))), ((refl, (λ stat. absurd (cc))), ((refl, (λ stat. absurd (cc))), ((refl, (λ stat. absurd (cc))), ((refl, (λ stat. absurd (cc))), ((refl, (λ stat. absurd (cc))), tt))))))),
 )

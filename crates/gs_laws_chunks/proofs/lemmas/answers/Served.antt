@@ -1,32 +1,41 @@
--- For whom servers work, at each event and over runs. So a refusal that a client has, of a call, is the master's.
-use Rattle.std.proofs.Common.{◌≡◌, ◌∙◌, ◌⊎◌, inl, inr, ◌-◌, ◌<◌, ◌≤◌, ◌++◌, ◌^◌, ℕ, true, false, List, [], ◌∷◌, Option, Some, None, MatchOption, Ok, Err, refl, sym, ap, subst, arith, nat_le, slice_set}
+-- For whom servers work, at each event and over runs. So what a client has as its reply to a call is the master's.
+use Rattle.std.proofs.Common.{◌≡◌, ◌∙◌, ◌⊎◌, inl, inr, ◌-◌, ◌<◌, ◌≤◌, ◌++◌, ◌^◌, ℕ, true, false, List, [], ◌∷◌, Option, Some, None, MatchOption, Result, Ok, Err, refl, sym, ap, subst, arith, nat_le, slice_set}
 use Rattle.std.specs.List.{AllByRecursion}
 use Rattle.std.proofs.lemmas.Bool.Decides.{nat_tests}
 use Rattle.gs_base.specs.declared.numbers.ClientId.{ClientId}
 use Rattle.gs_base.specs.declared.numbers.Moment.{Moment}
 use Rattle.gs_base.specs.declared.numbers.ReqId.{ReqId}
-use Rattle.gs_client.specs.Nodes.{Node, given_up, hears, messages_of, pushes, request_of, with_bytes}
+use Rattle.gs_base.specs.declared.refusal.Refusal.{Refusal}
+use Rattle.gs_client.specs.Nodes.{Node, answered, given_up, hears, messages_of, pushes, request_of, with_bytes}
+use Rattle.gs_client.specs.declared.link.Reply.{Reply}
+use Rattle.gs_client.specs.declared.link.Reply.TheVariants as replies
 use Rattle.gs_laws_chunks.proofs.lemmas.accounts.Giving.{GivesOr, IsFetchOf, handled_tells, ticks_give}
 use Rattle.gs_laws_chunks.proofs.lemmas.accounts.Well.{lasts_left}
 use Rattle.gs_laws_chunks.proofs.lemmas.answers.Answered.{RefusesIf, asked_follows, says_are_made}
 use Rattle.gs_laws_chunks.proofs.lemmas.answers.Asked.{asked_further, asked_now, begins_asked, hearing_same, own_id, step_asked}
 use Rattle.gs_laws_chunks.proofs.lemmas.answers.Parts.{Armed, Asked, Heard, Opened, Part, Rested, Served, Ticked, Told, asking, hearing, part_of, with_client}
+use Rattle.gs_laws_chunks.proofs.lemmas.answers.Replied.{run_replied}
 use Rattle.gs_laws_chunks.proofs.lemmas.answers.Sparing.{AllSpare, asked_spared, lasts_spared}
 use Rattle.gs_laws_chunks.proofs.lemmas.calls.Arming.{unarmed_alone}
 use Rattle.gs_laws_chunks.proofs.lemmas.calls.Runs.{arming, posts}
 use Rattle.gs_laws_chunks.specs.answers.Answered.{AsksFresh, Passes, sent_by, spares_master}
 use Rattle.gs_laws_chunks.specs.answers.Asked.{AreAsked, HasAsked}
-use Rattle.gs_laws_chunks.specs.answers.Served.{AreServed, BeginsServed, IsUnjudged, RefusalsAreMade, ScriptsServed, ServesOf, StaysServed}
+use Rattle.gs_laws_chunks.specs.answers.Behind.{asks_call}
+use Rattle.gs_laws_chunks.specs.answers.Replied.{SaysReply, WasReplied}
+use Rattle.gs_laws_chunks.specs.answers.Served.{AreServed, BeginsServed, CallsAreForTheMaster, IsOfServer, IsUnjudged, RefusalsAreMade, ScriptsServed, ServesOf, StaysServed}
 use Rattle.gs_laws_chunks.specs.calls.Asked.{ArmsAlone}
 use Rattle.gs_laws_chunks.specs.desks.Reached.{history}
+use Rattle.gs_laws_lift.proofs.lemmas.stores.Answered.{goes_quiet}
 use Rattle.gs_laws_lift.proofs.lemmas.stores.AskingServers.{handled_by, tick_by}
 use Rattle.gs_laws_lift.proofs.lemmas.stores.Beginning.{begins_none}
 use Rattle.gs_laws_lift.proofs.lemmas.stores.DoingAll.{masters_do_all}
 use Rattle.gs_laws_lift.proofs.lemmas.stores.Placing.{kind_of}
 use Rattle.gs_laws_lift.proofs.lemmas.stores.Posting.{posted_all, sent_then}
 use Rattle.gs_laws_lift.proofs.lemmas.stores.TellingAll.{does_all_say}
-use Rattle.gs_laws_lift.specs.stores.Going.{AllSent, Beats, Damages, Elsewhere, Hears, Kind, Loses, MasterGoes, MasterHeard, MasterOpened, MasterTicked, OfMaster, OfServer, Posts, Restarts, ServerGoes, Ticks}
+use Rattle.gs_laws_lift.proofs.lemmas.stores.Waiting.{HeardAsked, YesAsks, YesesAsk, none_yes, waits_begin, waits_go, yeses_for}
+use Rattle.gs_laws_lift.specs.stores.Going.{AllSent, Beats, Damages, Elsewhere, Hears, Kind, Loses, MasterGoes, MasterHeard, MasterOpened, MasterTicked, OfMaster, OfServer, Posts, Restarts, ServerGoes, Ticks, about_of}
 use Rattle.gs_laws_lift.specs.stores.Left.{as_left}
+use Rattle.gs_laws_lift.specs.stores.Waiting.{AllWaitFor, OutboxAsks, WaitsFor}
 use Rattle.gs_laws_lift.specs.stores.Saying.{AreOfClient, AreOfMaster, IsOfClient, IsOfMaster}
 use Rattle.gs_laws_moves.specs.answers.AtOnce.{is_answered_at_once}
 use Rattle.gs_laws_parts.proofs.lemmas.server.Elsewhere.{ByServer}
@@ -40,6 +49,7 @@ use Rattle.gs_laws_world.specs.steady.Asking.{asks_at}
 use Rattle.gs_laws_world.specs.steady.Saying.{IsStepWithin, KeepsTypes, MayBeHeard, MayBeSaid}
 use Rattle.gs_laws_world.specs.steady.Through.{LastsThrough}
 use Rattle.gs_laws_world.specs.steady.Unarmed.{unarmed}
+use Rattle.gs_msg.specs.declared.answer.Answer.{Answer}
 use Rattle.gs_msg.specs.declared.body.Body.{Body}
 use Rattle.gs_msg.specs.declared.body.Body.TheVariants as bodies
 use Rattle.gs_msg.specs.declared.call.Call.{Call}
@@ -56,7 +66,8 @@ use Rattle.gs_nodes.specs.Happenings.{client_in}
 use Rattle.gs_nodes.specs.Nodes.{Nodes}
 use Rattle.gs_nodes.specs.declared.place.MasterPlace.{MasterPlace}
 use Rattle.gs_server.specs.Runs as at_server
-use Rattle.gs_server.specs.Servers.{Server}
+use Rattle.gs_server.specs.Servers.{Server, place_of}
+use Rattle.gs_server_lease.specs.Leases.{PrimaryLease}
 use Rattle.gs_server.specs.Servers as servers
 use Rattle.gs_shell_desk.specs.Ways.{way_of}
 use Rattle.gs_world.proofs.Reaching.{HaveSizes}
@@ -72,7 +83,7 @@ Serves P messages = AllByRecursion (λ (m : Message). ServesOf P m.body) message
 serves_more : (P Q : ReqId → Type 0) → ((req : ReqId) → P req → Q req) → (body : Body) → ServesOf P body → ServesOf Q body
 serves_more P Q more (bodies.About chunk (chunks.Edit req stamp op)) serves = more req serves
 serves_more P Q more (bodies.About chunk (chunks.Fetch req stamp epoch asked)) serves = more req serves
-serves_more P Q more (bodies.Done req (Err refusal)) serves = more req serves
+serves_more P Q more (bodies.Done req result) serves = more req serves
 serves_more P Q more (bodies.Bytes req result) serves = more req serves
 serves_more P Q more body serves = tt
 
@@ -80,7 +91,7 @@ serves_more P Q more body serves = tt
 master_serves : (P : ReqId → Type 0) (body : Body) → IsOfMaster body → ServesOf P body
 master_serves P (bodies.About chunk (chunks.Edit req stamp op)) of = absurd of
 master_serves P (bodies.About chunk (chunks.Fetch req stamp epoch asked)) of = absurd of
-master_serves P (bodies.Done req (Err refusal)) of = absurd of
+master_serves P (bodies.Done req result) of = absurd of
 master_serves P (bodies.Bytes req result) of = absurd of
 master_serves P body of = tt
 
@@ -92,7 +103,7 @@ masters_serve P (m ∷ messages) of = (master_serves P m.body of.0, masters_serv
 neither_serves : (P : ReqId → Type 0) (body : Body) → IsOfClient body → IsByServer body → ServesOf P body
 neither_serves P (bodies.About chunk (chunks.Edit req stamp op)) of by = absurd by
 neither_serves P (bodies.About chunk (chunks.Fetch req stamp epoch asked)) of by = absurd by
-neither_serves P (bodies.Done req (Err refusal)) of by = absurd of
+neither_serves P (bodies.Done req result) of by = absurd of
 neither_serves P (bodies.Bytes req result) of by = absurd of
 neither_serves P body of by = tt
 
@@ -101,44 +112,64 @@ neither_serves P body of by = tt
 heard_is : (m n : Message) (a b : Moment) → at_server.Hears m a ≡ at_server.Hears n b → m ≡ n
 heard_is m n a b is = cc
 
-all_three : (A B C D : Message → Type 0) → ((m : Message) → A m → B m → C m → D m) → (messages : List Message) → AllByRecursion A messages → AllByRecursion B messages → AllByRecursion C messages → AllByRecursion D messages
-all_three A B C D each [] one two three = tt
-all_three A B C D each (m ∷ messages) one two three = (each m one.0 two.0 three.0, all_three A B C D each messages one.1 two.1 three.1)
+all_four : (A B C D E : Message → Type 0) → ((m : Message) → A m → B m → C m → D m → E m) → (messages : List Message) → AllByRecursion A messages → AllByRecursion B messages → AllByRecursion C messages → AllByRecursion D messages → AllByRecursion E messages
+all_four A B C D E each [] one two three four = tt
+all_four A B C D E each (m ∷ messages) one two three four = (each m one.0 two.0 three.0 four.0, all_four A B C D E each messages one.1 two.1 three.1 four.1)
 
 module _ (P : ReqId → Type 0) where
-  -- what it tells is of the request that it hears
-  heard_serves : (s : Server) (message : Message) (moment : Moment) → ServesOf P message.body → (body : Body) → IsByServer body → Only (TellsOwn s message moment) body → GivesOr (IsFetchOf message.body) (IsFetchOf message.body) body → ServesOf P body
-  heard_serves s message moment served (bodies.About chunk (chunks.Edit req stamp op)) by told gives = absurd by
-  heard_serves s message moment served (bodies.About chunk (chunks.Fetch req stamp epoch asked)) by told gives = absurd by
-  heard_serves s message moment served (bodies.Done req (Err refusal)) by told gives =
+  -- what it tells is of the request that it hears, or of one for which it waits
+  heard_serves : (s : Server) (message : Message) (moment : Moment) → ServesOf P message.body → (body : Body) → IsByServer body → Only (TellsOwn s message moment) body → GivesOr (IsFetchOf message.body) (IsFetchOf message.body) body → YesAsks P body → ServesOf P body
+  heard_serves s message moment served (bodies.About chunk (chunks.Edit req stamp op)) by told gives tells = absurd by
+  heard_serves s message moment served (bodies.About chunk (chunks.Fetch req stamp epoch asked)) by told gives tells = absurd by
+  heard_serves s message moment served (bodies.Done req (Ok outcome)) by told gives tells = tells
+  heard_serves s message moment served (bodies.Done req (Err refusal)) by told gives tells =
       let k = told.hears in
       let same = heard_is message (record { from = k.from; to = k.to; body = bodies.About k.handle (chunks.Edit req k.stamp k.op) }) moment k.moment k.is in subst (ServesOf P) (ap (λ (m : Message). m.body) same) served
-  heard_serves s message moment served (bodies.Bytes req (Ok given)) by told (chunk, stamp, epoch, asked, is) = subst (ServesOf P) is served
-  heard_serves s message moment served (bodies.Bytes req (Err refusal)) by told (chunk, stamp, epoch, asked, is) = subst (ServesOf P) is served
-  heard_serves s message moment served body by told gives = tt
+  heard_serves s message moment served (bodies.Bytes req (Ok given)) by told (chunk, stamp, epoch, asked, is) tells = subst (ServesOf P) is served
+  heard_serves s message moment served (bodies.Bytes req (Err refusal)) by told (chunk, stamp, epoch, asked, is) tells = subst (ServesOf P) is served
+  heard_serves s message moment served body by told gives tells = tt
 
   -- it tells nothing of the kind by itself
-  quiet_serves : (body : Body) → IsByServer body → Only (λ req refusal. ⊥) body → GivesOr (λ req. ⊥) (λ req. ⊥) body → ServesOf P body
-  quiet_serves (bodies.About chunk (chunks.Edit req stamp op)) by told gives = absurd by
-  quiet_serves (bodies.About chunk (chunks.Fetch req stamp epoch asked)) by told gives = absurd by
-  quiet_serves (bodies.Done req (Err refusal)) by told gives = absurd told
-  quiet_serves (bodies.Bytes req (Ok given)) by told gives = absurd gives
-  quiet_serves (bodies.Bytes req (Err refusal)) by told gives = absurd gives
-  quiet_serves body by told gives = tt
+  quiet_serves : (body : Body) → IsByServer body → Only (λ req refusal. ⊥) body → GivesOr (λ req. ⊥) (λ req. ⊥) body → YesAsks P body → ServesOf P body
+  quiet_serves (bodies.About chunk (chunks.Edit req stamp op)) by told gives tells = absurd by
+  quiet_serves (bodies.About chunk (chunks.Fetch req stamp epoch asked)) by told gives tells = absurd by
+  quiet_serves (bodies.Done req (Ok outcome)) by told gives tells = tells
+  quiet_serves (bodies.Done req (Err refusal)) by told gives tells = absurd told
+  quiet_serves (bodies.Bytes req (Ok given)) by told gives tells = absurd gives
+  quiet_serves (bodies.Bytes req (Err refusal)) by told gives tells = absurd gives
+  quiet_serves body by told gives tells = tt
 
-  server_serves : (sent : Sent) → AllSent (λ (m : Message). ServesOf P m.body) sent → (id : ℕ) (s after : Server) (messages : List Message) → ServerGoes sent id s after messages → Serves P messages
-  server_serves sent all id s after messages (Hears message moment was to is sends) =
+  -- what it hears asks so
+  all_heard : (sent : Sent) → AllSent (λ (m : Message). ServesOf P m.body) sent → AllSent (λ (m : Message). HeardAsked (λ chunk. P) m.body) sent
+  all_heard sent all id m was handle req stamp op is = subst (ServesOf P) is (all id m was)
+
+  -- so of those whom it tells that their edits are done
+  yeses_serve : (sent : Sent) → AllSent (λ (m : Message). ServesOf P m.body) sent → (id : ℕ) (s after : Server) (messages : List Message) → ServerGoes sent id s after messages → WaitsFor (λ chunk. P) s → YesesAsk P messages
+  yeses_serve sent all id s after messages goes waits = by_chunk (about_of goes) refl
+    where
+      by_chunk : (o : Option ℕ) → about_of goes ≡ o → YesesAsk P messages
+      by_chunk None about = none_yes P messages (goes_quiet sent id s after messages goes about)
+      by_chunk (Some chunk) about = yeses_for (λ c. P) sent id s after messages goes chunk (all_heard sent all) waits about
+
+  server_serves : (sent : Sent) → AllSent (λ (m : Message). ServesOf P m.body) sent → (id : ℕ) (s after : Server) (messages : List Message) → ServerGoes sent id s after messages → YesesAsk P messages → Serves P messages
+  server_serves sent all id s after messages (Hears message moment was to is sends) tells =
       subst (Serves P) (sym sends)
-      (all_three (λ (m : Message). IsByServer m.body) (λ (m : Message). Only (TellsOwn s message moment) m.body) (λ (m : Message). GivesOr (IsFetchOf message.body) (IsFetchOf message.body) m.body) (λ (m : Message). ServesOf P m.body)
-      (λ m by told gives. heard_serves s message moment (all was.0 message was.1) m.body by told gives) (servers.handle s message moment).sent (handled_by s message moment) (tells_refusals s message moment) (handled_tells s message.from message.body moment))
-  server_serves sent all id s after messages (Ticks moment is sends) =
+      (all_four (λ (m : Message). IsByServer m.body) (λ (m : Message). Only (TellsOwn s message moment) m.body) (λ (m : Message). GivesOr (IsFetchOf message.body) (IsFetchOf message.body) m.body) (λ (m : Message). YesAsks P m.body) (λ (m : Message). ServesOf P m.body)
+      (λ m by told gives tells. heard_serves s message moment (all was.0 message was.1) m.body by told gives tells) (servers.handle s message moment).sent (handled_by s message moment) (tells_refusals s message moment) (handled_tells s message.from message.body moment)
+      (subst (YesesAsk P) sends tells))
+  server_serves sent all id s after messages (Ticks moment is sends) tells =
       subst (Serves P) (sym sends)
-      (all_three (λ (m : Message). IsByServer m.body) (λ (m : Message). Only (λ req refusal. ⊥) m.body) (λ (m : Message). GivesOr (λ req. ⊥) (λ req. ⊥) m.body) (λ (m : Message). ServesOf P m.body) (λ m by told gives. quiet_serves m.body by told gives) (servers.tick s moment).sent (tick_by s moment)
-      (quiet_ticks s moment) (ticks_give (λ req. ⊥) (λ req. ⊥) s moment))
-  server_serves sent all id s after messages (Beats is sends) = subst (Serves P) (sym sends) (tt, tt)
-  server_serves sent all id s after messages (Restarts is sends) = subst (Serves P) (sym sends) tt
-  server_serves sent all id s after messages (Loses handle is sends) = subst (Serves P) (sym sends) tt
-  server_serves sent all id s after messages (Damages handle block is sends) = subst (Serves P) (sym sends) tt
+      (all_four (λ (m : Message). IsByServer m.body) (λ (m : Message). Only (λ req refusal. ⊥) m.body) (λ (m : Message). GivesOr (λ req. ⊥) (λ req. ⊥) m.body) (λ (m : Message). YesAsks P m.body) (λ (m : Message). ServesOf P m.body)
+      (λ m by told gives tells. quiet_serves m.body by told gives tells) (servers.tick s moment).sent (tick_by s moment) (quiet_ticks s moment) (ticks_give (λ req. ⊥) (λ req. ⊥) s moment) (subst (YesesAsk P) sends tells))
+  server_serves sent all id s after messages (Beats is sends) tells = subst (Serves P) (sym sends) (tt, tt)
+  server_serves sent all id s after messages (Restarts is sends) tells = subst (Serves P) (sym sends) tt
+  server_serves sent all id s after messages (Loses handle is sends) tells = subst (Serves P) (sym sends) tt
+  server_serves sent all id s after messages (Damages handle block is sends) tells = subst (Serves P) (sym sends) tt
+
+-- where it waits for such requests, it does for others that these are
+waits_more : (P Q : ReqId → Type 0) → ((req : ReqId) → P req → Q req) → (o : Option PrimaryLease) → OutboxAsks P o → OutboxAsks Q o
+waits_more P Q more None asks = tt
+waits_more P Q more (Some l) asks = λ number edit there. more edit.req (asks number edit there)
 
 -- ---- a client
 
@@ -191,7 +222,8 @@ module _ {D : Type 0} (seen : D → List ℕ) (failures : D → ℕ) (armed : Di
   abbrev StepAsks : (ReqId → Type 0) → Step → History D → History D → Type 0
   StepAsks P step old new = (req : ReqId) (request : Request) (n : Node) → IsAskedAt step req request → client_in old.nodes.clients req.client ≡ Some n → nat_le req.number n.last ≡ false → new.nodes ≡ with_client req.client (asking n req.number) old.nodes → AsksServers P (request_of n req.number) request
 
-  module _ (P : ReqId → Type 0) (old new : History D) (lasts : LastsThrough seen old.nodes.master) (still : LastsThrough seen new.nodes.master) (all : AllSent (λ (m : Message). ServesOf P m.body) old.sent) where
+  module _ (P : ReqId → Type 0) (old new : History D) (lasts : LastsThrough seen old.nodes.master) (still : LastsThrough seen new.nodes.master) (all : AllSent (λ (m : Message). ServesOf P m.body) old.sent)
+      (waits : AllWaitFor (λ chunk. P) old) where
     abbrev All : Type 0
     All = AllSent (λ (m : Message). ServesOf P m.body) new.sent
 
@@ -201,7 +233,7 @@ module _ {D : Type 0} (seen : D → List ℕ) (failures : D → ℕ) (armed : Di
         (masters_do_all seen failures armed old.nodes.config old.sent old.nodes.master place messages (lasts_left seen old.nodes.master lasts) (subst (λ there. Lasts seen (as_left there)) is (lasts_left seen new.nodes.master still)) goes)
 
     by_kind : (step : Step) (moment : Moment) (by : NodeId) (sent : List Message) → ByServer sent → Posts moment by sent old.sent new.sent → Kind seen failures armed step old new → All
-    by_kind step moment by sent of posted (OfServer id s after messages at found goes met servers master post) = posted_all (λ (m : Message). ServesOf P m.body) at (nodes.Server id) messages old.sent new.sent post all (server_serves P old.sent all id s after messages goes)
+    by_kind step moment by sent of posted (OfServer id s after messages at found goes met servers master post) = posted_all (λ (m : Message). ServesOf P m.body) at (nodes.Server id) messages old.sent new.sent post all (server_serves P old.sent all id s after messages goes (yeses_serve P old.sent all id s after messages goes (waits id s found)))
     by_kind step moment by sent of posted (OfMaster place messages at goes servers master post) = posted_all (λ (m : Message). ServesOf P m.body) at nodes.Master messages old.sent new.sent post all (masters_serve P messages (of_master place messages master goes))
     by_kind step moment by sent of posted (Elsewhere other messages at are servers master post) = λ id m was. both m (clients id m was) (servers_all id m was)
       where
@@ -242,14 +274,23 @@ module _ {D : Type 0} (seen : D → List ℕ) (failures : D → ℕ) (armed : Di
       by_part (Told id message client n it was found none same) = says [] none tt
       by_part (Rested none same) = says [] none tt
 
+  all_more : (P Q : ReqId → Type 0) → ((req : ReqId) → P req → Q req) → (sent : Sent) → AllSent (λ (m : Message). ServesOf P m.body) sent → AllSent (λ (m : Message). ServesOf Q m.body) sent
+  all_more P Q more sent all = sent_then (λ (m : Message). ServesOf P m.body) (λ (m : Message). ServesOf Q m.body) sent (λ m serves. serves_more P Q more m.body serves) all
+
+  all_wait : (P Q : ReqId → Type 0) → ((req : ReqId) → P req → Q req) → (h : History D) → AllWaitFor (λ chunk. P) h → AllWaitFor (λ chunk. Q) h
+  all_wait P Q more h waits id s found chunk = waits_more P Q more (place_of chunk s).lease (waits id s found chunk)
+
   step_serves : (P Q : ReqId → Type 0) → ((req : ReqId) → P req → Q req) → (step : Step) (old new : History D) → Goes seen failures armed step old new → IsStepWithin step → KeepsTypes old → LastsThrough seen old.nodes.master → LastsThrough seen new.nodes.master → StepAsks Q step old new
-      → AllSent (λ (m : Message). ServesOf P m.body) old.sent → AllSent (λ (m : Message). ServesOf Q m.body) new.sent
-  step_serves P Q more (Comes event) old new (said, h) within types lasts still asks all =
-      by_part Q old new lasts still (sent_then (λ (m : Message). ServesOf P m.body) (λ (m : Message). ServesOf Q m.body) old.sent (λ m serves. serves_more P Q more m.body serves) all) event.moment event.happening h.by h.outcome (named (Comes event) old within types)
+      → AllSent (λ (m : Message). ServesOf P m.body) old.sent → AllWaitFor (λ chunk. P) old → AllSent (λ (m : Message). ServesOf Q m.body) new.sent
+  step_serves P Q more (Comes event) old new (said, h) within types lasts still asks all waits =
+      by_part Q old new lasts still (all_more P Q more old.sent all) (all_wait P Q more old waits) event.moment event.happening h.by h.outcome (named (Comes event) old within types)
       (posts seen failures armed event.moment h.by h.outcome old.sent said new.sent h.tells) (kind_of seen failures armed (Comes event) old new (said, h) (named (Comes event) old within types)) asks
       (part_of seen failures armed old event.moment event.happening h.by h.outcome new.nodes h.at)
-  step_serves P Q more (Takes client) old new (found, taken, same) within types lasts still asks all =
-      subst (AllSent (λ (m : Message). ServesOf Q m.body)) (sym same) (sent_then (λ (m : Message). ServesOf P m.body) (λ (m : Message). ServesOf Q m.body) old.sent (λ m serves. serves_more P Q more m.body serves) all)
+  step_serves P Q more (Takes client) old new (found, taken, same) within types lasts still asks all waits = subst (AllSent (λ (m : Message). ServesOf Q m.body)) (sym same) (all_more P Q more old.sent all)
+
+  step_waits : (P Q : ReqId → Type 0) → ((req : ReqId) → P req → Q req) → (step : Step) (old new : History D) → Goes seen failures armed step old new → IsStepWithin step → KeepsTypes old → AllSent (λ (m : Message). ServesOf P m.body) old.sent → AllWaitFor (λ chunk. P) old → AllWaitFor (λ chunk. Q) new
+  step_waits P Q more step old new goes within types all waits =
+      waits_go seen failures armed (λ chunk. Q) step old new (kind_of seen failures armed step old new goes (named step old within types)) (all_heard Q old.sent (all_more P Q more old.sent all)) (all_wait P Q more old waits)
 
   -- ---- what was asked
 
@@ -286,13 +327,15 @@ module _ {D : Type 0} (seen : D → List ℕ) (failures : D → ℕ) (armed : Di
 
   module _ (arms : ArmsAlone seen failures armed) where
     step_served : (step : Step) (old new : History D) → Goes seen failures armed step old new → IsStepWithin step → KeepsTypes old → LastsThrough seen old.nodes.master → LastsThrough seen new.nodes.master → AreAsked seen old → AreServed old → AreServed new
-    step_served step old new goes within types lasts still are served =
-        step_serves (HasAsked old.nodes.clients) (HasAsked new.nodes.clients) (further step old new goes) step old new goes within types lasts still
-        (λ req request n it found number same. asks_servers (HasAsked new.nodes.clients) (request_of n req.number) request
-        (subst (λ (x : Nodes D). HasAsked x.clients (request_of n req.number)) (sym same)
-        (subst (λ (id : ClientId). HasAsked (slice_set old.nodes.clients (req.client.0 - 1) (asking n req.number)) (record { client = id; number = req.number })) (sym (own_id old.nodes.clients are.numbered req.client n found))
-        (asked_now old.nodes.clients req.client n (asking n req.number) req.number found (omega arith)))))
-        served
+    step_served step old new goes within types lasts still are served = record {
+      sent = step_serves (HasAsked old.nodes.clients) (HasAsked new.nodes.clients) (further step old new goes) step old new goes within types lasts still
+          (λ req request n it found number same. asks_servers (HasAsked new.nodes.clients) (request_of n req.number) request
+          (subst (λ (x : Nodes D). HasAsked x.clients (request_of n req.number)) (sym same)
+          (subst (λ (id : ClientId). HasAsked (slice_set old.nodes.clients (req.client.0 - 1) (asking n req.number)) (record { client = id; number = req.number })) (sym (own_id old.nodes.clients are.numbered req.client n found))
+          (asked_now old.nodes.clients req.client n (asking n req.number) req.number found (omega arith)))))
+          served.sent served.waits;
+      waits = step_waits (HasAsked old.nodes.clients) (HasAsked new.nodes.clients) (further step old new goes) step old new goes within types served.sent served.waits;
+    }
 
     run_served : (steps : List Step) (old new : History D) → RunsTo seen failures armed steps old new → AllByRecursion IsStepWithin steps → KeepsTypes old → LastsThrough seen old.nodes.master → AreAsked seen old → AreServed old → AreServed new
     run_served [] old new same within types lasts are served = subst (λ (h : History D). AreServed h) (sym same) served
@@ -319,6 +362,7 @@ module _ {D : Type 0} (seen : D → List ℕ) (failures : D → ℕ) (armed : Di
       types : KeepsTypes h
       lasts : LastsThrough seen h.nodes.master
       sent : AllSent (λ (m : Message). ServesOf NotIt m.body) h.sent
+      waits : AllWaitFor (λ chunk. NotIt) h
 
     same_node : (a b : Node) → Some a ≡ Some b → a ≡ b
     same_node a b is = cc
@@ -344,7 +388,8 @@ module _ {D : Type 0} (seen : D → List ℕ) (failures : D → ℕ) (armed : Di
           has = further step old new goes req a.has;
           types = step_keeps seen failures armed step old new goes within a.types;
           lasts = still;
-          sent = step_serves NotIt NotIt (λ other is. is) step old new goes within a.types a.lasts still (λ other request n it found number same. asks_servers NotIt (request_of n other.number) request (later_one old a other n found number)) a.sent;
+          sent = step_serves NotIt NotIt (λ other is. is) step old new goes within a.types a.lasts still (λ other request n it found number same. asks_servers NotIt (request_of n other.number) request (later_one old a other n found number)) a.sent a.waits;
+          waits = step_waits NotIt NotIt (λ other is. is) step old new goes within a.types a.sent a.waits;
         }
 
     passes_apart : (steps : List Step) (old new : History D) (runs : RunsTo seen failures armed steps old new) → AllSpare steps → AllByRecursion IsStepWithin steps → IsApart old → (h : History D) → Passes seen failures armed h steps old new runs → IsApart h
@@ -352,10 +397,28 @@ module _ {D : Type 0} (seen : D → List ℕ) (failures : D → ℕ) (armed : Di
     passes_apart (step ∷ steps) old new (mid, goes, rest) spare within a h (inl here) = subst IsApart (sym here) (apart_on step old mid goes spare.0 within.0 a)
     passes_apart (step ∷ steps) old new (mid, goes, rest) spare within a h (inr there) = passes_apart steps mid new rest spare.1 within.1 (apart_on step old mid goes spare.0 within.0 a) h there
 
+    run_apart : (steps : List Step) (old new : History D) → RunsTo seen failures armed steps old new → AllSpare steps → AllByRecursion IsStepWithin steps → IsApart old → IsApart new
+    run_apart [] old new same spare within a = subst IsApart (sym same) a
+    run_apart (step ∷ steps) old new (mid, goes, rest) spare within a = run_apart steps mid new rest spare.1 within.1 (apart_on step old mid goes spare.0 within.0 a)
+
     refuses_none : (body : Body) → ServesOf NotIt body → RefusesIf req ⊥ body
     refuses_none (bodies.Done other (Err refusal)) serves = serves
     refuses_none (bodies.Bytes other (Err refusal)) serves = serves
     refuses_none body serves = tt
+
+    -- nor is a reply of a server said to it
+    no_answer : (reply : Reply) → IsOfServer reply → (result : Result Answer Refusal) → reply ≡ answered replies.Answer result → ⊥
+    no_answer reply of (Ok answer) is = subst IsOfServer is of
+    no_answer reply of (Err refusal) is = subst IsOfServer is of
+
+    says_none : (reply : Reply) → IsOfServer reply → (body : Body) → SaysReply req reply body → ServesOf NotIt body → ⊥
+    says_none reply of (bodies.Reply other result) says serves = no_answer reply of result says.1
+    says_none reply of (bodies.Done other result) says serves = serves says.0
+    says_none reply of (bodies.Bytes other result) says serves = serves says.0
+    says_none reply of body says serves = absurd says
+
+    none_told : (h : History D) → IsApart h → (reply : Reply) → IsOfServer reply → WasReplied h.sent req reply → ⊥
+    none_told h a reply of w = says_none reply of w.message.body w.says (a.sent w.was.0 w.message w.was.1)
 
     -- where it is asked
     module _ (call : Call) (once : is_answered_at_once call ≡ true) (old asked : History D) (moment : Moment) (are : AreAsked seen old) (served : AreServed old) (types : KeepsTypes old) (lasts : LastsThrough seen old.nodes.master) (x : AsksFresh seen failures armed old moment req call asked)
@@ -398,7 +461,8 @@ module _ {D : Type 0} (seen : D → List ℕ) (failures : D → ℕ) (armed : Di
         has = has_asked;
         types = step_keeps seen failures armed ask old asked goes within types;
         lasts = still;
-        sent = step_serves (HasAsked old.nodes.clients) NotIt none_asked ask old asked goes within types lasts still (λ other request n it found number same. a_call other request it (request_of n other.number)) served;
+        sent = step_serves (HasAsked old.nodes.clients) NotIt none_asked ask old asked goes within types lasts still (λ other request n it found number same. a_call other request it (request_of n other.number)) served.sent served.waits;
+        waits = step_waits (HasAsked old.nodes.clients) NotIt none_asked ask old asked goes within types served.sent served.waits;
       }
 
   pub refusals_are_made : RefusalsAreMade seen failures armed
@@ -407,10 +471,20 @@ module _ {D : Type 0} (seen : D → List ℕ) (failures : D → ℕ) (armed : Di
       says_are_made seen failures armed old asked new moment req call steps runs ⊥ (λ e. IsUnjudged e) (inl refl, inr (inl refl), inr (inr refl)) (λ none e. absurd none) (λ id m was. refuses_none req m.body (first.sent id m was))
       (λ h such id m was. refuses_none req m.body ((passes_apart req steps asked new runs spare within.1 first h such).sent id m was)) are fresh once spare node (Err refusal) there last reply
 
+  pub calls_are_for_the_master : CallsAreForTheMaster seen failures armed
+  calls_are_for_the_master old asked new moment req call steps node reply are served replied types lasts fresh once runs spare within there last has of =
+      let end = run_apart req steps asked new runs spare within.1 (apart_first req call once old asked moment are served types lasts fresh within.0) in
+      let told = run_replied seen failures armed (asks_call moment req call ∷ steps) old new (asked, (Ok tt, fresh.happens), runs) replied in
+      let its : ◌≡◌ {A = ReqId} (record { client = req.client; number = node.last }) req = λ i. record { client = req.client; number = last i } in
+      none_told req new end reply of (subst (λ r. WasReplied new.sent r reply) its (told.replied req.client node reply there has))
+
 -- ---- a new store, and what a script leaves
 
 pub begins_served : HaveSizes → {D : Type 0} (seen : D → List ℕ) (failures : D → ℕ) (armed : DiskId → ℕ → MasterPlace D → MasterPlace D) → BeginsServed seen failures armed
-begins_served sizes seen failures armed config clients disks new none begun = begins_none seen failures armed sizes config (λ req. []) clients disks new none begun (λ (m : Message). ServesOf (HasAsked new.nodes.clients) m.body)
+begins_served sizes seen failures armed config clients disks new none begun = record {
+  sent = begins_none seen failures armed sizes config (λ req. []) clients disks new none begun (λ (m : Message). ServesOf (HasAsked new.nodes.clients) m.body);
+  waits = waits_begin seen failures armed config clients disks new (λ chunk. HasAsked new.nodes.clients) begun;
+}
 
 one_client : 1 < 2 ^ 32
 one_client = omega arith

@@ -130,7 +130,7 @@ said_once config P s t said (ByItself u move before made is) = ByItself s move s
 said_once config P s t said (Closes u move before next made is chain) =
     Closes s move None (record next { said = said }) made is (said_other config (λ u move. P u move × (closes move ≡ true)) (move_turn config s move).after next said chain)
 
-steps_stand_for : (config : Config) (s : State) (moment : Moment) → IsSteady s → EndsOnce config (IsMadeWellFor config None) s (pressed_all s moment)
+pub steps_stand_for : (config : Config) (s : State) (moment : Moment) → IsSteady s → EndsOnce config (IsMadeWellFor config None) s (pressed_all s moment)
 steps_stand_for config s moment y = (once_stands_also config None (IsFor None) s (pressed_all s moment) (ticks_are_for config s moment y.firm (steps_fit s moment y.firm)) (all_steps_written s moment y).written y.firm.stands.kept).0
 
 module _ {D : Type 0} (old : History D) (m : MasterOf D) (at : old.nodes.master ≡ Standing m) (y : IsSteady m.state) where

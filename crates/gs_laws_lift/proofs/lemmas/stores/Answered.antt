@@ -104,7 +104,7 @@ body_quiet s from (bodies.Report epoch replicas) moment none = tt
 body_quiet s from (bodies.Learned epoch handles) moment none = tt
 body_quiet s from (bodies.Behind epoch) moment none = tt
 
-goes_quiet : (sent : Sent) (id : ℕ) (s after : Server) (messages : List Message) (goes : ServerGoes sent id s after messages) → about_of goes ≡ None → NoYeses messages
+pub goes_quiet : (sent : Sent) (id : ℕ) (s after : Server) (messages : List Message) (goes : ServerGoes sent id s after messages) → about_of goes ≡ None → NoYeses messages
 goes_quiet sent id s after messages (Hears message moment was to is sends) none = subst NoYeses (sym sends) (body_quiet s message.from message.body moment none)
 goes_quiet sent id s after messages (Ticks moment is sends) none = subst NoYeses (sym sends) (tick_quiet s moment)
 goes_quiet sent id s after messages (Beats is sends) none = subst NoYeses (sym sends) (tt, tt)
@@ -326,7 +326,7 @@ answers_go_on seen failures armed config bytes asked step old new (going.Elsewhe
 
 pub answers_begin : {D : Type 0} (seen : D → List ℕ) (failures : D → ℕ) (armed : DiskId → ℕ → MasterPlace D → MasterPlace D) (config : Config) (bytes : ReqId → List ℕ) (asked : ℕ → Asked) → AnswersBegin seen failures armed config bytes asked
 answers_begin seen failures armed config bytes asked clients disks begun none begins = (
-  waits_begin seen failures armed config clients disks begun asked begins,
+  waits_begin seen failures armed config clients disks begun (AsksFor asked) begins,
   λ lives. posted_all (λ (m : Message). HasDoneBody seen config bytes asked begun lives m.body) (record { 0 = 0 }) nodes.Master begins.turn.sent.items (none_sent config.servers clients) begun.sent (inl begins.sent)
       (none_of (λ (m : Message). HasDoneBody seen config bytes asked begun lives m.body) config.servers clients)
       (subst (AllByRecursion (λ (m : Message). HasDoneBody seen config bytes asked begun lives m.body)) (sym (begins_silent seen failures armed config clients disks begun none begins)) tt),

@@ -54,6 +54,7 @@ use Rattle.gs_nodes.specs.declared.place.MasterPlace.{MasterPlace}
 use Rattle.gs_base.specs.declared.config.Config.{Config}
 use Rattle.gs_nodes.specs.Nodes.{Nodes}
 use Rattle.gs_world.specs.Histories.{Begins, History}
+use Rattle.gs_world.specs.Runs.{Step}
 use Rattle.gs_world.specs.Sent.{Sent}
 use Rattle.gs_laws_parts.specs.server.Answering.{NoYes, handle_in}
 use Rattle.gs_laws_parts.specs.server.Requests.{Asked, IsOfOneEdit}
@@ -61,10 +62,11 @@ use Rattle.gs_laws_parts.proofs.lemmas.server.Elsewhere.{NoYeses, chunk_says, qu
 use Rattle.gs_laws_parts.proofs.lemmas.server.Lists.{all_append, all_mapped, in_filter, inserted_cases, nil_contains}
 use Rattle.gs_laws_parts.proofs.lemmas.server.Steps.{other_place}
 use Rattle.gs_laws_parts.proofs.lemmas.server.Ticks.{eq_same}
-use Rattle.gs_laws_lift.specs.stores.Going.{AllSent, Beats, Damages, Elsewhere, Hears, Loses, OfMaster, OfServer, Restarts, ServerGoes, Ticks, about_of}
-use Rattle.gs_laws_lift.specs.stores.Waiting.{AllWaitAsked, AsksFor, OutboxAsks, WaitsAsked, WaitsGoOn}
+use Rattle.gs_laws_lift.specs.stores.Going.{AllSent, Beats, Damages, Elsewhere, Hears, Kind, Loses, OfMaster, OfServer, Restarts, ServerGoes, Ticks, about_of}
+use Rattle.gs_laws_lift.specs.stores.Waiting.{AllWaitFor, AsksFor, OutboxAsks, WaitsFor, WaitsGoOn}
 use Rattle.gs_laws_lift.proofs.lemmas.stores.Beginning.{silent_at}
 use Rattle.gs_laws_lift.proofs.lemmas.stores.Numbered.{named_under}
+use Rattle.gs_laws_lift.proofs.lemmas.stores.Posting.{sent_then}
 use Rattle.gs_laws_lift.proofs.lemmas.stores.Serving.{set_cases}
 
 -- who is told yes has asked so
@@ -74,6 +76,15 @@ YesAsks Asks body = Unit {0}
 
 abbrev pub YesesAsk : (ReqId → Type 0) → List Message → Type 0
 YesesAsk Asks messages = AllByRecursion (λ (m : Message). YesAsks Asks m.body) messages
+
+-- where nobody is told yes
+pub none_yes : (Asks : ReqId → Type 0) (messages : List Message) → NoYeses messages → YesesAsk Asks messages
+none_yes Asks [] none = tt
+none_yes Asks (m ∷ messages) none = (by_body m.body none.0, none_yes Asks messages none.1)
+  where
+    by_body : (body : Body) → NoYes body → YesAsks Asks body
+    by_body (bodies.Done req (Ok outcome)) none = absurd none
+    by_body body none = tt
 
 -- ---- a message about the chunk, at its place
 
@@ -249,14 +260,6 @@ module _ (Asks : ReqId → Type 0) (h : Here) (p : Place) (waits : OutboxAsks As
   chunk_keeps from (chunks.Bad stamp) asks = waits
 
   -- who is told yes
-  none_yes : (messages : List Message) → NoYeses messages → YesesAsk Asks messages
-  none_yes [] none = tt
-  none_yes (m ∷ messages) none = (by_body m.body none.0, none_yes messages none.1)
-    where
-      by_body : (body : Body) → NoYes body → YesAsks Asks body
-      by_body (bodies.Done req (Ok outcome)) none = absurd none
-      by_body body none = tt
-
   dones_yes : (l : PrimaryLease) → OutboxAsks Asks (Some l) → YesesAsk Asks (dones h.me l)
   dones_yes l held = all_mapped (λ (m : Message). YesAsks Asks m.body) (done_of h.me) (filter (λ e. is_acknowledged l e.0) l.outbox) (λ e there. held e.0 e.1 (in_filter (λ x. is_acknowledged l x.0) l.outbox e there))
 
@@ -276,67 +279,64 @@ module _ (Asks : ReqId → Type 0) (h : Here) (p : Place) (waits : OutboxAsks As
   chunk_yes : (from : NodeId) (said : Chunk) → ((req : ReqId) (stamp : Stamp) (op : Op) → said ≡ chunks.Edit req stamp op → Asks req) → YesesAsk Asks (about_chunk h p from said).sent
   chunk_yes from (chunks.Edit req stamp op) asks = (edit_both req (asks req stamp op refl) stamp op).1
   chunk_yes from (chunks.Ack stamp count) asks = ack_yes from stamp count
-  chunk_yes from said asks = none_yes (about_chunk h p from said).sent (quiet_sent h.handle (about_chunk h p from said).sent (chunk_says h false p from said (λ may. absurd (cc))))
+  chunk_yes from said asks = none_yes Asks (about_chunk h p from said).sent (quiet_sent h.handle (about_chunk h p from said).sent (chunk_says h false p from said (λ may. absurd (cc))))
 
 -- ---- a server
 
 eq_self : (n : ℕ) → (n == n) ≡ true
 eq_self n = grind (arith, nat_tests)
 
-module _ (asked : ℕ → Asked) where
-  same_outbox : (chunk : ℕ) (a b : Place) → a ≡ b → OutboxAsks (AsksFor asked chunk) b.lease → OutboxAsks (AsksFor asked chunk) a.lease
-  same_outbox chunk a b same held = subst (λ (q : Place). OutboxAsks (AsksFor asked chunk) q.lease) (sym same) held
+module _ (Asks : ℕ → ReqId → Type 0) where
+  same_outbox : (chunk : ℕ) (a b : Place) → a ≡ b → OutboxAsks (Asks chunk) b.lease → OutboxAsks (Asks chunk) a.lease
+  same_outbox chunk a b same held = subst (λ (q : Place). OutboxAsks (Asks chunk) q.lease) (sym same) held
 
-  emptied : (chunk : ℕ) → OutboxAsks (AsksFor asked chunk) (let leases : fin.FinMap nat_cmp PrimaryLease = fin.empty in fin.get leases chunk)
-  emptied chunk = subst (OutboxAsks (AsksFor asked chunk)) (sym (fin.get-empty nat_cmp chunk)) tt
+  emptied : (chunk : ℕ) → OutboxAsks (Asks chunk) (let leases : fin.FinMap nat_cmp PrimaryLease = fin.empty in fin.get leases chunk)
+  emptied chunk = subst (OutboxAsks (Asks chunk)) (sym (fin.get-empty nat_cmp chunk)) tt
 
   -- a part is done at a chunk's place
-  changed_waits : (s : Server) (handle : ℕ) (req : Option ReqId) (part : Part) → WaitsAsked asked s → OutboxAsks (AsksFor asked handle) (lease_after (place_of handle s).lease part.lease) → WaitsAsked asked (servers.changed_by handle req part s)
+  changed_waits : (s : Server) (handle : ℕ) (req : Option ReqId) (part : Part) → WaitsFor Asks s → OutboxAsks (Asks handle) (lease_after (place_of handle s).lease part.lease) → WaitsFor Asks (servers.changed_by handle req part s)
   changed_waits s handle req part waits keeps chunk = by_case (chunk == handle) refl
     where
-      by_case : (b : Bool) → (chunk == handle) ≡ b → OutboxAsks (AsksFor asked chunk) (place_of chunk (servers.changed_by handle req part s)).lease
-      by_case true is = subst (λ k. OutboxAsks (AsksFor asked k) (place_of k (servers.changed_by handle req part s)).lease) (eq_same chunk handle is)
+      by_case : (b : Bool) → (chunk == handle) ≡ b → OutboxAsks (Asks chunk) (place_of chunk (servers.changed_by handle req part s)).lease
+      by_case true is = subst (λ k. OutboxAsks (Asks k) (place_of k (servers.changed_by handle req part s)).lease) (eq_same chunk handle is)
           (same_outbox handle (place_of handle (servers.changed_by handle req part s)) (places.after (place_of handle s) part) (own_place handle req part s) keeps)
       by_case false is = same_outbox chunk (place_of chunk (servers.changed_by handle req part s)) (place_of chunk s) (other_place handle chunk req part s is) (waits chunk)
 
   -- where an edit of a request about a chunk is heard the request asks so
-  abbrev HeardAsked : Body → Type 0
-  HeardAsked body = (handle : ℕ) (req : ReqId) (stamp : Stamp) (op : Op) → body ≡ bodies.About handle (chunks.Edit req stamp op) → AsksFor asked handle req
+  abbrev pub HeardAsked : Body → Type 0
+  HeardAsked body = (handle : ℕ) (req : ReqId) (stamp : Stamp) (op : Op) → body ≡ bodies.About handle (chunks.Edit req stamp op) → Asks handle req
 
-  heard_asks : (m : Message) → IsOfOneEdit asked m → HeardAsked m.body
-  heard_asks m one handle req stamp op said = ap is_some (named_under asked handle m one handle req stamp op said (eq_self handle))
-
-  copy_waits : (s : Server) (handle new_handle : ℕ) (h new : Here) (stamp : Stamp) (o : Option Refusal) (m : Result Slot Refusal) → WaitsAsked asked s
-      → WaitsAsked asked (servers.copies handle new_handle (messages.or_copy o (messages.not_copied h (place_of handle s) new stamp) (messages.copies h (place_of handle s) new (place_of new_handle s) stamp m)) s).after
+  copy_waits : (s : Server) (handle new_handle : ℕ) (h new : Here) (stamp : Stamp) (o : Option Refusal) (m : Result Slot Refusal) → WaitsFor Asks s
+      → WaitsFor Asks (servers.copies handle new_handle (messages.or_copy o (messages.not_copied h (place_of handle s) new stamp) (messages.copies h (place_of handle s) new (place_of new_handle s) stamp m)) s).after
   copy_waits s handle new_handle h new stamp o m waits = by_made o m
     where
-      made : (copying : messages.Copying) → OutboxAsks (AsksFor asked new_handle) (lease_after (place_of new_handle s).lease copying.target.lease) → WaitsAsked asked (servers.copies handle new_handle copying s).after
+      made : (copying : messages.Copying) → OutboxAsks (Asks new_handle) (lease_after (place_of new_handle s).lease copying.target.lease) → WaitsFor Asks (servers.copies handle new_handle copying s).after
       made copying keeps = changed_waits (with_store (change_slot handle copying.source (store_of s)) s) new_handle None copying.target waits keeps
 
-      by_made : (o : Option Refusal) (m : Result Slot Refusal) → WaitsAsked asked (servers.copies handle new_handle (messages.or_copy o (messages.not_copied h (place_of handle s) new stamp) (messages.copies h (place_of handle s) new (place_of new_handle s) stamp m)) s).after
+      by_made : (o : Option Refusal) (m : Result Slot Refusal) → WaitsFor Asks (servers.copies handle new_handle (messages.or_copy o (messages.not_copied h (place_of handle s) new stamp) (messages.copies h (place_of handle s) new (place_of new_handle s) stamp m)) s).after
       by_made (Some e) m = made (messages.not_copied h (place_of handle s) new stamp e) (waits new_handle)
       by_made None (Err e) = made (messages.not_copied h (place_of handle s) new stamp e) (waits new_handle)
-      by_made None (Ok t) = made (messages.copies h (place_of handle s) new (place_of new_handle s) stamp (Ok t)) (promising_keeps (AsksFor asked new_handle) new (place_of new_handle s) (waits new_handle) t.promise (place_of new_handle s).lease (waits new_handle))
+      by_made None (Ok t) = made (messages.copies h (place_of handle s) new (place_of new_handle s) stamp (Ok t)) (promising_keeps (Asks new_handle) new (place_of new_handle s) (waits new_handle) t.promise (place_of new_handle s).lease (waits new_handle))
 
-  ended_waits : (s : Server) (end : EpochEnd) (t : Store) → WaitsAsked asked s → WaitsAsked asked (with_leases (leases_after end s.dropped.leases) (with_store t s))
+  ended_waits : (s : Server) (end : EpochEnd) (t : Store) → WaitsFor Asks s → WaitsFor Asks (with_leases (leases_after end s.dropped.leases) (with_store t s))
   ended_waits s ends.Rollback t waits chunk = emptied chunk
   ended_waits s ends.Prepare t waits chunk = waits chunk
   ended_waits s ends.Finalize t waits chunk = waits chunk
 
-  learn_waits : (s : Server) (epoch : ℕ) (end : EpochEnd) → WaitsAsked asked s → WaitsAsked asked (servers.learn s epoch end).after
+  learn_waits : (s : Server) (epoch : ℕ) (end : EpochEnd) → WaitsFor Asks s → WaitsFor Asks (servers.learn s epoch end).after
   learn_waits s epoch end waits = by_case (epoch == s.kept.epoch) (epoch == s.kept.epoch + 1)
     where
-      by_case : (a b : Bool) → WaitsAsked asked (cond a (learned s epoch end s) (cond b (learned s epoch end (with_leases (leases_after end s.dropped.leases) (with_store (stores.learned epoch end (store_of s)) s)))
+      by_case : (a b : Bool) → WaitsFor Asks (cond a (learned s epoch end s) (cond b (learned s epoch end (with_leases (leases_after end s.dropped.leases) (with_store (stores.learned epoch end (store_of s)) s)))
           (record { after = s; sent = tell s.me nodes.Master (bodies.Behind s.kept.epoch) ∷ []; said = Some (refusals.Epoch s.kept.epoch) }))).after
       by_case true b = waits
       by_case false true = ended_waits s end (stores.learned epoch end (store_of s)) waits
       by_case false false = waits
 
-  body_waits : (s : Server) (from : NodeId) (body : Body) (moment : Moment) → HeardAsked body → WaitsAsked asked s → WaitsAsked asked (handle_body s from body moment).after
+  body_waits : (s : Server) (from : NodeId) (body : Body) (moment : Moment) → HeardAsked body → WaitsFor Asks s → WaitsFor Asks (handle_body s from body moment).after
   body_waits s from (bodies.About handle said) moment heard waits =
       let h : Here = here_of s moment handle (request_in said) in
       changed_waits s handle (request_in said) (about_chunk h (place_of handle s) from said) waits
-      (chunk_keeps (AsksFor asked handle) h (place_of handle s) (waits handle) from said (λ req stamp op is. heard handle req stamp op (ap (bodies.About handle) is)))
+      (chunk_keeps (Asks handle) h (place_of handle s) (waits handle) from said (λ req stamp op is. heard handle req stamp op (ap (bodies.About handle) is)))
   body_waits s from (bodies.Push req bytes) moment heard waits = waits
   body_waits s from (bodies.MakeCopy handle at new_handle stamp) moment heard waits =
       let h : Here = here_of s moment handle None in
@@ -350,53 +350,69 @@ module _ (asked : ℕ → Asked) where
   body_waits s from (bodies.Learned epoch handles) moment heard waits = waits
   body_waits s from (bodies.Behind epoch) moment heard waits = waits
 
-  tick_waits : (s : Server) (moment : Moment) → WaitsAsked asked s → WaitsAsked asked (servers.tick s moment).after
+  tick_waits : (s : Server) (moment : Moment) → WaitsFor Asks s → WaitsFor Asks (servers.tick s moment).after
   tick_waits s moment waits chunk =
       let test = λ (handle : ℕ). stands_at moment (fin.get s.dropped.leases handle) in
-      subst (OutboxAsks (AsksFor asked chunk)) (sym (fin.get-retain_keys s.dropped.leases test chunk (λ y e. ap test (sym (fin.nat_cmp-IsAntisymmetric chunk y e))))) (by_test (test chunk))
+      subst (OutboxAsks (Asks chunk)) (sym (fin.get-retain_keys s.dropped.leases test chunk (λ y e. ap test (sym (fin.nat_cmp-IsAntisymmetric chunk y e))))) (by_test (test chunk))
     where
-      by_test : (b : Bool) → OutboxAsks (AsksFor asked chunk) (cond b (fin.get s.dropped.leases chunk) None)
+      by_test : (b : Bool) → OutboxAsks (Asks chunk) (cond b (fin.get s.dropped.leases chunk) None)
       by_test true = waits chunk
       by_test false = tt
 
-  struck_waits : (s : Server) (m : Result Store Refusal) → WaitsAsked asked s → WaitsAsked asked (unless_refused s (in_store s m))
+  struck_waits : (s : Server) (m : Result Store Refusal) → WaitsFor Asks s → WaitsFor Asks (unless_refused s (in_store s m))
   struck_waits s (Ok t) waits = waits
   struck_waits s (Err e) waits = waits
 
-  goes_waits : (sent : Sent) (id : ℕ) (s after : Server) (messages : List Message) → ServerGoes sent id s after messages → AllSent (IsOfOneEdit asked) sent → WaitsAsked asked s → WaitsAsked asked after
-  goes_waits sent id s after messages (Hears message moment was to is sends) one waits = subst (WaitsAsked asked) (sym is) (body_waits s message.from message.body moment (heard_asks message (one was.0 message was.1)) waits)
-  goes_waits sent id s after messages (Ticks moment is sends) one waits = subst (WaitsAsked asked) (sym is) (tick_waits s moment waits)
-  goes_waits sent id s after messages (Beats is sends) one waits = subst (WaitsAsked asked) (sym is) waits
-  goes_waits sent id s after messages (Restarts is sends) one waits = subst (WaitsAsked asked) (sym is) (λ chunk. emptied chunk)
-  goes_waits sent id s after messages (Loses handle is sends) one waits = subst (WaitsAsked asked) (sym is) (struck_waits s (stores.lose handle (store_of s)) waits)
-  goes_waits sent id s after messages (Damages handle block is sends) one waits = subst (WaitsAsked asked) (sym is) (struck_waits s (stores.damage handle block (store_of s)) waits)
+  goes_waits : (sent : Sent) (id : ℕ) (s after : Server) (messages : List Message) → ServerGoes sent id s after messages → AllSent (λ (m : Message). HeardAsked m.body) sent → WaitsFor Asks s → WaitsFor Asks after
+  goes_waits sent id s after messages (Hears message moment was to is sends) heard waits = subst (WaitsFor Asks) (sym is) (body_waits s message.from message.body moment (heard was.0 message was.1) waits)
+  goes_waits sent id s after messages (Ticks moment is sends) heard waits = subst (WaitsFor Asks) (sym is) (tick_waits s moment waits)
+  goes_waits sent id s after messages (Beats is sends) heard waits = subst (WaitsFor Asks) (sym is) waits
+  goes_waits sent id s after messages (Restarts is sends) heard waits = subst (WaitsFor Asks) (sym is) (λ chunk. emptied chunk)
+  goes_waits sent id s after messages (Loses handle is sends) heard waits = subst (WaitsFor Asks) (sym is) (struck_waits s (stores.lose handle (store_of s)) waits)
+  goes_waits sent id s after messages (Damages handle block is sends) heard waits = subst (WaitsFor Asks) (sym is) (struck_waits s (stores.damage handle block (store_of s)) waits)
 
   -- a client that is told yes by a server that hears about a chunk has asked for an edit of that chunk
-  pub yeses_asked : (sent : Sent) (id : ℕ) (s after : Server) (messages : List Message) (goes : ServerGoes sent id s after messages) (chunk : ℕ) → AllSent (IsOfOneEdit asked) sent → WaitsAsked asked s → about_of goes ≡ Some chunk → YesesAsk (AsksFor asked chunk) messages
-  yeses_asked sent id s after messages (Hears message moment was to is sends) chunk one waits about = subst (YesesAsk (AsksFor asked chunk)) (sym sends) (by_body message.body (heard_asks message (one was.0 message was.1)) about)
+  pub yeses_for : (sent : Sent) (id : ℕ) (s after : Server) (messages : List Message) (goes : ServerGoes sent id s after messages) (chunk : ℕ) → AllSent (λ (m : Message). HeardAsked m.body) sent → WaitsFor Asks s → about_of goes ≡ Some chunk → YesesAsk (Asks chunk) messages
+  yeses_for sent id s after messages (Hears message moment was to is sends) chunk heard waits about = subst (YesesAsk (Asks chunk)) (sym sends) (by_body message.body (heard was.0 message was.1) about)
     where
-      by_body : (body : Body) → HeardAsked body → handle_in body ≡ Some chunk → YesesAsk (AsksFor asked chunk) (handle_body s message.from body moment).sent
+      by_body : (body : Body) → HeardAsked body → handle_in body ≡ Some chunk → YesesAsk (Asks chunk) (handle_body s message.from body moment).sent
       by_body (bodies.About handle said) heard about =
           let same : handle ≡ chunk = cc in
-          subst (λ k. YesesAsk (AsksFor asked k) (handle_body s message.from (bodies.About handle said) moment).sent) same
-          (chunk_yes (AsksFor asked handle) (here_of s moment handle (request_in said)) (place_of handle s) (waits handle) message.from said (λ req stamp op is. heard handle req stamp op (ap (bodies.About handle) is)))
+          subst (λ k. YesesAsk (Asks k) (handle_body s message.from (bodies.About handle said) moment).sent) same
+          (chunk_yes (Asks handle) (here_of s moment handle (request_in said)) (place_of handle s) (waits handle) message.from said (λ req stamp op is. heard handle req stamp op (ap (bodies.About handle) is)))
       by_body body heard about = absurd (cc)
-  yeses_asked sent id s after messages (Ticks moment is sends) chunk one waits about = absurd (cc)
-  yeses_asked sent id s after messages (Beats is sends) chunk one waits about = absurd (cc)
-  yeses_asked sent id s after messages (Restarts is sends) chunk one waits about = absurd (cc)
-  yeses_asked sent id s after messages (Loses handle is sends) chunk one waits about = absurd (cc)
-  yeses_asked sent id s after messages (Damages handle block is sends) chunk one waits about = absurd (cc)
+  yeses_for sent id s after messages (Ticks moment is sends) chunk heard waits about = absurd (cc)
+  yeses_for sent id s after messages (Beats is sends) chunk heard waits about = absurd (cc)
+  yeses_for sent id s after messages (Restarts is sends) chunk heard waits about = absurd (cc)
+  yeses_for sent id s after messages (Loses handle is sends) chunk heard waits about = absurd (cc)
+  yeses_for sent id s after messages (Damages handle block is sends) chunk heard waits about = absurd (cc)
 
-pub waits_go_on : {D : Type 0} (seen : D → List ℕ) (failures : D → ℕ) (armed : DiskId → ℕ → MasterPlace D → MasterPlace D) (asked : ℕ → Asked) → WaitsGoOn seen failures armed asked
-waits_go_on seen failures armed asked step old new (OfServer id s after messages moment found goes met servers master posted) one waits j x at =
+-- all that was sent for a request is of its one edit
+module _ (asked : ℕ → Asked) where
+  heard_asks : (m : Message) → IsOfOneEdit asked m → HeardAsked (AsksFor asked) m.body
+  heard_asks m one handle req stamp op said = ap is_some (named_under asked handle m one handle req stamp op said (eq_self handle))
+
+  all_heard : (sent : Sent) → AllSent (IsOfOneEdit asked) sent → AllSent (λ (m : Message). HeardAsked (AsksFor asked) m.body) sent
+  all_heard sent one = sent_then (IsOfOneEdit asked) (λ (m : Message). HeardAsked (AsksFor asked) m.body) sent heard_asks one
+
+  pub yeses_asked : (sent : Sent) (id : ℕ) (s after : Server) (messages : List Message) (goes : ServerGoes sent id s after messages) (chunk : ℕ) → AllSent (IsOfOneEdit asked) sent → WaitsFor (AsksFor asked) s → about_of goes ≡ Some chunk → YesesAsk (AsksFor asked chunk) messages
+  yeses_asked sent id s after messages goes chunk one waits about = yeses_for (AsksFor asked) sent id s after messages goes chunk (all_heard sent one) waits about
+
+-- it stays so at each step at which what is heard asks so
+pub waits_go : {D : Type 0} (seen : D → List ℕ) (failures : D → ℕ) (armed : DiskId → ℕ → MasterPlace D → MasterPlace D) (Asks : ℕ → ReqId → Type 0) (step : Step) (old new : History D) → Kind seen failures armed step old new → AllSent (λ (m : Message). HeardAsked Asks m.body) old.sent
+    → AllWaitFor Asks old → AllWaitFor Asks new
+waits_go seen failures armed Asks step old new (OfServer id s after messages moment found goes met servers master posted) heard waits j x at =
     elim (set_cases old.nodes.servers id j after x (subst (λ xs. slice_get xs j ≡ Some x) servers at)) [
-      | inl here ↦ subst (WaitsAsked asked) (sym here.1) (goes_waits asked old.sent id s after messages goes one (waits id s found))
+      | inl here ↦ subst (WaitsFor Asks) (sym here.1) (goes_waits Asks old.sent id s after messages goes heard (waits id s found))
       | inr there ↦ waits j x there.1
     ]
-waits_go_on seen failures armed asked step old new (OfMaster place messages moment goes servers master posted) one waits j x at = waits j x (subst (λ xs. slice_get xs j ≡ Some x) servers at)
-waits_go_on seen failures armed asked step old new (Elsewhere by messages moment are servers master posted) one waits j x at = waits j x (subst (λ xs. slice_get xs j ≡ Some x) servers at)
+waits_go seen failures armed Asks step old new (OfMaster place messages moment goes servers master posted) heard waits j x at = waits j x (subst (λ xs. slice_get xs j ≡ Some x) servers at)
+waits_go seen failures armed Asks step old new (Elsewhere by messages moment are servers master posted) heard waits j x at = waits j x (subst (λ xs. slice_get xs j ≡ Some x) servers at)
+
+pub waits_go_on : {D : Type 0} (seen : D → List ℕ) (failures : D → ℕ) (armed : DiskId → ℕ → MasterPlace D → MasterPlace D) (asked : ℕ → Asked) → WaitsGoOn seen failures armed asked
+waits_go_on seen failures armed asked step old new kind one waits = waits_go seen failures armed (AsksFor asked) step old new kind (all_heard asked old.sent one) waits
 
 -- when a store begins new no server waits
-pub waits_begin : {D : Type 0} (seen : D → List ℕ) (failures : D → ℕ) (armed : DiskId → ℕ → MasterPlace D → MasterPlace D) (config : Config) (clients : ℕ) (disks : D × D) (new : History D) (asked : ℕ → Asked) → Begins seen failures armed config clients disks new → AllWaitAsked asked new
-waits_begin seen failures armed config clients disks new asked begun id s found chunk =
-    subst (λ (x : Server). OutboxAsks (AsksFor asked chunk) (place_of chunk x).lease) (sym (silent_at config config.servers id s (subst (λ (n : Nodes _). slice_get n.servers id ≡ Some s) begun.nodes found))) (emptied asked chunk)
+pub waits_begin : {D : Type 0} (seen : D → List ℕ) (failures : D → ℕ) (armed : DiskId → ℕ → MasterPlace D → MasterPlace D) (config : Config) (clients : ℕ) (disks : D × D) (new : History D) (Asks : ℕ → ReqId → Type 0) → Begins seen failures armed config clients disks new → AllWaitFor Asks new
+waits_begin seen failures armed config clients disks new Asks begun id s found chunk =
+    subst (λ (x : Server). OutboxAsks (Asks chunk) (place_of chunk x).lease) (sym (silent_at config config.servers id s (subst (λ (n : Nodes _). slice_get n.servers id ≡ Some s) begun.nodes found))) (emptied Asks chunk)

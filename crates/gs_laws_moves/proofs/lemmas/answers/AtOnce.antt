@@ -50,7 +50,7 @@ module _ (req : ReqId) (result : Result Answer Refusal) where
   abbrev So : State → Turn → Type 0
   So s t = AnswersAlone req result s t
 
-  but_still : (m n : fin.FinMap client_cmp KeptReply) → n ≡ m → But m n
+  pub but_still : (m n : fin.FinMap client_cmp KeptReply) → n ≡ m → But m n
   but_still m n is client reply has = inl (ap (λ x. fin.get x client) (sym is) ∙ has)
 
   abbrev its_own : KeptReply
@@ -63,7 +63,7 @@ module _ (req : ReqId) (result : Result Answer Refusal) where
       by_key true same h = (let c = same_client client req.client same in let r = some_is h in inr ((λ i. record { client = c i; number = (sym r i).number }), ap (λ (x : KeptReply). x.result) (sym r)))
       by_key false apart h = inl h
 
-  but_replied : (m : fin.FinMap client_cmp KeptReply) → But m (with_reply m req result)
+  pub but_replied : (m : fin.FinMap client_cmp KeptReply) → But m (with_reply m req result)
   but_replied m = by_test (is_later (fin.get m req.client) req.number)
     where
       by_test : (b : Bool) → But m (if b then fin.insert m req.client its_own else m)
@@ -89,7 +89,7 @@ no_more : (xs : List Change) → xs ++ [] ≡ xs
 no_more [] = refl
 no_more (x ∷ xs) = ap (λ (ys : List Change). x ∷ ys) (no_more xs)
 
-refused_alone : (s : State) (req : ReqId) (refusal : Refusal) → AnswersAlone req (Err refusal) s (refused s req refusal)
+pub refused_alone : (s : State) (req : ReqId) (refusal : Refusal) → AnswersAlone req (Err refusal) s (refused s req refusal)
 refused_alone s req refusal = record {
   sent = ((refl, refl), tt);
   says = inl refl;
@@ -111,7 +111,7 @@ refused_alone s req refusal = record {
 
 -- ---- an answer without a record
 
-abbrev Alone : State → ReqId → Turn → Type 0
+abbrev pub Alone : State → ReqId → Turn → Type 0
 Alone s req t = (result : Result Answer Refusal) × AnswersAlone req result s t
 
 answered_alone : (s : State) (req : ReqId) (answer : Answer) → AnswersAlone req (Ok answer) s (answered_with s req answer)
@@ -175,7 +175,7 @@ module _ (s : State) (req : ReqId) where
         few = omega arith;
       }
 
-  room_alone : (t : Turn) → Alone s req t → Alone s req (if_room s t (refused s req refusals.Full))
+  pub room_alone : (t : Turn) → Alone s req t → Alone s req (if_room s t (refused s req refusals.Full))
   room_alone t a = pick (Alone s req) (fits s.log t.records) t (refused s req refusals.Full) a (Err refusals.Full, refused_alone s req refusals.Full)
 
   unless_alone : (refusal : Option Refusal) (t : Turn) → Alone s req t → Alone s req (unless refusal s req t)

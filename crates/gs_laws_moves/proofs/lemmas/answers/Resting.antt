@@ -89,10 +89,10 @@ before_later number later_one (Some r) test f = (let low = lower r.number later_
 -- ---- a reply that is put where its client's stands
 
 module _ (req : ReqId) (result : Result Answer Refusal) where
-  abbrev its_own : KeptReply
+  abbrev pub its_own : KeptReply
   its_own = record { number = req.number; result = result }
 
-  own_there : (m : fin.FinMap client_cmp KeptReply) → fin.get (fin.insert m req.client its_own) req.client ≡ Some its_own
+  pub own_there : (m : fin.FinMap client_cmp KeptReply) → fin.get (fin.insert m req.client its_own) req.client ≡ Some its_own
   own_there m = fin.get-insert client_total m req.client its_own req.client ∙ by_key (eq_by_cmp client_cmp req.client req.client) (ap is_eq (tied_itself client_total req.client))
     where
       by_key : (b : Bool) → b ≡ true → cond b (Some its_own) (fin.get m req.client) ≡ Some its_own
@@ -155,7 +155,7 @@ unfolding applied
 said_epoch req refusal s = refl
 
 -- a refusal is kept on record, in memory, or not at all
-refused_leaves : (s : State) (req : ReqId) (refusal : Refusal) → LeavesNames s req (refused s req refusal)
+pub refused_leaves : (s : State) (req : ReqId) (refusal : Refusal) → LeavesNames s req (refused s req refusal)
 refused_leaves s req refusal = by_tests (is_kept refusal) (is_later (last_reply s req.client) req.number) refl (fits s.log (Said req refusal ∷ []))
   where
     Kept : Bool → Bool → Turn
@@ -187,7 +187,7 @@ looks_leave config s req moment call is = by_refusal (refused_before s req call)
 
 -- ---- what is said
 
-no_answer : {T : Type 0} (req : ReqId) (refusal : Refusal) (answer : Answer) (more : List Message) → OneSays req (Ok answer) (reply_to req (Err refusal) ∷ []) → T
+pub no_answer : {T : Type 0} (req : ReqId) (refusal : Refusal) (answer : Answer) (more : List Message) → OneSays req (Ok answer) (reply_to req (Err refusal) ∷ []) → T
 no_answer req refusal answer more (inl is) = absurd (other_result is)
   where
     other_result : bodies.Reply req (Err refusal) ≡ bodies.Reply req (Ok answer) → ⊥

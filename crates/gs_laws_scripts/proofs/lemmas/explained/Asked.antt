@@ -20,6 +20,7 @@ use Rattle.gs_master_spec.specs.Handling.{called_unless, new_call}
 use Rattle.gs_master_spec.specs.State.{State, first_of, is_failed, reply_to}
 use Rattle.gs_msg.specs.declared.answer.Answer.{Answer as Said}
 use Rattle.gs_msg.specs.declared.answer.Answer.TheVariants as says
+use Rattle.gs_msg.specs.declared.answer.Status.TheVariants as statuses
 use Rattle.gs_msg.specs.declared.body.Body.TheVariants as bodies
 use Rattle.gs_msg.specs.declared.call.Call.{Call}
 use Rattle.gs_msg.specs.declared.call.Call.TheVariants as calls
@@ -116,7 +117,7 @@ said_now m call plain result comes is = inl (subst (λ (x : Result Said Refusal 
 refused_now : (m : Machine) (call : Call) (refusal : Refusal) (result : Result Said Refusal) → IsOfStore refusal → result ≡ Err refusal → AsksNow call m result m
 refused_now m call refusal result store is = inr (refusal, is, inl (store, refl))
 
--- A list wants of the machine its names, and that it rolls back only where the master does.
+-- A list wants of the machine its names, and that it rolls back only where the master does; so does a status.
 module _ (config : Config) (s : State) (req : ReqId) (moment : Moment) (m : Machine) (text : ℕ → Text) (tree : m.plain.tree ≡ mapped_rows text (fin.entries s.durable.names.tree)) (calms : is_rolled s.durable.phase ≡ false → is_rolling m.phase ≡ false) where
   list_by : (p : Path) (result : Result Said Refusal) → is_any_deep (calls.List p) ≡ false → (o : Option Refusal) → IsGated (is_rolled s.durable.phase) o → OneSays req result (called_unless config s req moment (calls.List p) o).sent → AsksNow (calls.List p) m result m
   list_by p result not_deep None calm said =
@@ -126,6 +127,73 @@ module _ (config : Config) (s : State) (req : ReqId) (moment : Moment) (m : Mach
 
   pub list_shown : (p : Path) (result : Result Said Refusal) → is_any_deep (calls.List p) ≡ false → OneSays req result (new_call config s req moment (calls.List p)).sent → AsksNow (calls.List p) m result m
   list_shown p result not_deep said = list_by p result not_deep (refused_before s req (calls.List p)) (gates_deep (is_failed s.fault) (is_rolled s.durable.phase) s.volatile.is_preparing (is_any_deep (calls.List p)) (is_locked s req (calls.List p)) not_deep) said
+
+  found_so : (p : Path) → at m.plain.tree p ≡ mapped_at text (fin.get s.durable.names.tree p)
+  found_so p = ap (λ rows. at rows p) tree ∙ at_mapped text (fin.entries s.durable.names.tree) p ∙ ap (λ found. mapped_at text (found p)) (sym (rows_of s.durable.names.tree))
+
+  -- so does a status
+  status_is : (p : Path) → AreShort m → is_rolling m.phase ≡ false → (found : Option (Entry ℕ)) → at m.plain.tree p ≡ mapped_at text found → TellsStatus m p (status s.durable found)
+  status_is p short calm None is = inr (refl, calm, is)
+  status_is p short calm (Some Dir) is = (calm, is)
+  status_is p short calm (Some (File chunks)) is = (calm, map text chunks, is, length_map (chunk_status s.durable) chunks ∙ sym (length_map text chunks), short p (map text chunks) is)
+
+  status_by : (p : Path) (result : Result Said Refusal) → AreShort m → (o : Option Refusal) → IsGated (is_rolled s.durable.phase) o → OneSays req result (called_unless config s req moment (calls.Status p) o).sent → TellsStatus m p result
+  status_by p result short None calm said =
+      subst (TellsStatus m p) (sym (looked_said s req (status s.durable (fin.get s.durable.names.tree p)) result said)) (status_is p short (calms calm) (fin.get s.durable.names.tree p) (found_so p))
+  status_by p result short (Some refusal) store said = subst (TellsStatus m p) (sym (one_said req (Err refusal) result said)) (inl (inl store))
+
+  pub status_shown : (p : Path) (result : Result Said Refusal) → AreShort m → is_any_deep (calls.Status p) ≡ false → OneSays req result (new_call config s req moment (calls.Status p)).sent → TellsStatus m p result
+  status_shown p result short not_deep said = status_by p result short (refused_before s req (calls.Status p)) (gates_deep (is_failed s.fault) (is_rolled s.durable.phase) s.volatile.is_preparing (is_any_deep (calls.Status p)) (is_locked s req (calls.Status p)) not_deep) said
+
+  -- one that tells of a directory, whatever files there are
+  abbrev dir : Result Said Refusal
+  dir = Ok (says.Status statuses.Directory)
+
+  dir_is : (p : Path) (found : Option (Entry ℕ)) → at m.plain.tree p ≡ mapped_at text found → status s.durable found ≡ dir → at m.plain.tree p ≡ Some Dir
+  dir_is p None is said = absurd (cc)
+  dir_is p (Some Dir) is said = is
+  dir_is p (Some (File chunks)) is said = absurd (cc)
+
+  dir_by : (p : Path) (o : Option Refusal) → IsGated (is_rolled s.durable.phase) o → OneSays req dir (called_unless config s req moment (calls.Status p) o).sent → (is_rolling m.phase ≡ false) × (at m.plain.tree p ≡ Some Dir)
+  dir_by p None calm said = (calms calm, dir_is p (fin.get s.durable.names.tree p) (found_so p) (sym (looked_said s req (status s.durable (fin.get s.durable.names.tree p)) dir said)))
+  dir_by p (Some refusal) store said = absurd (never (one_said req (Err refusal) dir said))
+    where
+      never : ◌≡◌ {A = Result Said Refusal} (Ok (says.Status statuses.Directory)) (Err refusal) → ⊥
+      never e = cc
+
+  pub dir_shown : (p : Path) → is_any_deep (calls.Status p) ≡ false → OneSays req dir (new_call config s req moment (calls.Status p)).sent → (is_rolling m.phase ≡ false) × (at m.plain.tree p ≡ Some Dir)
+  dir_shown p not_deep said = dir_by p (refused_before s req (calls.Status p)) (gates_deep (is_failed s.fault) (is_rolled s.durable.phase) s.volatile.is_preparing (is_any_deep (calls.Status p)) (is_locked s req (calls.Status p)) not_deep) said
+
+  -- and where a chunk is, if the epoch is the master's too
+  module _ (epoch : m.epoch ≡ s.durable.epoch) where
+    located : (chunk index : ℕ) (texts : List Text) (view : Option View) → index < length texts → TellsIndex m index texts (location_on chunk s.durable.epoch view)
+    located chunk index texts None below = inl refl
+    located chunk index texts (Some view) below = (below, sym epoch)
+
+    place_is : (p : Path) (index : ℕ) (texts : List Text) (found : Option (Entry ℕ)) → mapped_at text found ≡ Some (File texts) → TellsIndex m index texts (location s.durable (found_chunk found index))
+    place_is p index texts None is = absurd (cc)
+    place_is p index texts (Some Dir) is = absurd (cc)
+    place_is p index texts (Some (File chunks)) is = by_slot (slot chunks index)
+      where
+        file_is : {a b : List Text} → ◌≡◌ {A = Option (Entry Text)} (Some (File a)) (Some (File b)) → a ≡ b
+        file_is e = cc
+
+        long : length texts ≡ length chunks
+        long = ap length (sym (file_is is)) ∙ length_map text chunks
+
+        by_slot : Slot chunks index → TellsIndex m index texts (location s.durable (found_chunk (Some (File chunks)) index))
+        by_slot (inl (chunk, below, found)) = subst (λ r. TellsIndex m index texts (location s.durable r)) (sym found) (located chunk index texts (view_in (fin.get s.durable.chunks chunk)) (omega (arith, below, long)))
+        by_slot (inr (past, found)) = subst (λ r. TellsIndex m index texts (location s.durable r)) (sym found) (inr (refl, omega (arith, past, long)))
+
+    place_by : (p : Path) (index : ℕ) (texts : List Text) (result : Result Said Refusal) → at m.plain.tree p ≡ Some (File texts) → (o : Option Refusal) → IsGated (is_rolled s.durable.phase) o → OneSays req result (called_unless config s req moment (calls.FindForReading p index) o).sent
+        → TellsIndex m index texts result
+    place_by p index texts result file None calm said =
+        subst (TellsIndex m index texts) (sym (looked_said s req (location s.durable (found_chunk (fin.get s.durable.names.tree p) index)) result said)) (place_is p index texts (fin.get s.durable.names.tree p) (sym (found_so p) ∙ file))
+    place_by p index texts result file (Some refusal) store said = subst (TellsIndex m index texts) (sym (one_said req (Err refusal) result said)) (inl store)
+
+    pub place_shown : (p : Path) (index : ℕ) (texts : List Text) (result : Result Said Refusal) → at m.plain.tree p ≡ Some (File texts) → is_any_deep (calls.FindForReading p index) ≡ false → OneSays req result (new_call config s req moment (calls.FindForReading p index)).sent → TellsIndex m index texts result
+    place_shown p index texts result file not_deep said =
+        place_by p index texts result file (refused_before s req (calls.FindForReading p index)) (gates_deep (is_failed s.fault) (is_rolled s.durable.phase) s.volatile.is_preparing (is_any_deep (calls.FindForReading p index)) (is_locked s req (calls.FindForReading p index)) not_deep) said
 
 -- a query is refused by the store alone
 module _ (config : Config) (s : State) (req : ReqId) (moment : Moment) (refusal : Refusal) where
@@ -146,9 +214,6 @@ module _ (config : Config) (s : State) (req : ReqId) (moment : Moment) (m : Mach
   calm_so : is_rolled s.durable.phase ≡ false → is_rolling m.phase ≡ false
   calm_so is = ap is_rolling shows.phase ∙ calm_shown s.volatile.is_preparing s.durable.phase is
 
-  found_so : (p : Path) → at m.plain.tree p ≡ mapped_at shows.text (fin.get s.durable.names.tree p)
-  found_so p = ap (λ rows. at rows p) shows.tree ∙ at_mapped shows.text (fin.entries s.durable.names.tree) p ∙ ap (λ found. mapped_at shows.text (found p)) (sym (rows_of s.durable.names.tree))
-
   -- ---- lists and queries
 
   list_told : (p : Path) (result : Result Said Refusal) → is_any_deep (calls.List p) ≡ false → Replies config s req moment (calls.List p) result → AsksNow (calls.List p) m result m
@@ -164,51 +229,13 @@ module _ (config : Config) (s : State) (req : ReqId) (moment : Moment) (m : Mach
   query_told : (result : Result Said Refusal) → Replies config s req moment calls.Query result → AsksNow calls.Query m result m
   query_told result said = query_by result (refused_before s req calls.Query) (query_gates (is_failed s.fault) (is_rolled s.durable.phase) s.volatile.is_preparing (is_locked s req calls.Query)) said
 
-  -- ---- a status
-
-  status_is : (p : Path) → AreShort m → is_rolling m.phase ≡ false → (found : Option (Entry ℕ)) → at m.plain.tree p ≡ mapped_at shows.text found → TellsStatus m p (status s.durable found)
-  status_is p short calm None is = inr (refl, calm, is)
-  status_is p short calm (Some Dir) is = (calm, is)
-  status_is p short calm (Some (File chunks)) is = (calm, map shows.text chunks, is, length_map (chunk_status s.durable) chunks ∙ sym (length_map shows.text chunks), short p (map shows.text chunks) is)
-
-  status_by : (p : Path) (result : Result Said Refusal) → AreShort m → (o : Option Refusal) → IsGated (is_rolled s.durable.phase) o → OneSays req result (called_unless config s req moment (calls.Status p) o).sent → TellsStatus m p result
-  status_by p result short None calm said =
-      subst (TellsStatus m p) (sym (looked_said s req (status s.durable (fin.get s.durable.names.tree p)) result said)) (status_is p short (calm_so calm) (fin.get s.durable.names.tree p) (found_so p))
-  status_by p result short (Some refusal) store said = subst (TellsStatus m p) (sym (one_said req (Err refusal) result said)) (inl (inl store))
+  -- ---- a status, and where a chunk is
 
   status_told : (p : Path) (result : Result Said Refusal) → AreShort m → is_any_deep (calls.Status p) ≡ false → Replies config s req moment (calls.Status p) result → TellsStatus m p result
-  status_told p result short not_deep said = status_by p result short (refused_before s req (calls.Status p)) (gates_deep (is_failed s.fault) (is_rolled s.durable.phase) s.volatile.is_preparing (is_any_deep (calls.Status p)) (is_locked s req (calls.Status p)) not_deep) said
-
-  -- ---- where a chunk is
-
-  located : (chunk index : ℕ) (texts : List Text) (view : Option View) → index < length texts → TellsIndex m index texts (location_on chunk s.durable.epoch view)
-  located chunk index texts None below = inl refl
-  located chunk index texts (Some view) below = (below, sym shows.epoch)
-
-  place_is : (p : Path) (index : ℕ) (texts : List Text) (found : Option (Entry ℕ)) → mapped_at shows.text found ≡ Some (File texts) → TellsIndex m index texts (location s.durable (found_chunk found index))
-  place_is p index texts None is = absurd (cc)
-  place_is p index texts (Some Dir) is = absurd (cc)
-  place_is p index texts (Some (File chunks)) is = by_slot (slot chunks index)
-    where
-      file_is : {a b : List Text} → ◌≡◌ {A = Option (Entry Text)} (Some (File a)) (Some (File b)) → a ≡ b
-      file_is e = cc
-
-      long : length texts ≡ length chunks
-      long = ap length (sym (file_is is)) ∙ length_map shows.text chunks
-
-      by_slot : Slot chunks index → TellsIndex m index texts (location s.durable (found_chunk (Some (File chunks)) index))
-      by_slot (inl (chunk, below, found)) = subst (λ r. TellsIndex m index texts (location s.durable r)) (sym found) (located chunk index texts (view_in (fin.get s.durable.chunks chunk)) (omega (arith, below, long)))
-      by_slot (inr (past, found)) = subst (λ r. TellsIndex m index texts (location s.durable r)) (sym found) (inr (refl, omega (arith, past, long)))
-
-  place_by : (p : Path) (index : ℕ) (texts : List Text) (result : Result Said Refusal) → at m.plain.tree p ≡ Some (File texts) → (o : Option Refusal) → IsGated (is_rolled s.durable.phase) o → OneSays req result (called_unless config s req moment (calls.FindForReading p index) o).sent
-      → TellsIndex m index texts result
-  place_by p index texts result file None calm said =
-      subst (TellsIndex m index texts) (sym (looked_said s req (location s.durable (found_chunk (fin.get s.durable.names.tree p) index)) result said)) (place_is p index texts (fin.get s.durable.names.tree p) (sym (found_so p) ∙ file))
-  place_by p index texts result file (Some refusal) store said = subst (TellsIndex m index texts) (sym (one_said req (Err refusal) result said)) (inl store)
+  status_told p result short not_deep said = status_shown config s req moment m shows.text shows.tree calm_so p result short not_deep said
 
   place_told : (p : Path) (index : ℕ) (texts : List Text) (result : Result Said Refusal) → at m.plain.tree p ≡ Some (File texts) → is_any_deep (calls.FindForReading p index) ≡ false → Replies config s req moment (calls.FindForReading p index) result → TellsIndex m index texts result
-  place_told p index texts result file not_deep said =
-      place_by p index texts result file (refused_before s req (calls.FindForReading p index)) (gates_deep (is_failed s.fault) (is_rolled s.durable.phase) s.volatile.is_preparing (is_any_deep (calls.FindForReading p index)) (is_locked s req (calls.FindForReading p index)) not_deep) said
+  place_told p index texts result file not_deep said = place_shown config s req moment m shows.text shows.tree calm_so shows.epoch p index texts result file not_deep said
 
 pub lists_are_told : ListsAreTold
 lists_are_told config s req moment m p result shows not_deep said = list_told config s req moment m shows p result not_deep said

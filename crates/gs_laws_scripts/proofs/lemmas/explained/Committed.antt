@@ -12,12 +12,17 @@ use Rattle.gs_edit.specs.Mapped.{mapped_rows}
 use Rattle.gs_journal.specs.Records.{fresh, standing}
 use Rattle.gs_laws_chunks.proofs.lemmas.answers.Asked.{begins_asked, stays_unarmed}
 use Rattle.gs_laws_chunks.proofs.lemmas.answers.Behind.{MadeThere, all_back, all_front, made_there}
+use Rattle.gs_laws_chunks.proofs.lemmas.answers.Calm.{commits_are_calm, stays_calm}
+use Rattle.gs_laws_chunks.proofs.lemmas.answers.Replied.{begins_replied, run_replied}
 use Rattle.gs_laws_chunks.proofs.lemmas.answers.Served.{begins_served, stays_served}
 use Rattle.gs_laws_chunks.proofs.lemmas.calls.Arming.{unarmed_alone}
 use Rattle.gs_laws_chunks.proofs.lemmas.desks.Ways.{joined}
 use Rattle.gs_laws_chunks.proofs.lemmas.desks.When.{StepsSo}
 use Rattle.gs_laws_chunks.specs.answers.Asked.{AreAsked}
 use Rattle.gs_laws_chunks.specs.answers.Behind.{IsOnly, asks_call, is_halt}
+use Rattle.gs_laws_chunks.specs.answers.Calm.{IsCalmAt}
+use Rattle.gs_laws_chunks.specs.answers.Replied.{AreReplied}
+use Rattle.gs_laws_chunks.specs.answers.Resting.{IsLooking}
 use Rattle.gs_laws_chunks.specs.answers.Served.{AreServed}
 use Rattle.gs_laws_chunks.specs.desks.Reached.{history}
 use Rattle.gs_laws_chunks.specs.desks.Within.{IsReachedWithin}
@@ -132,12 +137,31 @@ module _ (sizes : HaveSizes) {D : Type 0} (seen : D → List ℕ) (failures : D 
     served = stays_served seen failures unarmed (unarmed_alone seen failures) (steps ++ commit_steps) start done.mid to_mid (all_join IsStepWithin steps commit_steps within done.has.within) types_first lasts_first
         (begins_asked sizes seen failures unarmed config 1 disks start empty reached.reached.begins) (begins_served sizes seen failures unarmed config 1 disks start empty reached.reached.begins)
 
+    replied : AreReplied done.mid
+    replied = run_replied seen failures unarmed (steps ++ commit_steps) start done.mid to_mid (begins_replied seen failures unarmed config 1 disks start reached.reached.begins)
+
     halts : HaltsBy seen failures unarmed the_client before commit (says.Epoch epoch) done.mid done.has
     halts = commits_halt seen failures unarmed the_client before done.mid commit (says.Epoch epoch) are types lasts halt done.has only
 
+    -- right after it no prepare is begun
+    later : AllByRecursion (IsLooking the_client) (halts.made.before ++ StepComes halts.made.event ∷ halts.made.after)
+    later = subst (AllByRecursion (IsLooking the_client)) halts.made.parts done.has.looking
+
+    within_all : AllByRecursion IsStepWithin (halts.made.before ++ StepComes halts.made.event ∷ halts.made.after)
+    within_all = subst (AllByRecursion IsStepWithin) halts.made.parts done.has.within.1
+
+    lasts_then : LastsThrough seen halts.made.now.nodes.master
+    lasts_then = run_through seen failures unarmed (λ disk call place lasts. lasts) (λ d disk call place told. told) (asks_call done.has.moment done.has.req commit ∷ halts.made.before) before halts.made.now (done.has.asked, (Ok tt, done.has.asks.happens), halts.made.first)
+        (done.has.within.0, all_front IsStepWithin halts.made.before (StepComes halts.made.event ∷ halts.made.after) within_all) types lasts
+
+    calm : IsCalmAt done.mid.nodes.master
+    calm = stays_calm seen failures unarmed halts.durable the_client done.has.req.number halts.made.after halts.made.next done.mid halts.made.rest (all_back IsStepWithin halts.made.before (StepComes halts.made.event ∷ halts.made.after) within_all).1
+        (all_back (IsLooking the_client) halts.made.before (StepComes halts.made.event ∷ halts.made.after) later).1 halts.begun.types halts.begun.lasts halts.begun.still
+        (commits_are_calm seen failures unarmed halts.made.now halts.made.next halts.made.event halts.made.said halts.made.happens done.has.req commit (says.Epoch epoch) halt lasts_then halts.made.answers)
+
     rests : IsUndisturbed seen halts.durable done.has.req.number (history done.after (way_of new.wire))
     rests = undisturbed_on seen failures halts.durable done.has.req.number (Takes the_client ∷ []) done.mid (history done.after (way_of new.wire)) done.takes (tt, tt) ((refl, tt), tt)
-        (record { still = halts.halted.still; asked = halts.halted.asked; types = halts.halted.types; lasts = halts.halted.lasts; served = served; one = one_client })
+        (record { still = halts.halted.still; asked = halts.halted.asked; types = halts.halted.types; lasts = halts.halted.lasts; served = served; replied = replied; calm = calm; one = one_client })
 
     -- ---- the turn of the commit
 

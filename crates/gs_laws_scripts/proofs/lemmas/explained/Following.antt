@@ -51,8 +51,9 @@ module _ (carries : Machine → Request → Reply → Machine → Type 0) where
     | inr refused ↦ inr (refused.0, subst (λ ps. Each carries old ps new) refused.1 each)
   ]
 
-  pub both_splits : {A B : Type 0} (call : Call A) (go : A → Call B) (old new : Machine) (y : Result B Refusal) → FollowsDialogue carries (both call go) old y new
-      → (r : Result A Refusal) × (mid : Machine) × FollowsDialogue carries call old r mid × FollowsDialogue carries (onward go r) mid y new
+module _ {S : Type 0} (carries : S → Request → Reply → S → Type 0) where
+  pub both_splits : {A B : Type 0} (call : Call A) (go : A → Call B) (old new : S) (y : Result B Refusal) → FollowsDialogue carries (both call go) old y new
+      → (r : Result A Refusal) × (mid : S) × FollowsDialogue carries call old r mid × FollowsDialogue carries (onward go r) mid y new
   both_splits (Say r) go old new y h = (r, old, (refl, refl), h)
   both_splits (Ask request more) go old new y (reply, mid, one, rest) = (let s = both_splits (more reply) go mid new y rest in (s.0, s.1, (reply, mid, one, s.2), s.3))
   both_splits (Grow call) go old new y h = elim h [
@@ -61,11 +62,11 @@ module _ (carries : Machine → Request → Reply → Machine → Type 0) where
   ]
 
   -- a call, and its answer
-  pub plain_splits : {A : Type 0} (call : Call A) (answer : A → Answer) (old new : Machine) (y : Result Answer Refusal) → FollowsDialogue carries (asked.plain call answer) old y new
+  pub plain_splits : {A : Type 0} (call : Call A) (answer : A → Answer) (old new : S) (y : Result Answer Refusal) → FollowsDialogue carries (asked.plain call answer) old y new
       → (r : Result A Refusal) × (y ≡ asked.answered answer r) × FollowsDialogue carries call old r new
   plain_splits {A} call answer old new y h = (let s = both_splits call (λ x. Say (Ok (answer x))) old new y h in by_result s.0 s.1 s.2 s.3)
     where
-      by_result : (r : Result A Refusal) (mid : Machine) → FollowsDialogue carries call old r mid → FollowsDialogue carries (onward (λ x. Say (Ok (answer x))) r) mid y new → (r : Result A Refusal) × (y ≡ asked.answered answer r) × FollowsDialogue carries call old r new
+      by_result : (r : Result A Refusal) (mid : S) → FollowsDialogue carries call old r mid → FollowsDialogue carries (onward (λ x. Say (Ok (answer x))) r) mid y new → (r : Result A Refusal) × (y ≡ asked.answered answer r) × FollowsDialogue carries call old r new
       by_result (Ok x) mid first (is, same) = (Ok x, is, subst (λ m. FollowsDialogue carries call old (Ok x) m) (sym same) first)
       by_result (Err e) mid first (is, same) = (Err e, is, subst (λ m. FollowsDialogue carries call old (Err e) m) (sym same) first)
 

@@ -14,15 +14,18 @@ use Rattle.gs_edit.specs.Mapped.{mapped_rows}
 use Rattle.gs_edit.specs.View.{NamesView}
 use Rattle.gs_laws_chunks.proofs.lemmas.answers.Answered.{answers_are_made}
 use Rattle.gs_laws_chunks.proofs.lemmas.answers.Behind.{MadeThere, all_front, all_spare, made_there}
+use Rattle.gs_laws_chunks.proofs.lemmas.answers.Calm.{stays_calm}
+use Rattle.gs_laws_chunks.proofs.lemmas.answers.Replied.{run_replied}
 use Rattle.gs_laws_chunks.proofs.lemmas.answers.Resting.{stays_still}
 use Rattle.gs_laws_chunks.proofs.lemmas.answers.Served.{stays_served}
 use Rattle.gs_laws_chunks.proofs.lemmas.answers.Sparing.{asked_spared, lasts_spared}
 use Rattle.gs_laws_chunks.proofs.lemmas.calls.Arming.{unarmed_alone}
 use Rattle.gs_laws_chunks.specs.answers.Answered.{WasAnswered}
 use Rattle.gs_laws_chunks.specs.answers.Behind.{asks_call}
+use Rattle.gs_laws_chunks.specs.answers.Calm.{IsCalm, IsCalmAt}
 use Rattle.gs_laws_chunks.specs.answers.Resting.{IsLooking, StandsStill, StandsStillAt}
 use Rattle.gs_laws_looks.specs.carrying.Exchanged.{HasReply}
-use Rattle.gs_laws_moves.proofs.lemmas.answers.Resting.{lists_answered}
+use Rattle.gs_laws_moves.proofs.lemmas.answers.Resting.{lists_answered, sound_so}
 use Rattle.gs_laws_moves.proofs.lemmas.looks.Looks.{no_answer}
 use Rattle.gs_laws_moves.specs.answers.AtOnce.{OneSays, is_answered_at_once}
 use Rattle.gs_laws_moves.specs.answers.Resting.{is_look}
@@ -57,6 +60,7 @@ use Rattle.gs_tree.specs.Mapped.{mapped_at, mapped_entry}
 use Rattle.gs_world.proofs.Staying.{run_same}
 use Rattle.gs_world.specs.Histories.{History}
 use Rattle.gs_world.specs.Runs.{Comes, RunsTo, Step}
+use Rattle.gs_laws_scripts.proofs.lemmas.explained.Turns.{IsJudged}
 use Rattle.gs_laws_scripts.specs.explained.Lines.{AsksOne, AsksTree, IsNoLook, IsSaid}
 use Rattle.gs_laws_scripts.specs.explained.Machine.{Machine, Text, called, is_preparing, is_rolling, taken, tree_called, tree_said}
 use Rattle.gs_laws_scripts.specs.explained.Standing.{IsUndisturbed, ShowsNames, the_client}
@@ -211,16 +215,24 @@ said_is req given answer (inl is) = same is
     same e = cc
 said_is req given answer (inr none) = absurd none
 
-module _ (config : Config) (s : State) (req : ReqId) (moment : Moment) (answer : Said) where
+module _ (config : Config) (s : State) (req : ReqId) (moment : Moment) (answer : Said) (calm : IsCalm s) where
   abbrev IsQueried : Type 0
-  IsQueried = answer ≡ says.Phase (told_phase s.volatile.is_preparing s.durable.phase) s.durable.epoch
+  IsQueried = answer ≡ says.Phase (told_phase false s.durable.phase) s.durable.epoch
 
-  by_query : (o : Option Refusal) → OneSays req (Ok answer) (called_unless config s req moment calls.Query o).sent → IsQueried
-  by_query None said = said_is req (says.Phase (told_phase s.volatile.is_preparing s.durable.phase) s.durable.epoch) answer said
-  by_query (Some refusal) said = no_answer req refusal answer said
+  flag : is_failed s.fault ≡ false → IsCalm s → s.volatile.is_preparing ≡ false
+  flag sound (inl failed) = absurd (never (sym sound ∙ failed))
+    where
+      never : false ≡ true → ⊥
+      never is = cc
+  flag sound (inr is) = is
+
+  by_query : (o : Option Refusal) → refused_before s req calls.Query ≡ o → OneSays req (Ok answer) (called_unless config s req moment calls.Query o).sent → IsQueried
+  by_query None none said =
+      said_is req (says.Phase (told_phase s.volatile.is_preparing s.durable.phase) s.durable.epoch) answer said ∙ ap (λ preparing. says.Phase (told_phase preparing s.durable.phase) s.durable.epoch) (flag (sound_so s req calls.Query none) calm)
+  by_query (Some refusal) none said = no_answer req refusal answer said
 
   queried_so : OneSays req (Ok answer) (new_call config s req moment calls.Query).sent → IsQueried
-  queried_so said = by_query (refused_before s req calls.Query) said
+  queried_so said = by_query (refused_before s req calls.Query) refl said
 
 -- ---- a store whose names stand
 
@@ -232,6 +244,8 @@ module _ {D : Type 0} (seen : D → List ℕ) (failures : D → ℕ) (d : Durabl
     types = run_keeps seen failures unarmed steps old new runs within u.types;
     lasts = lasts_spared seen failures unarmed steps old new runs (all_spare the_client steps looking) within u.types u.lasts;
     served = stays_served seen failures unarmed (unarmed_alone seen failures) steps old new runs within u.types u.lasts u.asked u.served;
+    replied = run_replied seen failures unarmed steps old new runs u.replied;
+    calm = stays_calm seen failures unarmed d the_client number steps old new runs within looking u.types u.lasts u.still u.calm;
     one = (run_same seen failures unarmed steps old new runs).clients ∙ u.one;
   }
 
@@ -262,6 +276,13 @@ module _ {D : Type 0} (seen : D → List ℕ) (failures : D → ℕ) (d : Durabl
     stands : StandsStill d the_client number s
     stands = subst (StandsStillAt d the_client number) made.answers.stands now.still.master
 
+    calm : IsCalm s
+    calm = subst IsCalmAt made.answers.stands now.calm
+
+    -- it is what the master says in the turn of the call
+    pub judged_so : IsJudged d call (Ok answer)
+    judged_so = record { config = made.answers.master.config; state = s; req = h.req; moment = made.event.moment; stands = (number, stands); says = there.says }
+
   -- a list is by the names
   module _ (old mid : History D) (p : Path) (answer : Said) (u : IsUndisturbed seen d number old) (h : HasReply seen failures the_client old (requests.Call (calls.List p)) (replies.Answer answer) mid) where
     abbrev its : State
@@ -288,11 +309,9 @@ module _ {D : Type 0} (seen : D → List ℕ) (failures : D → ℕ) (d : Durabl
 
   -- and a query by the phase and the epoch
   module _ (old mid : History D) (answer : Said) (u : IsUndisturbed seen d number old) (h : HasReply seen failures the_client old (requests.Call calls.Query) (replies.Answer answer) mid) where
-    pub is_told : (preparing : Bool) × (answer ≡ says.Phase (told_phase preparing d.phase) d.epoch)
+    pub is_told : answer ≡ says.Phase (told_phase false d.phase) d.epoch
     is_told =
         let m = made old mid calls.Query refl refl answer u h in
-        let st = stands old mid calls.Query refl refl answer u h in (
-          m.answers.master.state.volatile.is_preparing,
-          queried_so m.answers.master.config m.answers.master.state h.req m.event.moment answer (there old mid calls.Query refl refl answer u h).says
-              ∙ ap (λ p. says.Phase (told_phase m.answers.master.state.volatile.is_preparing p) m.answers.master.state.durable.epoch) st.phase ∙ ap (λ e. says.Phase (told_phase m.answers.master.state.volatile.is_preparing d.phase) e) st.epoch,
-        )
+        let st = stands old mid calls.Query refl refl answer u h in
+        queried_so m.answers.master.config m.answers.master.state h.req m.event.moment answer (calm old mid calls.Query refl refl answer u h) (there old mid calls.Query refl refl answer u h).says
+        ∙ ap (λ p. says.Phase (told_phase false p) m.answers.master.state.durable.epoch) st.phase ∙ ap (λ e. says.Phase (told_phase false d.phase) e) st.epoch

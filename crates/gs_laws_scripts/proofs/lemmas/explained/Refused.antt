@@ -1,4 +1,4 @@
--- What a look-up is refused by, where the names stand: by the store, or since nobody is sure of it; or so as the master says in its turn.
+-- What a look-up is answered where the names stand: the store refuses it, or nobody is sure of it; or it is so as the master says in its turn.
 use Rattle.std.proofs.Common.{[], ap, arith, inl, inr, refl, subst, sym, ◌∷◌, ◌∙◌, ◌≡◌, ◌⊎◌, Bool, Err, List, MatchOption, None, Ok, Option, Result, Some, if◌then◌else◌, length, nat_le, slice_set, true, ℕ, ◌-◌}
 use Rattle.std.specs.List.{AllByRecursion, list_all}
 use Rattle.std.specs.Prelude.{Vec, false, not, unwrap_or, ◌&&◌, ◌==◌, ◌||◌}
@@ -10,16 +10,17 @@ use Rattle.gs_base.specs.declared.numbers.ReqId.{ReqId}
 use Rattle.gs_base.specs.declared.refusal.Refusal.{Refusal}
 use Rattle.gs_base.specs.declared.refusal.Refusal.TheVariants as refusals
 use Rattle.gs_client.specs.Nodes.{Asks, Node, messages_of, request_of}
+use Rattle.gs_client.specs.Replies.{looked}
 use Rattle.gs_client.specs.Sends.{next_request}
 use Rattle.gs_client.specs.declared.client.Client.{Client}
 use Rattle.gs_client.specs.declared.link.Reply.{Reply}
 use Rattle.gs_client.specs.declared.link.Reply.TheVariants as replies
 use Rattle.gs_laws_chunks.proofs.lemmas.answers.Behind.{SaidOrFailed, all_front, all_spare, said_there}
-use Rattle.gs_laws_chunks.proofs.lemmas.answers.Served.{refusals_are_made}
+use Rattle.gs_laws_chunks.proofs.lemmas.answers.Served.{calls_are_for_the_master, refusals_are_made}
 use Rattle.gs_laws_chunks.specs.answers.Answered.{Passes, SaidBy, WasSaid}
 use Rattle.gs_laws_chunks.specs.answers.Behind.{asks_call}
 use Rattle.gs_laws_chunks.specs.answers.Resting.{IsLooking, StandsStill, StandsStillAt}
-use Rattle.gs_laws_chunks.specs.answers.Served.{IsUnjudged}
+use Rattle.gs_laws_chunks.specs.answers.Served.{IsOfServer, IsUnjudged}
 use Rattle.gs_laws_chunks.specs.desks.Reached.{Covers, history}
 use Rattle.gs_laws_looks.proofs.lemmas.carrying.Asked.{requests_are_carried}
 use Rattle.gs_laws_looks.specs.carrying.Asked.{Delivers, IsAnswered, WasAskedAndTaken, WasRefused}
@@ -50,7 +51,8 @@ use Rattle.gs_shell_desk.specs.declared.wire.Wire.{Wire}
 use Rattle.gs_world.specs.Histories.{AsksAt, Happens, History, Tells, asked}
 use Rattle.gs_world.specs.Runs.{Comes, Step, Takes}
 use Rattle.gs_world.specs.Sent.{Sent}
-use Rattle.gs_laws_scripts.proofs.lemmas.explained.Listed.{undisturbed_on}
+use Rattle.gs_laws_scripts.proofs.lemmas.explained.Listed.{judged_so, undisturbed_on}
+use Rattle.gs_laws_scripts.proofs.lemmas.explained.Turns.{IsJudged, IsToldOf}
 use Rattle.gs_laws_scripts.proofs.lemmas.lists.Lines.{Carries_at, next_small}
 use Rattle.gs_laws_scripts.specs.answers.Meeting.{IsClientOf}
 use Rattle.gs_laws_scripts.specs.explained.Lines.{IsNoLook, IsOfStore}
@@ -132,61 +134,50 @@ module _ {D : Type 0} (seen : D → List ℕ) (failures : D → ℕ) where
   all_look (Comes event ∷ steps) all = (is_delivery event.happening event.moment all.0, all_look steps all.1)
   all_look (Takes client ∷ steps) all = absurd all.0
 
-  has_found : (o : Option Reply) (refusal : Refusal) → replies.Refused refusal ≡ unwrap_or o replies.Lost → o ≡ Some (replies.Refused refusal)
-  has_found None refusal is = absurd (cc)
-  has_found (Some reply) refusal is = ap Some (sym is)
+  has_found : (o : Option Reply) (reply : Reply) → reply ≡ unwrap_or o replies.Lost → (reply ≡ replies.Lost) ⊎ (o ≡ Some reply)
+  has_found None reply is = inl is
+  has_found (Some found) reply is = inr (ap Some (sym is))
 
-  -- the store refuses it, or it is the reply that the client has
-  abbrev IsReplied : History D → Call → Refusal → Type 0
-  IsReplied old call refusal = IsOfStore refusal ⊎ ((mid : History D) × HasReply seen failures the_client old (requests.Call call) (replies.Refused refusal) mid)
+  -- the store refuses it, or nothing comes, or it is the reply that the client has
+  abbrev IsReplied : History D → Call → Reply → Type 0
+  IsReplied old call reply = ((refusal : Refusal) × (reply ≡ replies.Refused refusal) × IsOfStore refusal) ⊎ ((reply ≡ replies.Lost) ⊎ ((mid : History D) × HasReply seen failures the_client old (requests.Call call) reply mid))
 
-  pub refused_carried : (config : Config) (sent : Sent) (old new : Client × Wire D) (call : Call) (refusal : Refusal) → MayBeAsked (requests.Call call) → IsClientOf config old.0 → Covers sent (way_of old.1) → IsNumber old.1.moment.0 → length (history sent (way_of old.1)).nodes.clients ≡ 1
-      → Carries_at seen failures old (requests.Call call) (replies.Refused refusal) new → IsReplied (history sent (way_of old.1)) call refusal
-  refused_carried config sent old new call refusal may ours covers small one (inr (last, is, same)) = inl (subst IsOfStore (sym (refusal_is is)) refl)
+  reply_carried : (config : Config) (sent : Sent) (old new : Client × Wire D) (call : Call) (reply : Reply) → MayBeAsked (requests.Call call) → IsClientOf config old.0 → Covers sent (way_of old.1) → IsNumber old.1.moment.0 → length (history sent (way_of old.1)).nodes.clients ≡ 1
+      → Carries_at seen failures old (requests.Call call) reply new → IsReplied (history sent (way_of old.1)) call reply
+  reply_carried config sent old new call reply may ours covers small one (inr (last, is, same)) = inl (refusals.Exhausted, is, refl)
+  reply_carried config sent old new call reply may ours covers small one (inl (below, is, c)) = by_went a.went
     where
-      refusal_is : {a b : Refusal} → replies.Refused a ≡ replies.Refused b → a ≡ b
-      refusal_is e = cc
-  refused_carried config sent old new call refusal may ours covers small one (inl (below, is, c)) = by_went a.went
-    where
-      a : IsAnswered seen failures the_client (way_of old.1) sent (requests.Call call) (replies.Refused refusal) (way_of new.1)
-      a = subst (λ k. IsAnswered seen failures k (way_of old.1) sent (requests.Call call) (replies.Refused refusal) (way_of new.1)) ours.0
-          (requests_are_carried seen failures sent (way_of old.1) (way_of new.1) (next_request old.0) (requests.Call call) (replies.Refused refusal) covers small (next_small old.0.last.number below, may) c)
+      a : IsAnswered seen failures the_client (way_of old.1) sent (requests.Call call) reply (way_of new.1)
+      a = subst (λ k. IsAnswered seen failures k (way_of old.1) sent (requests.Call call) reply (way_of new.1)) ours.0
+          (requests_are_carried seen failures sent (way_of old.1) (way_of new.1) (next_request old.0) (requests.Call call) reply covers small (next_small old.0.last.number below, may) c)
 
-      refusal_is : {x y : Refusal} → replies.Refused x ≡ replies.Refused y → x ≡ y
-      refusal_is e = cc
+      by_went : WasAskedAndTaken seen failures the_client (history sent (way_of old.1)) (requests.Call call) reply (history a.after (way_of new.1)) ⊎ WasRefused seen failures the_client (history sent (way_of old.1)) (requests.Call call) reply (history a.after (way_of new.1)) → IsReplied (history sent (way_of old.1)) call reply
+      by_went (inr r) = inl (r.refusal, r.is, not_taken (history sent (way_of old.1)) (history a.after (way_of new.1)) r.moment r.req (requests.Call call) r.refusal r.own one r.happens)
+      by_went (inl (mid, w, takes)) = inr (by_found (has_found w.last.reply reply w.has))
+        where
+          by_found : (reply ≡ replies.Lost) ⊎ (w.last.reply ≡ Some reply) → (reply ≡ replies.Lost) ⊎ ((mid : History D) × HasReply seen failures the_client (history sent (way_of old.1)) (requests.Call call) reply mid)
+          by_found (inl lost) = inl lost
+          by_found (inr has) = inr (
+            mid,
+            record {
+              moment = w.moment;
+              req = w.req;
+              own = w.own;
+              node = w.node;
+              there = w.there;
+              fresh = w.fresh;
+              asked = w.asked;
+              happens = w.happens;
+              asks = w.asks;
+              behind = record { steps = w.behind.steps; runs = w.behind.runs; within = w.behind.within; looking = all_look w.behind.steps w.behind.only };
+              last = w.last;
+              found = w.found;
+              number = w.number;
+              has = has;
+            },
+          )
 
-      by_went : WasAskedAndTaken seen failures the_client (history sent (way_of old.1)) (requests.Call call) (replies.Refused refusal) (history a.after (way_of new.1)) ⊎ WasRefused seen failures the_client (history sent (way_of old.1)) (requests.Call call) (replies.Refused refusal) (history a.after (way_of new.1)) → IsReplied (history sent (way_of old.1)) call refusal
-      by_went (inr r) = inl (subst IsOfStore (sym (refusal_is r.is)) (not_taken (history sent (way_of old.1)) (history a.after (way_of new.1)) r.moment r.req (requests.Call call) r.refusal r.own one r.happens))
-      by_went (inl (mid, w, takes)) = inr (
-        mid,
-        record {
-          moment = w.moment;
-          req = w.req;
-          own = w.own;
-          node = w.node;
-          there = w.there;
-          fresh = w.fresh;
-          asked = w.asked;
-          happens = w.happens;
-          asks = w.asks;
-          behind = record { steps = w.behind.steps; runs = w.behind.runs; within = w.behind.within; looking = all_look w.behind.steps w.behind.only };
-          last = w.last;
-          found = w.found;
-          number = w.number;
-          has = has_found w.last.reply refusal w.has;
-        },
-      )
-
-  -- ---- what refuses it
-
-  -- the master refuses it so in its turn, as it stands on these names
-  pub record IsJudged (d : Durable) (call : Call) (refusal : Refusal) : Type 0 where
-    pub config : Config
-    pub state : State
-    pub req : ReqId
-    pub moment : Moment
-    pub stands : (number : ℕ) × StandsStill d the_client number state
-    pub says : OneSays req (Err refusal) (new_call config state req moment call).sent
+  -- ---- what the master says
 
   unjudged : (refusal : Refusal) → IsUnjudged refusal → IsNoLook refusal
   unjudged refusal (inl is) = inl (subst IsOfStore (sym is) refl)
@@ -201,7 +192,7 @@ module _ {D : Type 0} (seen : D → List ℕ) (failures : D → ℕ) where
     abbrev ask : Step
     ask = asks_call h.moment h.req call
 
-    judged_by : WasSaid seen failures unarmed h.behind.steps h.asked mid h.req call (Err refusal) → IsNoLook refusal ⊎ IsJudged d call refusal
+    judged_by : WasSaid seen failures unarmed h.behind.steps h.asked mid h.req call (Err refusal) → IsNoLook refusal ⊎ IsJudged d call (Err refusal)
     judged_by made = by_said (said_there seen failures unarmed made.now made.event made.said made.next made.happens h.req call (Err refusal) made.answers)
       where
         looks_before : AllByRecursion (IsLooking the_client) (ask ∷ made.before)
@@ -219,15 +210,43 @@ module _ {D : Type 0} (seen : D → List ℕ) (failures : D → ℕ) where
         refusal_is : {a b : Refusal} {A : Type 0} → ◌≡◌ {A = Result A Refusal} (Err a) (Err b) → a ≡ b
         refusal_is is = cc
 
-        by_said : SaidOrFailed seen failures unarmed made.now made.event.moment made.answers.master h.req call (Err refusal) made.next.nodes → IsNoLook refusal ⊎ IsJudged d call refusal
+        by_said : SaidOrFailed seen failures unarmed made.now made.event.moment made.answers.master h.req call (Err refusal) made.next.nodes → IsNoLook refusal ⊎ IsJudged d call (Err refusal)
         by_said (inl unsure) = inl (inr (refusal_is unsure))
         by_said (inr (inl failed)) = inl (inl (subst IsOfStore (sym (refusal_is failed)) refl))
         by_said (inr (inr there)) = inr (record { config = made.answers.master.config; state = made.answers.master.state; req = h.req; moment = made.event.moment; stands = (number, stands); says = there.says })
 
-    pub judged_or : IsNoLook refusal ⊎ IsJudged d call refusal
+    judged_or : IsNoLook refusal ⊎ IsJudged d call (Err refusal)
     judged_or = by_made made_or
       where
         by_made : IsUnjudged refusal ⊎ ((made : WasSaid seen failures unarmed h.behind.steps h.asked mid h.req call (Err refusal)) × SaidBy seen failures unarmed (λ k. Passes seen failures unarmed k h.behind.steps h.asked mid h.behind.runs) h.behind.steps h.asked mid h.req call (Err refusal) made)
-            → IsNoLook refusal ⊎ IsJudged d call refusal
+            → IsNoLook refusal ⊎ IsJudged d call (Err refusal)
         by_made (inl is) = inl (unjudged refusal is)
         by_made (inr (made, by)) = judged_by made
+
+  module _ (d : Durable) (number : ℕ) (old mid : History D) (call : Call) (look : is_look call ≡ true) (once : is_answered_at_once call ≡ true) (u : IsUndisturbed seen d number old) where
+    -- no server tells any
+    none_of_server : (reply : Reply) → IsOfServer reply → HasReply seen failures the_client old (requests.Call call) reply mid → ⊥
+    none_of_server reply of h =
+        calls_are_for_the_master seen failures unarmed old h.asked mid h.moment h.req call h.behind.steps h.last reply u.asked u.served u.replied u.types u.lasts (record { node = h.node; there = h.there; fresh = h.fresh; happens = h.happens }) once h.behind.runs
+        (all_spare the_client h.behind.steps h.behind.looking) (h.asks, h.behind.within) (subst (λ k. client_in mid.nodes.clients k ≡ Some h.last) (sym h.own) h.found) h.number h.has of
+
+    told_so : (reply : Reply) → HasReply seen failures the_client old (requests.Call call) reply mid → IsToldOf d call (looked reply)
+    told_so (replies.Answer answer) h = inr (judged_so seen failures d number old mid call look once answer u h)
+    told_so (replies.Refused refusal) h = by_judged (judged_or d number old mid call look once refusal u h)
+      where
+        by_judged : IsNoLook refusal ⊎ IsJudged d call (Err refusal) → IsToldOf d call (Err refusal)
+        by_judged (inl off) = inl (refusal, refl, off)
+        by_judged (inr judged) = inr judged
+    told_so replies.Lost h = inl (refusals.NoReplica, refl, inl refl)
+    told_so (replies.Given given) h = absurd (none_of_server (replies.Given given) tt h)
+    told_so (replies.Outcome outcome) h = absurd (none_of_server (replies.Outcome outcome) tt h)
+
+  -- What a look-up that is carried comes to, where the names stand.
+  pub look_told : (config : Config) (d : Durable) (number : ℕ) (sent : Sent) (old new : Client × Wire D) (call : Call) (reply : Reply) → is_look call ≡ true → is_answered_at_once call ≡ true → MayBeAsked (requests.Call call) → IsClientOf config old.0 → Covers sent (way_of old.1) → IsNumber old.1.moment.0
+      → IsUndisturbed seen d number (history sent (way_of old.1)) → Carries_at seen failures old (requests.Call call) reply new → IsToldOf d call (looked reply)
+  look_told config d number sent old new call reply look once may ours covers small u carried = by_carried (reply_carried config sent old new call reply may ours covers small u.one carried)
+    where
+      by_carried : IsReplied (history sent (way_of old.1)) call reply → IsToldOf d call (looked reply)
+      by_carried (inl (refusal, is, store)) = inl (refusal, ap looked is, inl store)
+      by_carried (inr (inl lost)) = inl (refusals.NoReplica, ap looked lost, inl refl)
+      by_carried (inr (inr (mid, h))) = told_so d number (history sent (way_of old.1)) mid call look once u reply h

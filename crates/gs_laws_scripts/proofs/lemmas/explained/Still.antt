@@ -6,6 +6,7 @@ use Rattle.gs_base.specs.declared.config.Config.{Config}
 use Rattle.gs_base.specs.declared.refusal.Refusal.{Refusal}
 use Rattle.gs_base.specs.declared.refusal.Refusal.TheVariants as refusals
 use Rattle.gs_base.specs.declared.numbers.Moment.{Moment}
+use Rattle.gs_client.specs.Reading.{stat_call}
 use Rattle.gs_client.specs.Replies.{looked, names_in, phase_in}
 use Rattle.gs_client.specs.Sends.{next_request}
 use Rattle.gs_client.specs.Trees.{and_then, list_call}
@@ -18,7 +19,8 @@ use Rattle.gs_laws_chunks.proofs.lemmas.desks.Words.{IsSpoken, line_spoken}
 use Rattle.gs_laws_chunks.specs.answers.Resting.{IsLooking}
 use Rattle.gs_laws_chunks.specs.desks.Reached.{Covers, history}
 use Rattle.gs_laws_looks.proofs.lemmas.carrying.Exchanged.{looks_are_carried}
-use Rattle.gs_laws_looks.specs.carrying.Exchanged.{HasReply, IsExchanged, Looks, Went}
+use Rattle.gs_laws_looks.specs.carrying.Exchanged.{IsExchanged, Looks, Went}
+use Rattle.gs_laws_moves.specs.answers.AtOnce.{OneSays, is_answered_at_once}
 use Rattle.gs_laws_moves.specs.answers.Resting.{is_look}
 use Rattle.gs_laws_world.specs.steady.Asking.{MayBeAsked, asks_at}
 use Rattle.gs_laws_world.specs.steady.Saying.{IsStepWithin}
@@ -27,9 +29,12 @@ use Rattle.gs_edit.specs.Mapped.{mapped_rows}
 use Rattle.gs_edit.specs.View.{NamesView}
 use Rattle.gs_master_spec.specs.Calls.{is_any_deep, told_phase}
 use Rattle.gs_master_spec.specs.Durable.{is_rolling as is_rolled}
+use Rattle.gs_master_spec.specs.Handling.{new_call}
+use Rattle.gs_msg.specs.declared.answer.Answer.{Answer as Said}
 use Rattle.gs_msg.specs.declared.answer.Answer.TheVariants as says
 use Rattle.gs_msg.specs.declared.answer.Phase.{Phase}
 use Rattle.gs_msg.specs.declared.answer.Phase.TheVariants as phases
+use Rattle.gs_msg.specs.declared.answer.Status.TheVariants as statuses
 use Rattle.gs_msg.specs.declared.call.Call.{Call}
 use Rattle.gs_msg.specs.declared.call.Call.TheVariants as calls
 use Rattle.gs_msg.specs.declared.event.Request.{Request as Asked}
@@ -52,19 +57,23 @@ use Rattle.gs_shell_grammar.specs.declared.command.Restarted.TheVariants as rest
 use Rattle.gs_shell_grammar.specs.declared.command.Upgrade.TheVariants as upgrades
 use Rattle.gs_shell_line.specs.Line.{content, longest_line}
 use Rattle.gs_shell_script.specs.Run.{AnswersIfShort, AnswersLine, Runs, memory_text}
+use Rattle.gs_tree.specs.Entry.{Dir}
+use Rattle.gs_tree.specs.Find.{at as at_path}
 use Rattle.gs_world.specs.Histories.{History}
 use Rattle.gs_world.specs.Runs.{Comes as StepComes}
 use Rattle.gs_world.specs.Sent.{Sent}
-use Rattle.gs_laws_scripts.proofs.lemmas.explained.Asked.{list_shown, query_refused}
+use Rattle.gs_laws_scripts.proofs.lemmas.explained.Asked.{dir_shown, list_shown, query_refused}
+use Rattle.gs_laws_scripts.proofs.lemmas.explained.Directories.{directory_goes, directory_leads}
 use Rattle.gs_laws_scripts.proofs.lemmas.explained.Listed.{is_calm, is_listed, is_told, list_is, list_off, listed_names, query_is, query_off, rolls_so, undisturbed_on}
 use Rattle.gs_laws_scripts.proofs.lemmas.explained.Passing.{LooksOn, nodes_do}
-use Rattle.gs_laws_scripts.proofs.lemmas.explained.Refused.{IsJudged, judged_or, read_is_shallow, refused_carried}
+use Rattle.gs_laws_scripts.proofs.lemmas.explained.Refused.{look_told, read_is_shallow}
+use Rattle.gs_laws_scripts.proofs.lemmas.explained.Turns.{IsToldOf}
 use Rattle.gs_laws_scripts.proofs.lemmas.lists.Lines.{Carries_at, all_join, next_small}
 use Rattle.gs_laws_scripts.proofs.lemmas.reads.Clients.{still_mine}
 use Rattle.gs_laws_scripts.specs.answers.Meeting.{IsClientOf}
-use Rattle.gs_laws_scripts.specs.explained.Lines.{AsksOne, AsksTree, Explains, IsNoLook, IsOfStore, Leads}
+use Rattle.gs_laws_scripts.specs.explained.Lines.{AsksOne, AsksTree, Explains, IsNoLook, Leads, OnPath, Stats}
 use Rattle.gs_laws_scripts.specs.explained.Machine.{Machine, is_rolling}
-use Rattle.gs_laws_scripts.specs.explained.Standing.{AreStillLines, IsStillLine, ShowsNames, Stands, StillLinesAreExplained, TellsNoPrepare, TellsNoStray, is_name_look, is_query, is_still_line, the_client}
+use Rattle.gs_laws_scripts.specs.explained.Standing.{AreStillLines, IsStillLine, ShowsNames, Stands, StillLinesAreExplained, TellsDirectory, is_stat, is_still_line, the_client}
 use Rattle.gs_laws_scripts.specs.plain.Machines.{asked_in}
 use Rattle.gs_laws_scripts.specs.plain.Machines as plainly
 
@@ -183,6 +192,17 @@ module _ {D : Type 0} (seen : D → List ℕ) (failures : D → ℕ) where
       shows = shows;
     }
 
+    -- a look-up leaves it
+    pub look_stands : (call : Call) (reply : Reply) → is_look call ≡ true → MayBeAsked (requests.Call call) → Carries_at seen failures (at old) (requests.Call call) reply (at new) → Stands seen config new m
+    look_stands call reply look may carried =
+        let c = look_carried config st.sent (at old) (at new) call reply look may st.ours st.covers st.moment carried in
+        stands_on c.after c.covers (subst (λ (moment : Moment). IsNumber moment.0) (sym c.moment) st.moment) (still_mine seen failures config (at old) (at new) (requests.Call call) reply st.ours carried)
+        (looks_both (history st.sent (way_of old.wire)) c.mid (history c.after (way_of new.wire)) (went_on call look (history st.sent (way_of old.wire)) c.mid reply c.went) c.taken) m st.shows
+
+    -- what it is told
+    pub look_told_there : (call : Call) (reply : Reply) → is_look call ≡ true → is_answered_at_once call ≡ true → MayBeAsked (requests.Call call) → Carries_at seen failures (at old) (requests.Call call) reply (at new) → IsToldOf st.durable call (looked reply)
+    look_told_there call reply look once may carried = look_told seen failures config st.durable st.number st.sent (at old) (at new) call reply look once may st.ours st.covers st.moment st.rests carried
+
     -- nothing happens
     stands_still : at new ≡ at old → Stands seen config new m
     stands_still same = stands_on st.sent (subst (λ (s : Client × Wire D). Covers st.sent (way_of s.1)) (sym same) st.covers) (subst (λ (s : Client × Wire D). IsNumber s.1.moment.0) (sym same) st.moment)
@@ -209,61 +229,50 @@ module _ {D : Type 0} (seen : D → List ℕ) (failures : D → ℕ) where
     abbrev before : History D
     before = history st.sent (way_of old.wire)
 
-    -- A list is answered as the machine answers it, refusals too; or what came back is for somebody else.
-    list_told : (path : Path) → is_any_deep (calls.List path) ≡ false → (reply : Reply) → Carries_at seen failures (at old) (requests.Call (calls.List path)) reply (at new) → IsLookCarried st.sent (at old) (at new) (calls.List path) reply
-        → (and_then names_in (looked reply) ≡ Err refusals.Stray) ⊎ Tree (Ok path) (answered answers.Names (and_then names_in (looked reply)))
-    list_told path deep (replies.Answer answer) carried c =
+    -- one that isn't answered
+    list_refused : (path : Path) → is_any_deep (calls.List path) ≡ false → (refusal : Refusal) → IsToldOf st.durable (calls.List path) (Err refusal) → Tree (Ok path) (Err refusal)
+    list_refused path deep refusal (inl (other, is, off)) = list_off size m path refusal (subst IsNoLook (sym (refusal_is is)) off)
+      where
+        refusal_is : {a b : Refusal} {A : Type 0} → ◌≡◌ {A = Result A Refusal} (Err a) (Err b) → a ≡ b
+        refusal_is e = cc
+    list_refused path deep refusal (inr j) =
+        let stood = j.stands.1 in (
+          Err refusal,
+          m,
+          (
+            [],
+            list_shown j.config j.state j.req j.moment m st.shows.text (st.shows.tree ∙ ap (λ (names : NamesView). mapped_rows st.shows.text (fin.entries names.tree)) (sym stood.names))
+                (λ calm. ap is_rolling st.shows.phase ∙ rolls_so st.durable.phase ∙ ap is_rolled (sym stood.phase) ∙ calm) path (Err refusal) deep j.says,
+          ),
+          refl,
+          refl,
+        )
+
+    -- A list is answered as the machine answers it, refusals too.
+    list_told : (path : Path) → is_any_deep (calls.List path) ≡ false → (reply : Reply) → IsToldOf st.durable (calls.List path) (looked reply) → IsLookCarried st.sent (at old) (at new) (calls.List path) reply → Tree (Ok path) (answered answers.Names (and_then names_in (looked reply)))
+    list_told path deep (replies.Answer answer) told c =
         let is = is_listed seen failures st.durable st.number before c.mid path answer st.rests c.went in
         let named = listed_names (fin.entries st.durable.names.tree) path (fin.get st.durable.names.tree path) answer is in
-        inr (subst (λ a. Tree (Ok path) (answered answers.Names (names_in a))) (sym named.1)
-        (list_is size st.durable m path named.0 st.shows (is ∙ ap (λ a. Ok a) named.1) (is_calm seen failures st.durable st.number before c.mid path answer st.rests c.went) deep))
-    list_told path deep (replies.Refused refusal) carried c = by_carried (refused_carried seen failures config st.sent (at old) (at new) (calls.List path) refusal (record { named = tt; met = λ names. tt }) st.ours st.covers st.moment st.rests.one carried)
-      where
-        refused : Tree (Ok path) (Err refusal) → (◌≡◌ {A = Result (List ListedName) Refusal} (Err refusal) (Err refusals.Stray)) ⊎ Tree (Ok path) (Err refusal)
-        refused tree = inr tree
+        subst (λ a. Tree (Ok path) (answered answers.Names (names_in a))) (sym named.1)
+        (list_is size st.durable m path named.0 st.shows (is ∙ ap (λ a. Ok a) named.1) (is_calm seen failures st.durable st.number before c.mid path answer st.rests c.went) deep)
+    list_told path deep (replies.Refused refusal) told c = list_refused path deep refusal told
+    list_told path deep replies.Lost told c = list_refused path deep refusals.NoReplica told
+    list_told path deep (replies.Given given) told c = list_refused path deep refusals.Stray told
+    list_told path deep (replies.Outcome outcome) told c = list_refused path deep refusals.Stray told
 
-        by_judged : IsNoLook refusal ⊎ IsJudged seen failures st.durable (calls.List path) refusal → Tree (Ok path) (Err refusal)
-        by_judged (inl off) = list_off size m path refusal off
-        by_judged (inr j) =
-            let stands = j.stands.1 in (
-              Err refusal,
-              m,
-              (
-                [],
-                list_shown j.config j.state j.req j.moment m st.shows.text (st.shows.tree ∙ ap (λ (names : NamesView). mapped_rows st.shows.text (fin.entries names.tree)) (sym stands.names))
-                    (λ calm. ap is_rolling st.shows.phase ∙ rolls_so st.durable.phase ∙ ap is_rolled (sym stands.phase) ∙ calm) path (Err refusal) deep j.says,
-              ),
-              refl,
-              refl,
-            )
-
-        by_carried : IsOfStore refusal ⊎ ((mid : History D) × HasReply seen failures the_client before (requests.Call (calls.List path)) (replies.Refused refusal) mid) → (◌≡◌ {A = Result (List ListedName) Refusal} (Err refusal) (Err refusals.Stray)) ⊎ Tree (Ok path) (Err refusal)
-        by_carried (inl store) = refused (list_off size m path refusal (inl store))
-        by_carried (inr (mid, h)) = refused (by_judged (judged_or seen failures st.durable st.number before mid (calls.List path) refl refl refusal st.rests h))
-    list_told path deep replies.Lost carried c = inr (list_off size m path refusals.NoReplica (inl refl))
-    list_told path deep (replies.Given given) carried c = inl refl
-    list_told path deep (replies.Outcome outcome) carried c = inl refl
-
-    told_text : (parsed : Result Path Refusal) (path : Path) (text : List ℕ) → parsed ≡ Ok path → TellsNoStray text → (r : Result (List ListedName) Refusal) → (r ≡ Err refusals.Stray) ⊎ Tree (Ok path) (answered answers.Names r) → IsText (answered answers.Names r) text
-        → (answer : Result Answer Refusal) × Tree parsed answer × IsText answer text
-    told_text parsed path text is none r (inl stray) (inl said) = absurd (none (said ∙ ap (λ x. answer_text (answered answers.Names x)) stray))
-    told_text parsed path text is none r (inl stray) (inr short) = short_text parsed text short
-    told_text parsed path text is none r (inr tree) text_is = (answered answers.Names r, on_path parsed path (answered answers.Names r) is tree, text_is)
-
-    list_line : (p : List ℕ) (answer : Result Answer Refusal) (text : List ℕ) → TellsNoStray text → IsText answer text → ListGoes (Carries_at seen failures) (parse_hidden p) (at old) answer (at new) → Goes (lines.Ls p) text
-    list_line p answer text none text_is (Short is same) =
+    list_line : (p : List ℕ) (answer : Result Answer Refusal) (text : List ℕ) → IsText answer text → ListGoes (Carries_at seen failures) (parse_hidden p) (at old) answer (at new) → Goes (lines.Ls p) text
+    list_line p answer text text_is (Short is same) =
         let said = short_text (parse_hidden p) text (is_short answer text is text_is) in record { next = m; answer = said.0; leads = said.1; is = said.2; stands = stands_still same }
-    list_line p answer text none text_is (NoPath refusal parsed is same) = record { next = m; answer = Err refusal; leads = no_path (parse_hidden p) refusal parsed; is = subst (λ a. IsText a text) is text_is; stands = stands_still same }
-    list_line p answer text none text_is (IsAsked path reply parsed carried is) =
-        let c = look_carried config st.sent (at old) (at new) (calls.List path) reply refl (record { named = tt; met = λ names. tt }) st.ours st.covers st.moment carried in
-        let said = told_text (parse_hidden p) path text parsed none (and_then names_in (looked reply)) (list_told path (read_is_shallow p path parsed) reply carried c) (subst (λ a. IsText a text) is text_is) in
+    list_line p answer text text_is (NoPath refusal parsed is same) = record { next = m; answer = Err refusal; leads = no_path (parse_hidden p) refusal parsed; is = subst (λ a. IsText a text) is text_is; stands = stands_still same }
+    list_line p answer text text_is (IsAsked path reply parsed carried is) =
+        let may : MayBeAsked (requests.Call (calls.List path)) = record { named = tt; met = λ names. tt } in
+        let c = look_carried config st.sent (at old) (at new) (calls.List path) reply refl may st.ours st.covers st.moment carried in
         record {
           next = m;
-          answer = said.0;
-          leads = said.1;
-          is = said.2;
-          stands = stands_on c.after c.covers (subst (λ (moment : Moment). IsNumber moment.0) (sym c.moment) st.moment) (still_mine seen failures config (at old) (at new) (requests.Call (calls.List path)) reply st.ours carried)
-              (looks_both (history st.sent (way_of old.wire)) c.mid (history c.after (way_of new.wire)) (went_on (calls.List path) refl (history st.sent (way_of old.wire)) c.mid reply c.went) c.taken) m st.shows;
+          answer = answered answers.Names (and_then names_in (looked reply));
+          leads = on_path (parse_hidden p) path (answered answers.Names (and_then names_in (looked reply))) parsed (list_told path (read_is_shallow p path parsed) reply (look_told_there (calls.List path) reply refl refl may carried) c);
+          is = subst (λ a. IsText a text) is text_is;
+          stands = look_stands (calls.List path) reply refl may carried;
         }
 
     -- ---- the phase
@@ -271,50 +280,60 @@ module _ {D : Type 0} (seen : D → List ℕ) (failures : D → ℕ) where
     abbrev Query : Result Answer Refusal → Type 0
     Query answer = AsksOne size calls.Query m answer m
 
-    -- what a refused query comes to
-    abbrev QueryOff : Refusal → Type 0
-    QueryOff refusal = (◌≡◌ {A = Result (Phase × ℕ) Refusal} (Err refusal) (Err refusals.Stray)) ⊎ (((epoch : ℕ) × (◌≡◌ {A = Result (Phase × ℕ) Refusal} (Err refusal) (Ok (phases.Preparing, epoch)))) ⊎ Query (Err refusal))
-
-    -- A query is answered so too, or tells that a prepare is begun.
-    query_told : (reply : Reply) → Carries_at seen failures (at old) (requests.Call calls.Query) reply (at new) → IsLookCarried st.sent (at old) (at new) calls.Query reply
-        → (and_then phase_in (looked reply) ≡ Err refusals.Stray) ⊎ (((epoch : ℕ) × (and_then phase_in (looked reply) ≡ Ok (phases.Preparing, epoch))) ⊎ Query (answered at_phase (and_then phase_in (looked reply))))
-    query_told (replies.Answer answer) carried c = (let told = is_told seen failures st.durable st.number before c.mid answer st.rests c.went in by_told told.0 told.1)
+    -- one that isn't answered
+    phase_refused : (refusal : Refusal) → IsToldOf st.durable calls.Query (Err refusal) → Query (Err refusal)
+    phase_refused refusal (inl (other, is, off)) = query_off size m refusal (subst IsNoLook (sym (refusal_is is)) off)
       where
-        by_told : (preparing : Bool) → answer ≡ says.Phase (told_phase preparing st.durable.phase) st.durable.epoch
-            → (phase_in answer ≡ Err refusals.Stray) ⊎ (((epoch : ℕ) × (phase_in answer ≡ Ok (phases.Preparing, epoch))) ⊎ Query (answered at_phase (phase_in answer)))
-        by_told true is = inr (inl (st.durable.epoch, ap phase_in is))
-        by_told false is = inr (inr (subst (λ a. Query (answered at_phase (phase_in a))) (sym is) (query_is size m (told_phase false st.durable.phase) st.durable.epoch (sym st.shows.phase) (sym st.shows.epoch))))
-    query_told (replies.Refused refusal) carried c = by_carried (refused_carried seen failures config st.sent (at old) (at new) calls.Query refusal (record { named = tt; met = λ names. tt }) st.ours st.covers st.moment st.rests.one carried)
-      where
-        by_judged : IsNoLook refusal ⊎ IsJudged seen failures st.durable calls.Query refusal → QueryOff refusal
-        by_judged (inl off) = inr (inr (query_off size m refusal off))
-        by_judged (inr j) = inr (inr (query_off size m refusal (inl (query_refused j.config j.state j.req j.moment refusal j.says))))
+        refusal_is : {a b : Refusal} {A : Type 0} → ◌≡◌ {A = Result A Refusal} (Err a) (Err b) → a ≡ b
+        refusal_is e = cc
+    phase_refused refusal (inr j) = query_off size m refusal (inl (query_refused j.config j.state j.req j.moment refusal j.says))
 
-        by_carried : IsOfStore refusal ⊎ ((mid : History D) × HasReply seen failures the_client before (requests.Call calls.Query) (replies.Refused refusal) mid) → QueryOff refusal
-        by_carried (inl store) = inr (inr (query_off size m refusal (inl store)))
-        by_carried (inr (mid, h)) = by_judged (judged_or seen failures st.durable st.number before mid calls.Query refl refl refusal st.rests h)
-    query_told replies.Lost carried c = inr (inr (query_off size m refusals.NoReplica (inl refl)))
-    query_told (replies.Given given) carried c = inl refl
-    query_told (replies.Outcome outcome) carried c = inl refl
+    -- a query is answered so too
+    query_told : (reply : Reply) → IsToldOf st.durable calls.Query (looked reply) → IsLookCarried st.sent (at old) (at new) calls.Query reply → Query (answered at_phase (and_then phase_in (looked reply)))
+    query_told (replies.Answer answer) so c =
+        subst (λ a. Query (answered at_phase (phase_in a))) (sym (is_told seen failures st.durable st.number before c.mid answer st.rests c.went)) (query_is size m (told_phase false st.durable.phase) st.durable.epoch (sym st.shows.phase) (sym st.shows.epoch))
+    query_told (replies.Refused refusal) so c = phase_refused refusal so
+    query_told replies.Lost so c = phase_refused refusals.NoReplica so
+    query_told (replies.Given given) so c = phase_refused refusals.Stray so
+    query_told (replies.Outcome outcome) so c = phase_refused refusals.Stray so
 
-    told_phase_text : (text : List ℕ) → TellsNoPrepare text → TellsNoStray text → (r : Result (Phase × ℕ) Refusal) → (r ≡ Err refusals.Stray) ⊎ (((epoch : ℕ) × (r ≡ Ok (phases.Preparing, epoch))) ⊎ Query (answered at_phase r)) → IsText (answered at_phase r) text
-        → (answer : Result Answer Refusal) × Query answer × IsText answer text
-    told_phase_text text none stray r told (inr short) = (Err refusals.Memory, query_off size m refusals.Memory (inl refl), inr short)
-    told_phase_text text none stray r (inl is) (inl said) = absurd (stray (said ∙ ap (λ x. answer_text (answered at_phase x)) is))
-    told_phase_text text none stray r (inr (inl (epoch, is))) (inl said) = absurd (none epoch (said ∙ ap (λ x. answer_text (answered at_phase x)) is))
-    told_phase_text text none stray r (inr (inr query)) (inl said) = (answered at_phase r, query, inl said)
-
-    query_line : (answer : Result Answer Refusal) (text : List ℕ) → TellsNoPrepare text → TellsNoStray text → IsText answer text → QueryGoes (Carries_at seen failures) (at old) answer (at new) → Goes (lines.RollingUpgrade upgrades.Query) text
-    query_line answer text none stray text_is q =
-        let c = look_carried config st.sent (at old) (at new) calls.Query q.reply refl (record { named = tt; met = λ names. tt }) st.ours st.covers st.moment q.asks in
-        let said = told_phase_text text none stray (and_then phase_in (looked q.reply)) (query_told q.reply q.asks c) (subst (λ a. IsText a text) q.is text_is) in
+    query_line : (answer : Result Answer Refusal) (text : List ℕ) → IsText answer text → QueryGoes (Carries_at seen failures) (at old) answer (at new) → Goes (lines.RollingUpgrade upgrades.Query) text
+    query_line answer text text_is q =
+        let may : MayBeAsked (requests.Call calls.Query) = record { named = tt; met = λ names. tt } in
+        let c = look_carried config st.sent (at old) (at new) calls.Query q.reply refl may st.ours st.covers st.moment q.asks in
         record {
           next = m;
-          answer = said.0;
-          leads = said.1;
-          is = said.2;
-          stands = stands_on c.after c.covers (subst (λ (moment : Moment). IsNumber moment.0) (sym c.moment) st.moment) (still_mine seen failures config (at old) (at new) (requests.Call calls.Query) q.reply st.ours q.asks)
-              (looks_both (history st.sent (way_of old.wire)) c.mid (history c.after (way_of new.wire)) (went_on calls.Query refl (history st.sent (way_of old.wire)) c.mid q.reply c.went) c.taken) m st.shows;
+          answer = answered at_phase (and_then phase_in (looked q.reply));
+          leads = query_told q.reply (look_told_there calls.Query q.reply refl refl may q.asks) c;
+          is = subst (λ a. IsText a text) q.is text_is;
+          stands = look_stands calls.Query q.reply refl may q.asks;
+        }
+
+    -- ---- a directory
+
+    -- the status of one is told by the names
+    directory_told : (path : Path) (reply : Reply) → is_any_deep (calls.Status path) ≡ false → looked reply ≡ Ok (says.Status statuses.Directory) → IsToldOf st.durable (calls.Status path) (looked reply) → (is_rolling m.phase ≡ false) × (at_path m.plain.tree path ≡ Some Dir)
+    directory_told path reply deep is (inl (refusal, refused, off)) = absurd (never (sym refused ∙ is))
+      where
+        never : ◌≡◌ {A = Result Said Refusal} (Err refusal) (Ok (says.Status statuses.Directory)) → ⊥
+        never e = cc
+    directory_told path reply deep is (inr j) =
+        let stood = j.stands.1 in
+        dir_shown j.config j.state j.req j.moment m st.shows.text (st.shows.tree ∙ ap (λ (names : NamesView). mapped_rows st.shows.text (fin.entries names.tree)) (sym stood.names))
+        (λ calm. ap is_rolling st.shows.phase ∙ rolls_so st.durable.phase ∙ ap is_rolled (sym stood.phase) ∙ calm) path deep (subst (λ r. OneSays j.req r (new_call j.config j.state j.req j.moment (calls.Status path)).sent) is j.says)
+
+    stat_line : (chunk : ℕ) (p : List ℕ) (answer : Result Answer Refusal) (text : List ℕ) → TellsDirectory text → IsText answer text → FollowsDialogue (Carries_at seen failures) (on (parse_hidden p) (stat_call chunk) answers.Stat) (at old) answer (at new) → Goes (lines.Stat p) text
+    stat_line chunk p answer text dir text_is h =
+        let goes = directory_goes (Carries_at seen failures) text dir chunk (parse_hidden p) (at old) (at new) answer h text_is in
+        let d = goes.0 in
+        let may : MayBeAsked (requests.Call (calls.Status d.path)) = record { named = tt; met = λ names. tt } in
+        let shown = directory_told d.path d.reply (read_is_shallow p d.path d.parses) d.tells (look_told_there (calls.Status d.path) d.reply refl refl may d.asks) in
+        record {
+          next = m;
+          answer = answer;
+          leads = subst (λ a. OnPath size (parse_hidden p) (Stats size) m a m) (sym goes.1) (directory_leads size m (parse_hidden p) d.path d.parses shown.0 shown.1);
+          is = text_is;
+          stands = look_stands (calls.Status d.path) d.reply refl may d.asks;
         }
 
     -- ---- a line about servers and messages
@@ -341,35 +360,35 @@ module _ {D : Type 0} (seen : D → List ℕ) (failures : D → ℕ) where
 
     -- ---- any such line
 
-    request_goes : (request : Request) (answer : Result Answer Refusal) (text : List ℕ) → is_still_line (Some request) ≡ true → IsSpoken request → (is_name_look (Some request) ≡ true → TellsNoStray text) → (is_query (Some request) ≡ true → TellsNoPrepare text) → Comes seen failures request old answer new → IsText answer text → Goes request text
+    request_goes : (request : Request) (answer : Result Answer Refusal) (text : List ℕ) → is_still_line (Some request) ≡ true → IsSpoken request → (is_stat (Some request) ≡ true → TellsDirectory text) → Comes seen failures request old answer new → IsText answer text → Goes request text
     unfolding Comes
-    request_goes (lines.Ls p) answer text is spoken store query comes text_is = list_line p answer text (store refl) text_is (list_goes (Carries_at seen failures) (parse_hidden p) (at old) (at new) answer comes)
-    request_goes (lines.At moment) answer text is spoken store query comes text_is = node_line (lines.At moment) answer text (record m { moment = moment }) is spoken text_is (m, ([], refl), is_set moment answer comes, refl) (shows_then moment) comes
-    request_goes (lines.Hold kind) answer text is spoken store query comes text_is = node_line (lines.Hold kind) answer text m is spoken text_is ([], refl) st.shows comes
-    request_goes (lines.Beat server) answer text is spoken store query comes text_is = node_line (lines.Beat server) answer text m is spoken text_is ([], refl) st.shows comes
-    request_goes (lines.Restart (restarted.Server number)) answer text is spoken store query comes text_is = node_line (lines.Restart (restarted.Server number)) answer text m is spoken text_is ([], refl) st.shows comes
-    request_goes (lines.Restart restarted.Master) answer text is spoken store query comes text_is = absurd (false≢true is)
-    request_goes (lines.Lose server handle) answer text is spoken store query comes text_is = node_line (lines.Lose server handle) answer text m is spoken text_is ([], refl) st.shows comes
-    request_goes (lines.Damage server handle index) answer text is spoken store query comes text_is = node_line (lines.Damage server handle index) answer text m is spoken text_is ([], refl) st.shows comes
-    request_goes (lines.Deliver number) answer text is spoken store query comes text_is = node_line (lines.Deliver number) answer text m is spoken text_is ([], refl) st.shows comes
-    request_goes (lines.Mkdir p) answer text is spoken store query comes text_is = absurd (false≢true is)
-    request_goes (lines.Create p) answer text is spoken store query comes text_is = absurd (false≢true is)
-    request_goes (lines.Stat p) answer text is spoken store query comes text_is = absurd (false≢true is)
-    request_goes (lines.Mv p q) answer text is spoken store query comes text_is = absurd (false≢true is)
-    request_goes (lines.Rm p recursive) answer text is spoken store query comes text_is = absurd (false≢true is)
-    request_goes (lines.Undelete p) answer text is spoken store query comes text_is = absurd (false≢true is)
-    request_goes (lines.Snapshot p q) answer text is spoken store query comes text_is = absurd (false≢true is)
-    request_goes (lines.Write p offset bytes) answer text is spoken store query comes text_is = absurd (false≢true is)
-    request_goes (lines.Append p bytes) answer text is spoken store query comes text_is = absurd (false≢true is)
-    request_goes (lines.Read p offset many) answer text is spoken store query comes text_is = absurd (false≢true is)
-    request_goes (lines.Digest p chunk index) answer text is spoken store query comes text_is = absurd (false≢true is)
-    request_goes lines.Scan answer text is spoken store query comes text_is = absurd (false≢true is)
-    request_goes lines.Replicate answer text is spoken store query comes text_is = absurd (false≢true is)
-    request_goes (lines.RollingUpgrade upgrades.Query) answer text is spoken store query comes text_is = query_line answer text (query refl) (store refl) text_is (query_goes (Carries_at seen failures) (at old) (at new) answer comes)
-    request_goes (lines.RollingUpgrade upgrades.Prepare) answer text is spoken store query comes text_is = absurd (false≢true is)
-    request_goes (lines.RollingUpgrade upgrades.Finalize) answer text is spoken store query comes text_is = absurd (false≢true is)
-    request_goes (lines.RollingUpgrade upgrades.Rollback) answer text is spoken store query comes text_is = absurd (false≢true is)
-    request_goes (lines.Step step) answer text is spoken store query comes text_is = absurd (false≢true is)
+    request_goes (lines.Ls p) answer text is spoken stat comes text_is = list_line p answer text text_is (list_goes (Carries_at seen failures) (parse_hidden p) (at old) (at new) answer comes)
+    request_goes (lines.At moment) answer text is spoken stat comes text_is = node_line (lines.At moment) answer text (record m { moment = moment }) is spoken text_is (m, ([], refl), is_set moment answer comes, refl) (shows_then moment) comes
+    request_goes (lines.Hold kind) answer text is spoken stat comes text_is = node_line (lines.Hold kind) answer text m is spoken text_is ([], refl) st.shows comes
+    request_goes (lines.Beat server) answer text is spoken stat comes text_is = node_line (lines.Beat server) answer text m is spoken text_is ([], refl) st.shows comes
+    request_goes (lines.Restart (restarted.Server number)) answer text is spoken stat comes text_is = node_line (lines.Restart (restarted.Server number)) answer text m is spoken text_is ([], refl) st.shows comes
+    request_goes (lines.Restart restarted.Master) answer text is spoken stat comes text_is = absurd (false≢true is)
+    request_goes (lines.Lose server handle) answer text is spoken stat comes text_is = node_line (lines.Lose server handle) answer text m is spoken text_is ([], refl) st.shows comes
+    request_goes (lines.Damage server handle index) answer text is spoken stat comes text_is = node_line (lines.Damage server handle index) answer text m is spoken text_is ([], refl) st.shows comes
+    request_goes (lines.Deliver number) answer text is spoken stat comes text_is = node_line (lines.Deliver number) answer text m is spoken text_is ([], refl) st.shows comes
+    request_goes (lines.Mkdir p) answer text is spoken stat comes text_is = absurd (false≢true is)
+    request_goes (lines.Create p) answer text is spoken stat comes text_is = absurd (false≢true is)
+    request_goes (lines.Stat p) answer text is spoken stat comes text_is = stat_line old.caller.client.chunk p answer text (stat refl) text_is comes
+    request_goes (lines.Mv p q) answer text is spoken stat comes text_is = absurd (false≢true is)
+    request_goes (lines.Rm p recursive) answer text is spoken stat comes text_is = absurd (false≢true is)
+    request_goes (lines.Undelete p) answer text is spoken stat comes text_is = absurd (false≢true is)
+    request_goes (lines.Snapshot p q) answer text is spoken stat comes text_is = absurd (false≢true is)
+    request_goes (lines.Write p offset bytes) answer text is spoken stat comes text_is = absurd (false≢true is)
+    request_goes (lines.Append p bytes) answer text is spoken stat comes text_is = absurd (false≢true is)
+    request_goes (lines.Read p offset many) answer text is spoken stat comes text_is = absurd (false≢true is)
+    request_goes (lines.Digest p chunk index) answer text is spoken stat comes text_is = absurd (false≢true is)
+    request_goes lines.Scan answer text is spoken stat comes text_is = absurd (false≢true is)
+    request_goes lines.Replicate answer text is spoken stat comes text_is = absurd (false≢true is)
+    request_goes (lines.RollingUpgrade upgrades.Query) answer text is spoken stat comes text_is = query_line answer text text_is (query_goes (Carries_at seen failures) (at old) (at new) answer comes)
+    request_goes (lines.RollingUpgrade upgrades.Prepare) answer text is spoken stat comes text_is = absurd (false≢true is)
+    request_goes (lines.RollingUpgrade upgrades.Finalize) answer text is spoken stat comes text_is = absurd (false≢true is)
+    request_goes (lines.RollingUpgrade upgrades.Rollback) answer text is spoken stat comes text_is = absurd (false≢true is)
+    request_goes (lines.Step step) answer text is spoken stat comes text_is = absurd (false≢true is)
 
     -- ---- a line with its end
 
@@ -377,14 +396,14 @@ module _ {D : Type 0} (seen : D → List ℕ) (failures : D → ℕ) where
     LineGoes whole text = (next : Machine) × AnswersLine (Explains size block) m whole text next × Stands seen config new next
 
     abbrev Given : Option Request → List ℕ → Type 0
-    Given o text = (is_still_line o ≡ true) × (is_name_look o ≡ true → TellsNoStray text) × (is_query o ≡ true → TellsNoPrepare text)
+    Given o text = (is_still_line o ≡ true) × (is_stat o ≡ true → TellsDirectory text)
 
     by_request : (line text : List ℕ) (o : Option Request) → line_request line ≡ o → Given o text
         → MatchOption o (IsText (Err refusals.BadLine) text × (new ≡ old)) (λ request. (answer : Result Answer Refusal) × Comes seen failures request old answer new × IsText answer text)
         → (next : Machine) × MatchOption o (IsText (Err refusals.BadLine) text × (next ≡ m)) (λ request. (answer : Result Answer Refusal) × Leads size block request m answer next × IsText answer text) × Stands seen config new next
     by_request line text None read given (bad, same) = (m, (bad, refl), stands_still (ap at same))
     by_request line text (Some request) read given (answer, comes, text_is) =
-        let g = request_goes request answer text given.0 (line_spoken line request read) given.1 given.2 comes text_is in (g.next, (g.answer, g.leads, g.is), g.stands)
+        let g = request_goes request answer text given.0 (line_spoken line request read) given.1 comes text_is in (g.next, (g.answer, g.leads, g.is), g.stands)
 
     abbrev Either : Bool → List ℕ → List ℕ → Type 0
     Either short line text = ((text ≡ memory_text) × (new ≡ old)) ⊎ ((next : Machine) × AnswersIfShort (Explains size block) short m line text next × Stands seen config new next)
