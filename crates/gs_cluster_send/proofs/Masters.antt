@@ -24,7 +24,6 @@ use Rattle.gs_master_state.specs.contracts.undo.KeptBefore as KeptBefore
 use Rattle.gs_master_state.specs.contracts.undo.MovedNames as MovedNames
 use Rattle.gs_master_state.specs.contracts.undo.NamesBefore as NamesBefore
 use Rattle.gs_master_state.specs.contracts.undo.ProposalBefore as ProposalBefore
-use Rattle.gs_master_state.specs.contracts.undo.RemovedNames as RemovedNames
 use Rattle.gs_master_state.specs.contracts.undo.ReplyBefore as ReplyBefore
 use Rattle.gs_master_state.specs.contracts.undo.RollbackBefore as RollbackBefore
 use Rattle.gs_master_state.specs.contracts.undo.StoodNames as StoodNames
@@ -33,7 +32,7 @@ use Rattle.gs_cluster_send.proofs.Disks.{record_of}
 use Rattle.gs_cluster_send.proofs.Leases.{entry, lease, lease_table, lock_table, table}
 use Rattle.gs_cluster_send.proofs.Messages.{answer, message}
 use Rattle.gs_cluster_send.proofs.Parts.{epoch_end, handle, members, path, refusal, req_id, stamp, view}
-use Rattle.gs_cluster_send.proofs.Trees.{edit, inverse, listed_inverse, names, taken_out}
+use Rattle.gs_cluster_send.proofs.Trees.{edit, inverse, listed_inverse, names}
 
 -- an enum of parts that may
 enum_by : (T : Declared) → EachSend (variants T) → IsSend (field T).row
@@ -90,11 +89,8 @@ stood_names = search (sendable, crosses, names, path, following) depth 200 fits 
 pub moved_names : IsSend (MovedNames.the_field).row
 moved_names = search (sendable, crosses, names, path) depth 200 fits 100000
 
-pub removed_names : IsSend (RemovedNames.the_field).row
-removed_names = search (sendable, crosses, path, taken_out) depth 200 fits 100000
-
 pub names_before : IsSend (NamesBefore.the_field).row
-names_before = search (sendable, crosses, inverse, stood_names, moved_names, removed_names) depth 200 fits 100000
+names_before = search (sendable, crosses, inverse, stood_names, moved_names) depth 200 fits 100000
 
 pub edit_before : IsSend (EditBefore.the_field).row
 edit_before = search (sendable, crosses, names_before, chunk_before, reply_before) depth 200 fits 100000

@@ -1,8 +1,7 @@
 // The names, of which an edit is made so that it can be taken back without memory: in place, or on a copy that stands by.
-ghost use Rattle.std.specs.Prelude.{[], ◌∷◌, ◌≡◌, ◌≢◌, None, Ok, OnOk, Some, IfOk, IfErr, IfSome, MatchBool, false, not, true};
-ghost use Rattle.std.specs.List.{list_all, list_any};
-ghost use Rattle.gs_path.specs.Path.{begins};
-ghost use Rattle.gs_edit.specs.Edits.{Applies, renamed};
+ghost use Rattle.std.specs.Prelude.{◌≡◌, ◌≢◌, None, Some, IfOk, IfErr, IfSome, MatchBool, false, not, true};
+ghost use Rattle.std.specs.List.{list_all};
+ghost use Rattle.gs_edit.specs.Edits.{Applies};
 ghost use Rattle.gs_edit.specs.Listed.{is_of_kind, kind_of};
 ghost use Rattle.gs_edit.specs.Names.{NamesTakenBack, takes_memory};
 ghost use Rattle.gs_edit.specs.Scan.{Scans};
@@ -10,9 +9,9 @@ ghost use Rattle.gs_edit.specs.View.{NamesView};
 ghost use Rattle.gs_edit.specs.declared.edit.Inverse.{Inverse};
 ghost use Rattle.gs_master_record.specs.Plain.{plain_edit};
 ghost use Rattle.std.specs.FinMap as fin_map;
-ghost use Rattle.gs_edit.specs.Places.{IsNotRemoved, is_move};
-ghost use Rattle.gs_master_state.specs.inner.Held.{ArePlaces, AreSeen, IsLedBy, KeepsAll, StandsBy, all_but_last, is_at, still, without_kept};
-ghost use Rattle.gs_master_state.specs.inner.TakingBack.{AreNamesBefore, ArePlacesBefore, HasPlaceBack, IsLastPlace, is_kept, is_made_in_place, places_before, wants_copy};
+ghost use Rattle.gs_edit.specs.Places.{is_move};
+ghost use Rattle.gs_master_state.specs.inner.Held.{AreSeen, IsLedBy, IsPlace, StandsBy, is_at, still, without_kept};
+ghost use Rattle.gs_master_state.specs.inner.TakingBack.{AreNamesBefore, HasPlaceBack, IsPlaceBefore, is_kept, is_made_in_place, place_before, wants_copy};
 ghost use Rattle.gs_tree.specs.Build.{is_short, is_tree, rooted_rows, rows_of_entries};
 ghost use Rattle.gs_tree.specs.Chunks.{rows_under, visible_chunks_under};
 ghost use Rattle.gs_tree.specs.Listing.{HasVisible, Lists, StandsAs};
@@ -20,8 +19,7 @@ ghost use Rattle.gs_tree.specs.Plain.{part_at};
 ghost use Rattle.gs_master_state.specs.inner.Trying.{refusal_of};
 ghost use Rattle.gs_master_spec.specs.Undoing.{edited_names};
 
-use crate::edit::push_within;
-use crate::undo::{Following, MovedNames, NamesBefore, RemovedNames, StoodNames};
+use crate::undo::{Following, MovedNames, NamesBefore, StoodNames};
 use gs_base::{Handle, Moment, Refusal};
 use gs_base_table::Table;
 use gs_edit::{Edit, Inverse, Names, Scan};
@@ -48,22 +46,14 @@ fn is_made_in_place(edit: &Edit) -> bool
     }
 }
 
-/// Places that are kept in names are given up.
-fn give_up_each(names: &mut Names, places: &[Path])
-    requires { ArePlaces places.now names.old }
-    ensures { names.new ≡ without_kept places.now names.old }
+/// Names without the place that is kept in them.
+fn without_place(mut names: Names, place: &Option<Path>) -> Names
+    requires { IsPlace place.now names }
+    ensures { result ≡ without_kept place.now names }
 {
-    for place in places {
+    if let Some(place) = place {
         names.give_up_place(place);
     }
-}
-
-/// Names without the places that are kept in them.
-fn without_places(mut names: Names, places: &[Path]) -> Names
-    requires { ArePlaces places.now names }
-    ensures { result ≡ without_kept places.now names }
-{
-    give_up_each(&mut names, places);
     names
 }
 
@@ -71,6 +61,7 @@ fn without_places(mut names: Names, places: &[Path]) -> Names
 fn is_move(edit: &Edit) -> bool
     ensures moves { result ≡ is_move edit.now }
     ensures copies { result ≡ true → wants_copy (plain_edit edit.now) ≡ false }
+    ensures other { result ≡ false → wants_copy (plain_edit edit.now) ≡ not (is_made_in_place (plain_edit edit.now)) }
 {
     match edit {
         Edit::Rename(_, _) | Edit::Hide(_, _, _) | Edit::Unhide(_) => true,
@@ -236,20 +227,20 @@ fn undo(names: &mut Names, inverse: &Inverse)
     let _undone = names.undo(inverse);
 }
 
-/// The names, perhaps with the places that empty directories keep for what was moved or removed last, and perhaps a copy of
-/// them that stands by. They are seen as the names alone, without these directories.
+/// The names, perhaps with the place that an empty directory keeps for the source of the last move, and perhaps a copy of
+/// them that stands by. They are seen as the names alone, without that directory.
 ///
-/// An edit that can be taken back without memory is made in place. So is a move or a removal: until it stands, its place is
-/// kept, so that what left it can go back there. The first edit of any other kind copies the names. From then on each edit
-/// is made on both, a move the second time without its tests, so a further one costs its path and not the names. Where
-/// memory is wanting for the copy it goes, and a later edit copies the names again.
+/// An edit that can be taken back without memory is made in place. So is a move: until it stands, its place is kept, so
+/// that what was moved can go back there. The first edit of any other kind copies the names. From then on each edit is made
+/// on both, a move the second time without its tests, so a further one costs its path and not the names. Where memory is
+/// wanting for the copy it goes, and a later edit copies the names again.
 ///
-/// While places are kept, which is until their event ends, a removal is made in place if none of them lies at or under its
-/// path. Each other edit is made on a copy, and what lists entries or chunks copies the names.
+/// While a place is kept, which is until the event of its move ends, each further edit is made on a copy, and what lists
+/// entries or chunks copies the names.
 pub struct HeldNames {
     alloc: Global,
     names: Names,
-    places: Vec<Path>,
+    place: Option<Path>,
     spare: Option<Names>,
     visible: Option<Table<Handle, bool>>,
 }
@@ -259,7 +250,7 @@ impl Drop for HeldNames {
         let Self {
             alloc: _,
             names: _,
-            places: _,
+            place: _,
             spare: _,
             visible: _,
         } = self;
@@ -267,15 +258,15 @@ impl Drop for HeldNames {
 }
 
 impl Model for HeldNames {
-    ghost use Rattle.gs_master_state.specs.inner.Held.{HeldView, IsSeen, KeepsAll, StandsBy, coded_held, without_kept};
+    ghost use Rattle.gs_master_state.specs.inner.Held.{HeldView, IsPlace, IsSeen, StandsBy, coded_held, without_kept};
 
     ghost Value = { HeldView };
 
     ghost coded = { coded_held };
 
-    ghost view = { λ a. record { names = without_kept a.places.items a.names; places = a.places.items } };
+    ghost view = { λ a. record { names = without_kept a.place a.names; place = a.place } };
 
-    ghost invariant = { λ a. KeepsAll a.places.items a.names × StandsBy a.spare (without_kept a.places.items a.names) × IsSeen a.visible (without_kept a.places.items a.names) };
+    ghost invariant = { λ a. IsPlace a.place a.names × StandsBy a.spare (without_kept a.place a.names) × IsSeen a.visible (without_kept a.place a.names) };
 }
 
 impl HeldNames {
@@ -286,7 +277,7 @@ impl HeldNames {
         HeldNames {
             alloc,
             names,
-            places: Vec::new(alloc),
+            place: None,
             spare: None,
             visible: None,
         }
@@ -318,28 +309,17 @@ impl HeldNames {
         ensures { IfOk result (λ names. names ≡ self.now.names) }
     {
         let names = self.names.copy()?;
-        Ok(without_places(names, &self.places))
+        Ok(without_place(names, &self.place))
     }
 
-    /// Whether a place that is kept is at a path.
+    /// Whether the place that is kept is at a path.
     fn is_place(&self, path: &Path) -> bool
-        ensures { result ≡ is_at self.now.places path.now }
+        ensures { result ≡ is_at self.now.place path.now }
     {
-        self.places.iter().any(|place| path == place)
-    }
-
-    /// Whether a place that is kept is at or under a path.
-    fn is_over(&self, path: &Path) -> bool
-        ensures { result ≡ list_any (begins path.now) self.now.places }
-    {
-        self.places.iter().any(|place| place.starts_with(path))
-    }
-
-    /// Whether none is.
-    fn is_apart(&self, path: &Path) -> bool
-        ensures { result ≡ not (list_any (begins path.now) self.now.places) }
-    {
-        !self.is_over(path)
+        match &self.place {
+            None => false,
+            Some(place) => place == path,
+        }
     }
 
     /// What stands at a path, as in the tree (`Tree::status`). It takes no memory.
@@ -358,7 +338,7 @@ impl HeldNames {
         ensures { MatchBool result (HasVisible (part_at path.now (fin_map.get self.now.names.tree))) (HasVisible (part_at path.now (fin_map.get self.now.names.tree)) → ⊥) }
     {
         let tree = self.names.tree();
-        let Some(place) = self.places.first() else {
+        let Some(place) = &self.place else {
             return tree.has_visible(path);
         };
         let Some((name, parent)) = place.elements().split_last() else {
@@ -375,7 +355,7 @@ impl HeldNames {
     pub fn list(&self, path: &Path) -> Result<Vec<Listed>, Refusal>
         ensures { Lists (fin_map.get self.now.names.tree) path.now result }
     {
-        if self.places.is_empty() {
+        if self.place.is_none() {
             return self.names.tree().list(path);
         }
         let names = self.copy()?;
@@ -391,7 +371,7 @@ impl HeldNames {
     ) -> Result<Vec<Handle>, AllocError>
         ensures { IfOk result (λ found. found.items ≡ visible_chunks_under path.now (fin_map.entries self.now.names.tree)) }
     {
-        if self.places.is_empty() {
+        if self.place.is_none() {
             return self.names.tree().visible_chunks_under(alloc, path);
         }
         let names = self.copy()?;
@@ -403,7 +383,7 @@ impl HeldNames {
         ensures rows { IfOk result (λ listed. rooted_rows (rows_of_entries listed.items) ≡ fin_map.entries self.now.names.tree) }
         ensures tree { IfOk result (λ listed. list_all (λ r. is_short r.0) (fin_map.entries self.now.names.tree) ≡ is_tree (rows_of_entries listed.items)) }
     {
-        if self.places.is_empty() {
+        if self.place.is_none() {
             return self.names.tree().entries(alloc);
         }
         let names = self.copy()?;
@@ -414,7 +394,7 @@ impl HeldNames {
     pub fn entries_under(&self, alloc: Global, path: &Path) -> Result<Vec<TreeEntry>, AllocError>
         ensures { IfOk result (λ listed. rows_of_entries listed.items ≡ rows_under path.now (fin_map.entries self.now.names.tree)) }
     {
-        if self.is_apart(path) {
+        if self.place.is_none() {
             return self.names.tree().entries_under(alloc, path);
         }
         let names = self.copy()?;
@@ -425,23 +405,21 @@ impl HeldNames {
     pub fn scan(&self, moment: Moment) -> Result<Scan, Refusal>
         ensures { Scans moment.0 (fin_map.entries self.now.names.tree) self.now.names.refs result }
     {
-        if self.places.is_empty() {
+        if self.place.is_none() {
             return self.names.scan(moment);
         }
         let names = self.copy()?;
         names.scan(moment)
     }
 
-    /// The places that are kept are given up: what left them stays away.
-    pub fn give_up_places(&mut self)
+    /// A place that is kept is given up: its move stands.
+    pub fn give_up_place(&mut self)
         ensures { self.new ≡ still self.old.names }
     {
-        if self.places.is_empty() {
-            return;
+        if let Some(place) = self.place.take() {
+            self.visible = None;
+            self.names.give_up_place(&place);
         }
-        self.visible = None;
-        let places = mem::replace(&mut self.places, Vec::new(self.alloc));
-        give_up_each(&mut self.names, &places);
     }
 
     /// Makes an edit in place, and answers what takes it back.
@@ -449,19 +427,19 @@ impl HeldNames {
         ensures edit { Applies edit.now self.old.names result self.new.names }
         ensures undo { IfOk result (λ i. NamesTakenBack i self.old.names self.new.names) }
         ensures kind { IfOk result (λ i. is_of_kind (kind_of edit.now) i ≡ true) }
-        ensures places { self.new.places ≡ [] }
+        ensures place { self.new.place ≡ None }
     {
-        self.give_up_places();
+        self.give_up_place();
         self.apply_in_place(edit)
     }
 
     /// The same where no place is kept.
     fn apply_in_place(&mut self, edit: &Edit) -> Result<Inverse, Refusal>
-        requires { self.old.places ≡ [] }
+        requires { self.old.place ≡ None }
         ensures edit { Applies edit.now self.old.names result self.new.names }
         ensures undo { IfOk result (λ i. NamesTakenBack i self.old.names self.new.names) }
         ensures kind { IfOk result (λ i. is_of_kind (kind_of edit.now) i ≡ true) }
-        ensures places { self.new.places ≡ [] }
+        ensures place { self.new.place ≡ None }
     {
         self.visible = None;
         match self.names.apply(edit) {
@@ -488,14 +466,14 @@ impl HeldNames {
     fn exchange(&mut self, names: Names, following: Following) -> NamesBefore
         ensures now { self.new ≡ still names }
         ensures back { IsLedBy following self.old.names names → AreNamesBefore result self.old.names names }
-        ensures places { ArePlacesBefore result self.old.places [] }
+        ensures place { IsPlaceBefore result self.old.place None }
         ensures kept { is_kept result ≡ true }
     {
         self.spare = None;
         self.visible = None;
         NamesBefore::Kept(StoodNames {
             names: mem::replace(&mut self.names, names),
-            places: mem::replace(&mut self.places, Vec::new(self.alloc)),
+            place: self.place.take(),
             following,
         })
     }
@@ -504,7 +482,7 @@ impl HeldNames {
     fn enter_on_copy(&mut self, edit: &Edit) -> Result<NamesBefore, Refusal>
         ensures edit { Applies edit.now self.old.names result self.new.names }
         ensures back { IfOk result (λ before. AreNamesBefore before self.old.names self.new.names) }
-        ensures places { IfOk result (λ before. ArePlacesBefore before self.old.places self.new.places) }
+        ensures place { IfOk result (λ before. IsPlaceBefore before self.old.place self.new.place) }
         ensures refused { IfErr result (λ _. self.new ≡ self.old) }
         ensures kept { IfOk result (λ before. is_kept before ≡ true) }
     {
@@ -521,18 +499,16 @@ impl HeldNames {
 
     /// Makes a move in place, and keeps its place until it stands. What stood by is kept for then.
     fn enter_move(&mut self, edit: &Edit) -> Result<NamesBefore, Refusal>
-        requires places { self.old.places ≡ [] }
+        requires place { self.old.place ≡ None }
         requires edit { is_move edit.now ≡ true }
         ensures edit { Applies edit.now self.old.names result self.new.names }
         ensures back { IfOk result (λ before. AreNamesBefore before self.old.names self.new.names) }
-        ensures places { IfOk result (λ before. ArePlacesBefore before self.old.places self.new.places) }
+        ensures place { IfOk result (λ before. IsPlaceBefore before self.old.place self.new.place) }
         ensures refused { IfErr result (λ _. self.new ≡ self.old) }
         ensures kept { IfOk result (λ before. is_kept before ≡ false) }
     {
         // What is moved may be hidden from here on.
         self.visible = None;
-        let mut places = Vec::new(self.alloc);
-        places.reserve(1)?;
         let inverse = match self.names.move_keeping_place(edit) {
             Ok(inverse) => inverse,
             Err(refusal) => return Err(refusal),
@@ -544,74 +520,21 @@ impl HeldNames {
             self.names.return_to_place(&from, &to);
             return Err(Refusal::Memory);
         };
-        push_within(&mut places, place);
-        self.places = places;
+        self.place = Some(place);
         let spare = self.spare.take();
         Ok(NamesBefore::Moved(MovedNames { from, to, spare }))
     }
 
-    /// Takes out what is hidden at a path in place, and keeps its place until that stands. What stands by follows.
-    fn enter_removal(&mut self, edit: &Edit, path: &Path) -> Result<NamesBefore, Refusal>
-        requires edit { edit.now ≡ Edit.Remove path.now }
-        requires apart { list_any (begins path.now) self.old.places ≡ false }
-        ensures edit { OnOk result (renamed edit.now self.old.names ≡ Ok (fin_map.entries self.new.names.tree, self.new.names.refs)) }
-        ensures back { IfOk result (λ before. AreNamesBefore before self.old.names self.new.names) }
-        ensures places { IfOk result (λ before. ArePlacesBefore before self.old.places self.new.places) }
-        ensures kept { IfOk result (λ before. is_kept before ≡ false) }
-        ensures refused { IfErr result (λ _. self.new ≡ self.old) }
-        ensures first { self.old.places ≡ [] → IfErr result (λ e. IsNotRemoved path.now self.old.names e self.new.names) }
-    {
-        let kept = path.copy(self.alloc)?;
-        let path = path.copy(self.alloc)?;
-        self.places.reserve(1)?;
-        let out = match self.names.remove_keeping_place(&path) {
-            Ok(out) => out,
-            Err(refusal) => return Err(refusal),
-        };
-        self.visible = None;
-        push_within(&mut self.places, kept);
-        let beside = self.spare.take();
-        self.spare = followed(beside, edit);
-        Ok(NamesBefore::Removed(RemovedNames { path, out }))
-    }
-
-    /// Makes a removal: in place where no place that is kept is at or under its path, and else on a copy. Behind other places
-    /// a copy says why it is refused.
-    fn enter_remove(&mut self, edit: &Edit, path: &Path) -> Result<NamesBefore, Refusal>
-        requires { edit.now ≡ Edit.Remove path.now }
-        ensures edit { Applies edit.now self.old.names result self.new.names }
-        ensures back { IfOk result (λ before. AreNamesBefore before self.old.names self.new.names) }
-        ensures places { IfOk result (λ before. ArePlacesBefore before self.old.places self.new.places) }
-        ensures refused { IfErr result (λ _. self.new ≡ self.old) }
-        ensures copies { self.old.places ≡ [] → IfOk result (λ before. is_kept before ≡ false) }
-    {
-        if !self.is_apart(path) {
-            return self.enter_on_copy(edit);
-        }
-        match self.enter_removal(edit, path) {
-            Ok(before) => return Ok(before),
-            Err(refusal) => {
-                if self.places.is_empty() {
-                    return Err(refusal);
-                }
-            }
-        }
-        self.enter_on_copy(edit)
-    }
-
-    /// Makes an edit: in place where its inverse takes it back without memory, where it is a move and no place is kept yet, or
-    /// where it is a removal apart from the places that are; and else on a copy.
+    /// Makes an edit: in place where its inverse takes it back without memory, or where it is a move and no place is kept yet,
+    /// and else on a copy.
     pub fn enter(&mut self, edit: &Edit) -> Result<NamesBefore, Refusal>
         ensures edit { Applies edit.now self.old.names result self.new.names }
         ensures back { IfOk result (λ before. AreNamesBefore before self.old.names self.new.names) }
-        ensures places { IfOk result (λ before. ArePlacesBefore before self.old.places self.new.places) }
+        ensures place { IfOk result (λ before. IsPlaceBefore before self.old.place self.new.place) }
         ensures refused { IfErr result (λ _. self.new ≡ self.old) }
-        ensures copies { self.old.places ≡ [] → IfOk result (λ before. is_kept before ≡ wants_copy (plain_edit edit.now)) }
+        ensures copies { self.old.place ≡ None → IfOk result (λ before. is_kept before ≡ wants_copy (plain_edit edit.now)) }
     {
-        if let Edit::Remove(path) = edit {
-            return self.enter_remove(edit, path);
-        }
-        if !self.places.is_empty() {
+        if self.place.is_some() {
             return self.enter_on_copy(edit);
         }
         if is_move(edit) {
@@ -626,11 +549,11 @@ impl HeldNames {
         }
     }
 
-    /// The names stand again as they stood, with the places that were kept then.
+    /// The names stand again as they stood, with the place that was kept then.
     pub fn put_back(&mut self, before: NamesBefore)
-        requires { HasPlaceBack self.old.places before }
+        requires { HasPlaceBack self.old.place before }
         ensures names { (stood : NamesView) → AreNamesBefore before stood self.old.names → self.new.names ≡ stood }
-        ensures places { self.new.places ≡ places_before before self.old.places }
+        ensures place { self.new.place ≡ place_before before }
     {
         match before {
             NamesBefore::Undone(inverse) => {
@@ -639,53 +562,39 @@ impl HeldNames {
                 undo(&mut self.names, &inverse);
             }
             NamesBefore::Moved(moved) => self.move_back(moved),
-            NamesBefore::Removed(removed) => self.put_removed_back(removed),
             NamesBefore::Kept(stood) => self.put_stood_back(stood),
         }
     }
 
-    /// Names that were kept stand again, with the places that were kept in them.
+    /// Names that were kept stand again, with the place that was kept in them.
     fn put_stood_back(&mut self, stood: StoodNames)
-        requires { KeepsAll stood.places.items stood.names }
-        ensures names { self.new.names ≡ without_kept stood.places.items stood.names }
-        ensures places { self.new.places ≡ stood.places.items }
+        requires { IsPlace stood.place stood.names }
+        ensures names { self.new.names ≡ without_kept stood.place stood.names }
+        ensures place { self.new.place ≡ stood.place }
     {
         let StoodNames {
             names,
-            places,
+            place,
             following,
         } = stood;
         drop(following);
         self.spare = None;
         self.visible = None;
         self.names = names;
-        self.places = places;
-    }
-
-    /// What was removed stands again in its place.
-    fn put_removed_back(&mut self, removed: RemovedNames)
-        requires { IsLastPlace self.old.places removed.path }
-        ensures names { (stood : NamesView) → AreNamesBefore (NamesBefore.Removed removed) stood self.old.names → self.new.names ≡ stood }
-        ensures places { self.new.places ≡ all_but_last self.old.places }
-    {
-        let RemovedNames { path, out } = removed;
-        self.spare = None;
-        self.visible = None;
-        let _place = self.places.pop();
-        self.names.put_back(&path, out);
+        self.place = place;
     }
 
     /// What was moved goes back to its place.
     fn move_back(&mut self, moved: MovedNames)
-        requires { self.old.places ≡ moved.from ∷ [] }
+        requires { self.old.place ≡ Some moved.from }
         ensures names { (stood : NamesView) → AreNamesBefore (NamesBefore.Moved moved) stood self.old.names → self.new.names ≡ stood }
-        ensures places { self.new.places ≡ [] }
+        ensures place { self.new.place ≡ None }
     {
         let MovedNames { from, to, spare } = moved;
         drop(spare);
         self.spare = None;
         self.visible = None;
-        self.places = Vec::new(self.alloc);
+        self.place = None;
         self.names.return_to_place(&from, &to);
     }
 
@@ -702,14 +611,13 @@ impl HeldNames {
                     self.spare = led(spare, &Following::Move(from, to));
                 }
             }
-            NamesBefore::Removed(removed) => drop(removed),
             NamesBefore::Kept(stood) => {
                 let StoodNames {
                     names,
-                    places,
+                    place,
                     following,
                 } = stood;
-                self.spare = led(without_places(names, &places), &following);
+                self.spare = led(without_place(names, &place), &following);
             }
         }
     }
@@ -720,11 +628,11 @@ impl HeldNames {
         ensures memory { IfErr result (λ refusal. refusal ≡ Refusal.Memory) }
         ensures stays { self.new ≡ self.old }
     {
-        if self.places.is_empty() && is_made_in_place(edit) {
+        if self.place.is_none() && is_made_in_place(edit) {
             self.visible = None;
             return judged_in_place(&mut self.names, edit);
         }
-        if self.places.is_empty() && is_move(edit) {
+        if self.place.is_none() && is_move(edit) {
             self.visible = None;
             return judged_move(&mut self.names, edit);
         }
