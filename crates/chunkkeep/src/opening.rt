@@ -55,17 +55,21 @@ impl Source for FileSource {
 
 /// What makes a desk by the first line of a file, if that is one of a store of the sizes that are asked for.
 #[derive(Clone, Copy)]
-pub(crate) struct Opener<'a> {
-    asked: &'a Asked,
+pub(crate) struct Opener {
+    sizes: Sizes,
+    is_lab: bool,
 }
 
-impl<'a> Opener<'a> {
-    pub(crate) fn new(asked: &'a Asked) -> Opener<'a> {
-        Opener { asked }
+impl Opener {
+    pub(crate) fn new(asked: &Asked) -> Opener {
+        Opener {
+            sizes: asked.sizes,
+            is_lab: asked.mode.is_lab,
+        }
     }
 }
 
-impl Making for Opener<'_> {
+impl Making for Opener {
     type Machine = KeptDesk<MemoryDisk>;
 
     type Fault = Fault;
@@ -76,9 +80,9 @@ impl Making for Opener<'_> {
 
     fn make(&self, alloc: Global, line: &[u8]) -> Result<Made<KeptDesk<MemoryDisk>>, Fault> {
         let head = head_of(alloc, line)?;
-        compare(&self.asked.sizes, &head.config)?;
+        compare(&self.sizes, &head.config)?;
         Ok(Made {
-            machine: new_desk(alloc, head.config, self.asked.mode.is_lab)?,
+            machine: new_desk(alloc, head.config, self.is_lab)?,
             is_second: head.form == Form::Two,
         })
     }
