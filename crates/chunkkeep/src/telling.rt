@@ -1,4 +1,5 @@
 use gs_keep::{Progress, Replayed};
+use gs_keep_measure::Extent;
 use std::rt::Clock;
 use std::time::Instant;
 
@@ -10,19 +11,18 @@ const LINES: u64 = 16;
 pub(crate) struct Teller<'a, R> {
     rt: &'a R,
     path: &'a str,
-    /// How many bytes stand after what is run again.
-    rest: u64,
+    extent: Extent,
     begun: Option<Instant>,
     /// How many seconds had passed when it told last.
     told: u64,
 }
 
 impl<'a, R: Eprint + Clock> Teller<'a, R> {
-    pub(crate) fn new(rt: &'a R, path: &'a str) -> Teller<'a, R> {
+    pub(crate) fn new(rt: &'a R, path: &'a str, extent: Extent) -> Teller<'a, R> {
         Teller {
             rt,
             path,
-            rest: 0,
+            extent,
             begun: Instant::now(rt).ok(),
             told: 0,
         }
@@ -41,10 +41,7 @@ impl<'a, R: Eprint + Clock> Teller<'a, R> {
 }
 
 impl<R: Eprint + Clock> Progress for Teller<'_, R> {
-    fn measured(&mut self, rest: u64) {
-        self.rest = rest;
-        self.begun = Instant::now(self.rt).ok();
-    }
+    fn measured(&mut self, _rest: u64) {}
 
     fn passed(&mut self, lines: u64) {
         if lines % LINES != 0 {
@@ -70,7 +67,7 @@ impl<R: Eprint + Clock> Progress for Teller<'_, R> {
 
     fn cut(&mut self) {
         let path = self.path;
-        let rest = self.rest;
+        let rest = self.extent.rest;
         if rest > 0 {
             let _ = eprintln!(self.rt;
                 "chunkkeep: {path}: {rest} bytes after what was answered are cut off"
