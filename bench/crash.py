@@ -32,6 +32,7 @@ import threading
 import time
 
 import beside
+import launch
 
 SIZES = ["--block", "4", "--chunk", "16"]
 # Lines of a script harm the store too, as restarts do.
@@ -1296,8 +1297,7 @@ def speed(program, plain_program, folder, count):
 
 
 def built(name):
-    beside.placed(name, ("src",))
-    return beside.native(name)
+    return str(launch.unproved_program(name))
 
 
 def main():

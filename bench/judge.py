@@ -21,7 +21,7 @@ from collections.abc import Iterable, Iterator
 from concurrent.futures import Executor, ProcessPoolExecutor
 from dataclasses import dataclass
 
-import beside
+import launch
 from plain_lines import Judge, Sizes
 from plain_machine import TooManyStates
 from random_scripts import random_script, turned
@@ -84,8 +84,7 @@ class Trial:
 
 def built() -> str:
     """The program as its sources stand, unproved."""
-    beside.placed("chunkstore", ("src",))
-    return beside.native("chunkstore")
+    return str(launch.unproved_program("chunkstore"))
 
 
 def answers_of(program: str, sizes: Sizes, lines: list[str]) -> list[str]:

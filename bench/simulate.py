@@ -10,7 +10,7 @@ doesn't hold, with the seed, the number of the event and both sides on standard 
 steps and 4 clients. --tell prints each event and what came of it. Where standard error is a terminal, a line there says once a second how
 far it is. --landing runs 100 seeds of 2,000 steps, and ends with the line 'N passed, M failed': a seed passes where all that is believed
 holds and the simulator says so at its end, each thing that is counted, a kind of event or what came of them, where there was one over the
-seeds, and one thing more where four fifths of the steps were run. See bench/README.md."""
+seeds, one thing more where four fifths of the steps were run, and each seed that told something once. See bench/README.md."""
 
 import re
 import subprocess
@@ -20,6 +20,8 @@ import beside
 
 LANDING_SEEDS = 100
 LANDING_STEPS = 2000
+# Seeds at which the store was right and a belief too strict: in this one two clients copy both places of a shared chunk at once.
+ODD_SEEDS = (7003203,)
 # The line with which a run ends that wasn't stopped by a failure.
 ENDED = re.compile(r"^(\d+) seeds held, (\d+) events in all$", re.M)
 # What has to be counted, beside how often each kind of event came about.
@@ -48,10 +50,11 @@ def landing(program):
     is_short = 5 * events < 4 * LANDING_SEEDS * LANDING_STEPS
     if is_short:
         print(f"{events} events ran, fewer than four fifths of {LANDING_SEEDS * LANDING_STEPS}")
-    failed = LANDING_SEEDS - held + len(missing) + is_short
+    odd = [subprocess.run([program, "--seed", str(seed), "--steps", str(LANDING_STEPS)]).returncode for seed in ODD_SEEDS]
+    failed = LANDING_SEEDS - held + len(missing) + is_short + sum(map(bool, odd))
     if not failed and run.returncode:
         sys.exit(f"the simulator ended with status {run.returncode}")
-    print(f"{LANDING_SEEDS + len(counts) + 1 - failed} passed, {failed} failed", flush=True)
+    print(f"{LANDING_SEEDS + len(counts) + 1 + len(odd) - failed} passed, {failed} failed", flush=True)
     return 1 if failed else 0
 
 

@@ -81,8 +81,9 @@ def tree(session: Session, asked: Namespace) -> None:
             if is_folder:
                 draw(child(folder, name), before + ("    " if name == final else "│   "))
 
+    is_folder = stat(session, top).is_directory
     say(shown(top))
-    if is_directory(session, top):
+    if is_folder:
         draw(top, "")
 
 

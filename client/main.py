@@ -2,7 +2,7 @@
 
 import os
 import sys
-from argparse import ArgumentParser
+from argparse import ArgumentParser, Namespace
 from pathlib import Path
 
 import explain
@@ -44,8 +44,7 @@ def main(words: list[str]) -> int:
     open_missing()
     try:
         # This word stands in the place of a file, so it isn't read as an option.
-        asked = words_of().parse_args([str(MEMORY) if word == "--memory" else word for word in words])
-        asked.folder = "/"
+        asked = words_of().parse_args([str(MEMORY) if word == "--memory" else word for word in words], Namespace(folder="/"))
         file = None if asked.store == MEMORY else asked.store
         given = {name: getattr(asked, name) for name in Sizes._fields if getattr(asked, name) is not None}
         with local(None):

@@ -53,11 +53,6 @@ def hidden_parts(path: str) -> tuple[int, int, str] | None:
     return (int(hidden["moment"]), int(hidden["number"]), hidden["name"]) if hidden else None
 
 
-def old_name(element: str) -> str:
-    """The name that an element had before it was hidden, or has."""
-    return HIDDEN.sub(r"\g<name>", element)
-
-
 def old_path(path: str) -> str:
     """A path with the names that its elements had before they were hidden."""
-    return "/".join(map(old_name, path.split("/")))
+    return "/".join(HIDDEN.sub(r"\g<name>", element) for element in path.split("/"))

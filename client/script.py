@@ -11,7 +11,7 @@ from collections import defaultdict, deque
 from collections.abc import Iterator
 from pathlib import Path
 
-from client.names import bytes_of, child, hidden_parts, last, old_name, old_path, parent, shown
+from client.names import bytes_of, child, hidden_parts, last, old_path, parent, shown
 from client.session import Session
 from client.store import Entry, children, file_sha256, phase, read_bytes, stat
 from client.telling import Failed, Refused, say, write
@@ -33,19 +33,17 @@ def made_again(session: Session, entry: Entry, path: str, hidden: dict[str, dict
     for place, told in hidden[entry.path].items():
         if isinstance(told, Refused):
             raise Failed(f"{shown(old_path(place))}, which is in the trash, can't be read; expunge --all removes it for good")
-        old = child(path, old_name(last(place)))
+        old = child(path, last(old_path(place)))
         yield from made_again(session, told, old, hidden)
         yield f"at {hidden_parts(place)[0]}"
         yield f"rm -r {old}"
     for name in children(session, entry.path):
-        inner = child(entry.path, name)
-        yield from made_again(session, stat(session, inner), child(path, name), hidden)
+        yield from made_again(session, stat(session, child(entry.path, name)), child(path, name), hidden)
 
 
 def script(session: Session) -> Iterator[str]:
     """The lines of a script, with its digest at its end."""
-    name, _ = phase(session)
-    if name != "ordinary":
+    if (name := phase(session)[0]) != "ordinary":
         raise Failed(f"an upgrade stands (phase {name}), which a script can't take along: `upgrade status` says how it can end")
     hidden: dict[str, dict[str, Entry | Refused]] = defaultdict(dict)
     for place, told in removed(session).items():

@@ -190,8 +190,7 @@ class Session(contextlib.AbstractContextManager["Session"]):
         return os.pread(self.said.fileno(), SAID_BYTES, max(0, size - SAID_BYTES)).decode(errors="replace").strip().split("\n")
 
     def ended(self) -> Ended:
-        status = self.program.wait()
-        return Ended(f"the store's program has ended, with status {status}: {self.last_said()[-1] or 'it said nothing'}")
+        return Ended(f"the store's program has ended, with status {self.program.wait()}: {self.last_said()[-1] or 'it said nothing'}")
 
     def history(self) -> Iterator[str]:
         """All lines that the store was ever asked."""

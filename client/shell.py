@@ -12,7 +12,7 @@ from collections.abc import Iterator
 from pathlib import Path
 
 from client.attempts import attempt
-from client.commands import COMMANDS, Command, add_commands, word
+from client.commands import COMMANDS, LOOKS, Command, add_commands, word
 from client.names import line_path, shown
 from client.session import Session
 from client.store import children, is_directory
@@ -56,6 +56,8 @@ class Shell:
             return self.lines(self.session, Namespace(line=typed if self.is_in_lines else line))
         if words := split(typed):
             asked = self.parser.parse_args(words, Namespace(folder=self.folder))
+            if words[0] not in (*LOOKS, "cd", "help", "exit"):
+                self.session.set_moment()
             return asked.run(self.session, asked)
 
     def lines(self, session: Session, asked: Namespace) -> int | None:

@@ -55,9 +55,9 @@ def file_pieces(file: Path) -> Iterator[bytes]:
 
 
 def is_own(session: Session, file: Path) -> bool:
-    """Whether a file is one of those in which the store itself is kept."""
+    """Whether a file is one of those in which the store itself is kept, by any of its names."""
     own, real = os.path.realpath(session.file or os.devnull), os.path.realpath(file)
-    return real.startswith(own) and OWN.fullmatch(real, len(own)) is not None
+    return bool(real.startswith(own) and OWN.fullmatch(real, len(own))) or os.path.exists(real) and os.path.samefile(own, real)
 
 
 @contextmanager
@@ -187,8 +187,7 @@ def get(session: Session, asked: Namespace) -> int:
 
 
 def file_size(session: Session, path: str) -> int:
-    entry = stat(session, path)
-    if entry.is_directory:
+    if (entry := stat(session, path)).is_directory:
         raise Failed(f"{shown(path)}: a directory stands there")
     return entry.size
 

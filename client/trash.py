@@ -16,6 +16,8 @@ from client.telling import NOT_FOUND, Failed, Refused, say
 
 # What was deleted longer ago than this is removed for good by a scan.
 KEPT_SECONDS = 259_200
+# The year 9999 begins here. A moment after it is shown as a number of seconds.
+LAST_DATE = 253_370_764_800
 
 
 def with_looks(lines: Iterable[str]) -> Iterator[str]:
@@ -52,11 +54,11 @@ def hidden_paths(session: Session) -> list[str]:
     return sorted(places, key=lambda path: hidden_parts(path)[1])
 
 
-def removed(session: Session) -> dict[str, Entry | Refused]:
-    """What stands in the trash, by its hidden paths, in the order in which it was deleted. Of a file of which no server has a chunk any more
-    that refusal stands there, and any other is raised."""
+def removed(session: Session, then: Session | None = None) -> dict[str, Entry | Refused]:
+    """What stands in the trash, or stood there in a store that has run a beginning of the lines, by its hidden paths, in the order in which it was
+    deleted. Of a file of which no server has a chunk any more that refusal stands there, and any other is raised."""
     paths = hidden_paths(session)
-    found = {path: told for path, told in zip(paths, stats(session, paths)) if isinstance(told, Entry) or told.number != NOT_FOUND}
+    found = {path: told for path, told in zip(paths, stats(then or session, paths)) if isinstance(told, Entry) or told.number != NOT_FOUND}
     for told in found.values():
         if isinstance(told, Refused) and told.number != NO_REPLICA:
             raise told
@@ -67,8 +69,9 @@ def trash(session: Session, asked: Namespace) -> None:
     """When it was deleted, where it stood, and its hidden name."""
     for path, told in removed(session).items():
         size = "?" if isinstance(told, Refused) else "dir" if told.is_directory else told.size
-        moment = datetime.fromtimestamp(hidden_parts(path)[0])
-        say(f"{moment:%Y-%m-%d %H:%M:%S} {size:>12} {shown(old_path(path))} {named(path)}")
+        moment, _, _ = hidden_parts(path)
+        date = f"{datetime.fromtimestamp(moment):%Y-%m-%d %H:%M:%S}" if moment < LAST_DATE else moment
+        say(f"{date:>19} {size:>12} {shown(old_path(path))} {named(path)}")
 
 
 @each_path

@@ -5,11 +5,12 @@ import shlex
 from argparse import Namespace
 from collections import Counter, deque
 
-from client.names import shown
+from client.check import place
 from client.session import Session
 from client.store import heal, paths_of, phase, report_all, walk
 from client.telling import WELL, WRONG, Failed, Refused, say
 from client.transfer import opened
+from client.trash import removed
 
 UNRESTORED = 16
 PREPARES = ("rollingUpgrade prepare", "prepare-commit")
@@ -32,7 +33,9 @@ def what_a_rollback_finds(session: Session) -> tuple[list[str], list[str], int]:
         if not prepared:
             raise Failed(f"the lines of the store have no prepare that was answered {begins}")
         deque(before.ask_all(itertools.islice(session.history(), prepared)), maxlen=0)
-        chunks = {handle: ", ".join(map(shown, paths)) for handle, paths in sorted(paths_of(walk(before, "/")).items())}
+        # What was in the trash at the prepare comes back too.
+        entries = itertools.chain.from_iterable(walk(before, top) for top in ("/", *removed(session, before)))
+        chunks = {handle: ", ".join(map(place, paths)) for handle, paths in sorted(paths_of(entries).items())}
         refusal = rolled_back(again, name)
         report_all(again)
         servers: Counter[int] = Counter()
@@ -40,9 +43,10 @@ def what_a_rollback_finds(session: Session) -> tuple[list[str], list[str], int]:
         for answer in again.ask_all(f"lose {server} {handle}" for handle in chunks for server in range(again.sizes.servers)):
             servers[int(answer.line.split(" ")[2])] += answer.is_ok
     if refusal:
+        # It is told in each case, also where nobody finds the file that has it.
+        chunks.setdefault(int(refusal.detail), "of no file that is found")
         servers[int(refusal.detail)] = 0
-    all_of = f"{again.sizes.servers} servers as it was at the prepare"
-    told = [f"chunk {handle}, on {servers[handle]} of {all_of}: {paths}" for handle, paths in chunks.items()]
+    told = [f"chunk {handle}, on {servers[handle]} of {again.sizes.servers} servers as it was at the prepare: {paths}" for handle, paths in chunks.items()]
     lost = [f"chunk {handle} has no sound replica of the prepare: {paths}" for handle, paths in chunks.items() if not servers[handle]]
     return told, lost, begun
 
@@ -77,7 +81,7 @@ def status(session: Session, asked: Namespace) -> int | None:
     if name not in ("upgrade", "rolling"):
         return None
     told, lost, begun = what_a_rollback_finds(session)
-    say("\n".join(told))
+    say("\n".join(told) or "no file had a chunk at the prepare")
     if not lost:
         say("a rollback would give all back")
         return WELL

@@ -37,6 +37,7 @@ class Listing(StoreCase):
         self.assertEqual(self.fs("count", "/", "/a").split(), ["3", "3", "20", "/", "2", "2", "20", "/a"])
 
     def test_tree_and_find(self) -> None:
+        self.assertIn("/nothing", self.fs("tree", "/nothing", status=1))
         self.assertEqual(self.fs("tree", "/"), "/\n├── a/\n│   ├── b/\n│   │   └── two words\n│   └── f\n└── h\n")
         self.assertEqual(self.fs("find", "/", "-name", "*w*"), "/a/b/two words\n")
         self.assertEqual(self.fs("find", "/a"), "/a\n/a/b\n/a/b/two words\n/a/f\n")

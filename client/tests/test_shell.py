@@ -1,8 +1,10 @@
+import itertools
 import os
 import pty
 import select
 import signal
 import time
+from unittest.mock import patch
 
 from client.shell import split
 from client.tests import TINY, StoreCase
@@ -102,6 +104,12 @@ class Shells(StoreCase):
         self.assertIn("line 1: lines ls /nothing", self.fs("shell", said=b"lines ls /nothing\n", status=1))
         self.assertIn("line 1: frob", self.fs("shell", said=b"frob\n", status=2))
         self.assertEqual(self.fs("ls"), "two words/\n")
+
+    def test_its_moment_goes_on(self) -> None:
+        self.lines("create /f")
+        with patch("client.session.time.time", side_effect=itertools.count(1_000_000, 300_000)):
+            told = self.fs("shell", said=b"rm /f\ncd /\nexpunge\n")
+        self.assertIn("removed for good: 1 of the trash", told)
 
     def test_a_folder_whose_name_is_escaped(self) -> None:
         typed = ["mkdir '/two words/a b'", "cd 'two words'", "ls", "cd 'a b'", "mkdir c:d", "ls", "tree", "cd", "ls", ""]

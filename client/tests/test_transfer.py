@@ -77,8 +77,9 @@ class Transfers(StoreCase):
         self.local("store.txt", b"no part of it")
         self.local("d/linked", b"").unlink()
         (self.folder / "d" / "linked").symlink_to(self.store)
-        for words in (("mkdir", "/a"), ("put", ".", "/all")):
-            self.fs(*words)
+        self.fs("mkdir", "/a")
+        (self.folder / "d" / "hard").hardlink_to(self.store)
+        self.fs("put", ".", "/all")
         self.assertEqual(self.fs("find", "/all").split(), ["/all", "/all/d", "/all/f", "/all/store.txt"])
         self.assertIn("the store isn't put into itself", self.fs("put", self.store, "/", status=0))
         self.assertEqual(self.fs("ls"), "a/\nall/\n")

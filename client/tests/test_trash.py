@@ -30,6 +30,11 @@ class Trash(StoreCase):
         self.assertIn("/g is back", self.fs("undelete", hidden))
         self.assertIn("/g: nothing of that name is in the trash; `trash` lists what is", self.fs("undelete", "/g", status=1))
 
+    def test_a_moment_that_no_calendar_has_is_shown_as_a_number(self) -> None:
+        for moment in (99_999_999_999_999, 10_000_000_000_000_000_000):
+            self.lines(f"at {moment}", "create /f", "rm /f")
+            self.assertIn(f"{moment}            0 /f lines:/.deleted.", self.fs("trash"))
+
     def test_the_last_of_a_name_comes_back(self) -> None:
         for text in (b"first", b"second"):
             self.fs("append", "/f", said=text)

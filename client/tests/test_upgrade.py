@@ -61,6 +61,26 @@ class Upgrades(StoreCase):
         self.assertIn("finalized, epoch 2", self.fs("upgrade", "finalize"))
         self.assertEqual(self.fs("cat", "/g"), "bc")
 
+    def test_what_was_in_the_trash_counts(self) -> None:
+        self.lines("create /h", "write /h 0 63", "rm -r /h", "create /i")
+        self.fs("upgrade", "prepare")
+        self.assertIn("chunk 4, on 3 of 3 servers as it was at the prepare: /h (in the trash)\n", self.fs("upgrade", "status"))
+        self.lines("damage 0 4 0", "lose 1 4", "lose 2 4")
+        lost = "chunk 4 has no sound replica of the prepare: /h (in the trash)"
+        self.assertIn(lost, self.fs("upgrade", "rollback", status=1))
+        self.assertTrue(self.fs("upgrade", "status", status=1).endswith("a rollback would be refused; `upgrade finalize` keeps what stands now\n"))
+        self.assertIn("16 Unrestored 4", self.fs("upgrade", "rollback", "--anyway", status=1))
+        told = self.fs("upgrade", "status", status=1)
+        self.assertIn("chunk 4, on 0 of 3 servers as it was at the prepare: /h (in the trash)\n", told)
+        self.cut_copy(told)
+        # What nobody has can't be copied.
+        self.assertIn("finalized, epoch 2", self.fs("upgrade", "finalize", status=1))
+
+    def test_nothing_has_a_chunk(self) -> None:
+        self.store.unlink()
+        self.lines("mkdir /d", "rollingUpgrade prepare")
+        self.assertIn("no file had a chunk at the prepare\na rollback would give all back\n", self.fs("upgrade", "status"))
+
     def cut_copy(self, told: str) -> None:
         """From now on the store is the copy that the status tells how to make."""
         subprocess.run(re.search("`(head .*) > COPY`", told)[1] + " > 'a copy'", shell=True, check=True)

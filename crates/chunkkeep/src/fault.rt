@@ -1,7 +1,8 @@
-use gs_keep::{KeepFault, ReplayFault, StoreFault, Wrong};
+use gs_keep::{FirstLineFault, KeepFault, ReplayFault, StandingFault, StoreFault, Wrong};
 use gs_keep_file::{FileFault, FileLog, LogFile, OpenFault};
+use gs_keep_measure::{ExtentFault, MeasureFault, TailFault};
 use gs_shell_script::RunFault;
-use std::io;
+use std::io::{self, ErrorKind};
 use thiserror::Error;
 
 /// Why a run ends before its input does, with the text for standard error, behind the file's name.
@@ -105,6 +106,55 @@ impl Fault {
             | StoreFault::Serve(KeepFault::Log) => Fault::of_log(log),
             StoreFault::Replay(fault) => Fault::of_replay(fault),
             fault => Fault::Run(fault),
+        }
+    }
+
+    /// Why a part of the file can't be read.
+    pub(crate) fn of_read(error: io::Error) -> Fault {
+        match error.kind() {
+            ErrorKind::OutOfMemory => Fault::Memory,
+            _ => Fault::Read(error),
+        }
+    }
+
+    /// Why a file can't be measured.
+    fn of_measure(fault: MeasureFault) -> Fault {
+        match fault {
+            MeasureFault::Read(error) => Fault::of_read(error),
+            MeasureFault::Memory => Fault::Memory,
+            MeasureFault::Damaged => Fault::LateMark,
+        }
+    }
+
+    /// Why a file's first line isn't given.
+    fn of_first_line(fault: FirstLineFault) -> Fault {
+        match fault {
+            FirstLineFault::Read(error) => Fault::of_read(error),
+            FirstLineFault::Memory => Fault::Memory,
+            FirstLineFault::NoLine => Fault::Other,
+        }
+    }
+
+    /// Why nothing of a log is run again.
+    pub(crate) fn of_standing(fault: StandingFault<Fault>) -> Fault {
+        match fault {
+            StandingFault::Read(error) => Fault::of_read(error),
+            StandingFault::Measure(fault) => Fault::of_measure(fault),
+            StandingFault::FirstLine(fault) => Fault::of_first_line(fault),
+            StandingFault::Head(fault) => fault,
+            StandingFault::Extent(ExtentFault::Shorter) | StandingFault::Shorter => Fault::Shorter,
+            StandingFault::Extent(ExtentFault::Unmarked(rest)) => Fault::Unmarked(rest),
+            StandingFault::Tail(fault, lines) => Fault::of_tail(fault, lines.saturating_add(1)),
+        }
+    }
+
+    /// Why what stands after what is run again isn't what a crash leaves. `next` is the number of the first line there.
+    fn of_tail(fault: TailFault, next: u64) -> Fault {
+        match fault {
+            TailFault::Returns => Fault::Returns,
+            TailFault::Mark(count) => Fault::EarlyMark(next.saturating_add(count)),
+            TailFault::Damaged => Fault::Damaged,
+            TailFault::Long => Fault::Long(next),
         }
     }
 

@@ -1,44 +1,44 @@
 // The file of a store is looked at, and nothing is changed.
+use crate::INPUT_BYTES;
 use crate::fault::Fault;
+use crate::memory_desk::MemoryDesk;
 use crate::opening::{Held, looked_at};
 use crate::patient::Patient;
 use crate::telling::Teller;
-use crate::{INPUT_BYTES, new_desk};
-use gs_base::Config;
-use gs_journal::MemoryDisk;
-use gs_keep::{Replayed, replay};
-use gs_keep_desk::KeptDesk;
-use gs_keep_head::Form;
+use gs_keep::{Progress as _, Replayed, Standing, replay};
+use gs_keep_head::{Form, HeadLine};
 use gs_keep_mark::Ledger;
 use gs_keep_options::Asked;
+use gs_shell_line::EndedLines;
 use gs_shell_script::run;
 use std::fs::File;
-use std::io::{self, BufReader, BufWriter};
+use std::io::{self, BufReader, BufWriter, Take};
 use std::rt::{Clock, Files};
 
 /// A desk that has come to what a file's lines lead to, and what was run for that.
 #[derive(Drop)]
 struct Again {
-    desk: KeptDesk<MemoryDisk>,
+    desk: MemoryDesk,
     replayed: Replayed,
 }
 
-/// Runs the lines of a file again.
+/// Runs the lines of a file again. The file stays locked as long as they are there.
 fn run_again<R: Eprint + Clock + AllocGlobal>(
     rt: &R,
     asked: &Asked,
-    held: &mut Held,
+    standing: Standing<MemoryDesk>,
+    lines: &mut EndedLines<BufReader<Take<File>>>,
 ) -> Result<Again, Fault> {
-    let mut desk = new_desk(rt.alloc(), held.config, asked.mode.is_lab)?;
-    let mut teller = Teller::new(rt, &asked.path, held.extent);
-    let mut ledger = Ledger::new(&held.head);
-    match replay(
-        rt.alloc(),
-        &mut desk,
-        &mut ledger,
-        &mut held.lines,
-        &mut teller,
-    ) {
+    let Standing {
+        machine: mut desk,
+        head,
+        extent,
+        ..
+    } = standing;
+    let mut teller = Teller::new(rt, &asked.path);
+    teller.measured(extent.rest);
+    let mut ledger = Ledger::new(&head);
+    match replay(rt.alloc(), &mut desk, &mut ledger, lines, &mut teller) {
         Ok(replayed) => Ok(Again { desk, replayed }),
         Err(fault) => Err(Fault::of_replay(fault)),
     }
@@ -52,7 +52,11 @@ pub(crate) fn look<R: Files<File = File> + Input + Print + Eprint + Clock + Allo
 ) -> Result<(), Fault> {
     let alloc = rt.alloc();
     // The file is locked as long as it is open.
-    let mut held = looked_at(rt, asked, true, upto)?;
+    let Held {
+        standing,
+        mut lines,
+        ..
+    } = looked_at(rt, asked, true, upto)?;
     let input = Patient::new(rt, rt.reader());
     let Ok(mut reader) = BufReader::with_capacity(alloc, INPUT_BYTES, input) else {
         return Err(Fault::Memory);
@@ -60,18 +64,19 @@ pub(crate) fn look<R: Files<File = File> + Input + Print + Eprint + Clock + Allo
     let Ok(mut writer) = BufWriter::new(alloc, io::writer(rt)) else {
         return Err(Fault::Memory);
     };
-    let Again { desk, replayed } = run_again(rt, asked, &mut held)?;
+    let Again { desk, replayed } = run_again(rt, asked, standing, &mut lines)?;
     let path = &asked.path;
-    let lines = replayed.lines;
+    let count = replayed.lines;
     let _ = eprintln!(rt;
-        "chunkkeep: {path}: {lines} lines run again; only lines that look are answered"
+        "chunkkeep: {path}: {count} lines run again; only lines that look are answered"
     );
     let mut desk = desk.looking();
     run(alloc, &mut desk, &mut reader, &mut writer).map_err(Fault::Script)
 }
 
 /// Says on standard output what the first line of a file says.
-fn tell_head(rt: &impl Print, path: &str, form: Form, config: &Config) -> io::Result<()> {
+fn tell_head(rt: &impl Print, path: &str, head: &HeadLine) -> io::Result<()> {
+    let HeadLine { form, config } = head;
     let number = match form {
         Form::One => 1,
         Form::Two => 2,
@@ -109,10 +114,15 @@ pub(crate) fn check<R: Files<File = File> + Print + Eprint + Clock + AllocGlobal
     rt: &R,
     asked: &Asked,
 ) -> Result<(), Fault> {
-    let mut held = looked_at(rt, asked, false, None)?;
-    let Again { desk, replayed } = run_again(rt, asked, &mut held)?;
+    let Held {
+        standing,
+        head,
+        mut lines,
+    } = looked_at(rt, asked, false, None)?;
+    let rest = standing.extent.rest;
+    let Again { desk, replayed } = run_again(rt, asked, standing, &mut lines)?;
     drop(desk);
     let path = &asked.path;
-    tell_head(rt, path, held.form, &held.config).map_err(Fault::Tell)?;
-    tell_lines(rt, path, replayed, held.extent.rest).map_err(Fault::Tell)
+    tell_head(rt, path, &head).map_err(Fault::Tell)?;
+    tell_lines(rt, path, replayed, rest).map_err(Fault::Tell)
 }

@@ -6,6 +6,7 @@ ghost use Rattle.std.specs.Prelude.{◌≡◌, false, is_some};
 
 mod fault;
 mod looking;
+mod memory_desk;
 mod opening;
 mod patient;
 mod quoting;
@@ -13,17 +14,13 @@ mod tail;
 mod telling;
 
 use fault::Fault;
-use gs_base::{Config, Refusal};
-use gs_journal::MemoryDisk;
-use gs_keep::{Answers, keep_on};
-use gs_keep_desk::KeptDesk;
-use gs_keep_file::{FileLog, LogFile, fill_standard};
+use gs_base::Refusal;
+use gs_keep::{Answers, StartFault, start};
+use gs_keep_file::{FileLog, LogFile, Opened, fill_standard};
 use gs_keep_options::{Asked, Shown, Task, explanation, read_words, what_to_show};
-use gs_nodes::empty_disks;
-use gs_shell_desk::Desk;
 use gs_shell_line::EndedLines;
 use looking::{check, look};
-use opening::{Held, Kept, opened};
+use opening::{FileSource, Opener, opened, why_unrun};
 use patient::Patient;
 use quoting::line_text;
 use std::alloc::{AllocError, Global};
@@ -95,14 +92,6 @@ fn asked_for(rt: &(impl Print + Eprint + Env + AllocGlobal)) -> Result<Asked, Ex
     }
 }
 
-/// A new store's desk, whose journal is in memory.
-fn new_desk(alloc: Global, config: Config, is_lab: bool) -> Result<KeptDesk<MemoryDisk>, Fault> {
-    match Desk::new(alloc, config, empty_disks(alloc)) {
-        Ok(desk) => Ok(KeptDesk::new(desk, is_lab)),
-        Err(_) => Err(Fault::Memory),
-    }
-}
-
 /// Cuts a file behind what was synced last, where a write or a sync behind that failed, and says so.
 fn give_up<F: LogFile>(rt: &(impl Eprint), path: &str, log: &mut FileLog<F>) {
     let _ = match log.give_up() {
@@ -116,25 +105,20 @@ fn give_up<F: LogFile>(rt: &(impl Eprint), path: &str, log: &mut FileLog<F>) {
     };
 }
 
-/// Runs the file's lines again, and then answers standard input on standard output.
+/// Goes on with what a file keeps: its lines are run again, and then standard input is answered on standard output.
 fn serve<'a, R: Files<File = File> + Input + Print + Eprint + Clock + AllocGlobal>(
     rt: &'a R,
     asked: &'a Asked,
-    kept: Kept<'a, R>,
+    opened: Opened<'a, R>,
 ) -> Result<(), Fault>
-    requires { is_some kept.log.fault ≡ false }
+    requires { is_some opened.log.fault ≡ false }
 {
     let alloc = rt.alloc();
     let path = asked.path.as_str();
-    let Kept { mut log, held } = kept;
-    let Held {
-        form: _,
-        config,
-        head,
-        extent,
-        mut lines,
-        tail,
-    } = held;
+    let Opened {
+        mut log,
+        reader: file,
+    } = opened;
     let input = Patient::new(rt, rt.reader());
     let Ok(reader) = BufReader::with_capacity(alloc, INPUT_BYTES, input) else {
         return Err(Fault::Memory);
@@ -142,23 +126,21 @@ fn serve<'a, R: Files<File = File> + Input + Print + Eprint + Clock + AllocGloba
     let Ok(writer) = BufWriter::new(alloc, io::writer(rt)) else {
         return Err(Fault::Memory);
     };
-    let mut desk = new_desk(alloc, config, asked.mode.is_lab)?;
-    let mut rest = Tail::new(rt, path, tail);
-    let mut teller = Teller::new(rt, path, extent);
-    match keep_on(
+    let mut source = FileSource::new(file);
+    let mut rest = Tail::new(rt, alloc, path);
+    match start(
         alloc,
-        &mut desk,
         &mut log,
-        &head,
-        extent.whole,
-        &mut lines,
+        &mut source,
+        &Opener::new(asked),
         &mut rest,
-        &mut teller,
+        &mut Teller::new(rt, path),
         &mut EndedLines::new(reader),
         &mut Answers::new(writer),
     ) {
         Ok(()) => Ok(()),
-        Err(fault) => {
+        Err(StartFault::Standing(fault)) => Err(why_unrun(alloc, &mut source, fault)),
+        Err(StartFault::Run(fault)) => {
             give_up(rt, path, &mut log);
             Err(Fault::of_run(fault, log, rest.into_fault()))
         }
@@ -172,8 +154,8 @@ fn run(
 ) -> Result<(), Fault> {
     match asked.mode.task() {
         Task::Serve => {
-            let kept = opened(rt, asked)?;
-            serve(rt, asked, kept)
+            let opened = opened(rt, asked)?;
+            serve(rt, asked, opened)
         }
         Task::Check => check(rt, asked),
         Task::Look(upto) => look(rt, asked, upto),

@@ -1,12 +1,12 @@
 ghost use Rattle.std.specs.Prelude.{◌≡◌, false, IfOk, is_some};
 
 use crate::fault::Fault;
+use crate::memory_desk::MemoryDesk;
 use gs_base::Config;
-use gs_keep_file::{FileLog, NamedFile, Opened, Standing, make, open, open_to_read, what_stands};
+use gs_keep::{FirstLineFault, Made, Making, Source, Standing, StandingFault, found_in};
+use gs_keep_file::{Opened, Standing as Stands, make, open, open_to_read, what_stands};
 use gs_keep_head::{Form, HeadFault, HeadLine, head, read_head};
-use gs_keep_measure::{
-    Extent, ExtentFault, Measure, MeasureFault, TailFault, extent_of, measure_all, tail_fault,
-};
+use gs_keep_measure::Extent;
 use gs_keep_options::{Asked, Sizes};
 use gs_shell_line::{EndedLine, EndedLines, Line, content_of, next_line};
 use std::alloc::{AllocError, Global};
@@ -20,88 +20,68 @@ const FILE_BYTES: usize = 65_536;
 /// What the beginning of each first line is.
 const HEAD_WORD: &[u8] = b"chunkkeep ";
 
-/// What the file of a store holds.
+/// What a store's file is read from. Its position is its own.
 #[derive(Drop)]
-pub(crate) struct Held {
-    pub(crate) form: Form,
-    pub(crate) config: Config,
-    /// The first line, with its end.
-    pub(crate) head: Vec<u8>,
-    pub(crate) extent: Extent,
-    /// What is run again.
-    pub(crate) lines: EndedLines<BufReader<Take<File>>>,
-    /// What stands after it.
-    pub(crate) tail: Vec<u8>,
+pub(crate) struct FileSource {
+    file: File,
 }
 
-/// A file that a store is kept in.
-#[derive(Drop)]
-pub(crate) struct Kept<'a, R> {
-    pub(crate) log: FileLog<NamedFile<'a, R>>,
-    pub(crate) held: Held,
-}
-
-/// The first bytes of a file.
-fn front(alloc: Global, mut file: File, len: u64) -> io::Result<BufReader<Take<File>>> {
-    file.seek(SeekFrom::Start(0))?;
-    BufReader::with_capacity(alloc, FILE_BYTES, file.take(len))
-}
-
-/// Measures a file, which is left at its end.
-fn measured(alloc: Global, file: File) -> Result<(File, Measure), Fault> {
-    let mut reader = BufReader::with_capacity(alloc, FILE_BYTES, file).map_err(Fault::Read)?;
-    match measure_all(alloc, &mut EndedLines::new(&mut reader)) {
-        Ok(measure) => Ok((reader.into_inner(), measure)),
-        Err(MeasureFault::Read(error)) => Err(Fault::Read(error)),
-        Err(MeasureFault::Memory) => Err(Fault::Memory),
-        Err(MeasureFault::Damaged) => Err(Fault::LateMark),
+impl FileSource {
+    pub(crate) fn new(file: File) -> FileSource {
+        FileSource { file }
     }
 }
 
-/// How much of a file is run again.
-fn extent_in(
-    file: &mut File,
-    form: Form,
-    measure: Measure,
-    head_len: usize,
-) -> Result<Extent, Fault> {
-    let len = file.seek(SeekFrom::End(0)).map_err(Fault::Read)?;
-    match extent_of(form == Form::Two, measure, head_len as u64, len) {
-        Ok(extent) => Ok(extent),
-        Err(ExtentFault::Shorter) => Err(Fault::Shorter),
-        Err(ExtentFault::Unmarked(rest)) => Err(Fault::Unmarked(rest)),
+impl Source for FileSource {
+    ghost use Rattle.std.specs.Prelude.{None};
+
+    type Reader = BufReader<Take<File>>;
+
+    ghost bytes = { λ source. None };
+
+    fn len(&mut self) -> io::Result<u64> {
+        self.file.seek(SeekFrom::End(0))
+    }
+
+    fn part(&mut self, alloc: Global, from: u64, to: u64) -> io::Result<BufReader<Take<File>>> {
+        self.file.seek(SeekFrom::Start(from))?;
+        let part = self.file.try_clone()?.take(to.saturating_sub(from));
+        BufReader::with_capacity(alloc, FILE_BYTES, part)
     }
 }
 
-/// What stands in a file after what is run again. It is held, since a crash leaves little of it.
-fn tail_in(alloc: Global, file: &mut File, extent: Extent) -> Result<Vec<u8>, Fault> {
-    let mut tail = Vec::new(alloc);
-    file.seek(SeekFrom::Start(extent.whole))
-        .map_err(Fault::Read)?;
-    let read = file.by_ref().take(extent.rest).read_to_end(&mut tail);
-    match read {
-        Ok(count) if count as u64 == extent.rest => Ok(tail),
-        Ok(_) => Err(Fault::Shorter),
-        Err(error) if error.kind() == ErrorKind::OutOfMemory => Err(Fault::Memory),
-        Err(error) => Err(Fault::Read(error)),
+/// What makes a desk by the first line of a file, if that is one of a store of the sizes that are asked for.
+#[derive(Clone, Copy)]
+pub(crate) struct Opener {
+    sizes: Sizes,
+    is_lab: bool,
+}
+
+impl Opener {
+    pub(crate) fn new(asked: &Asked) -> Opener {
+        Opener {
+            sizes: asked.sizes,
+            is_lab: asked.mode.is_lab,
+        }
     }
 }
 
-/// Refuses what no crash leaves after what is run again.
-fn check_tail(
-    form: Form,
-    measure: Measure,
-    extent: Extent,
-    head: &[u8],
-    tail: &[u8],
-) -> Result<(), Fault> {
-    let next = extent.lines.saturating_add(1);
-    match tail_fault(form == Form::Two, measure, head, tail) {
-        None => Ok(()),
-        Some(TailFault::Returns) => Err(Fault::Returns),
-        Some(TailFault::Mark(count)) => Err(Fault::EarlyMark(next.saturating_add(count))),
-        Some(TailFault::Damaged) => Err(Fault::Damaged),
-        Some(TailFault::Long) => Err(Fault::Long(next)),
+impl Making for Opener {
+    type Machine = MemoryDesk;
+
+    type Fault = Fault;
+
+    ghost Begins = { λ opener head is_second desk. Unit {0} };
+
+    ghost Refuses = { λ opener head fault. Unit {0} };
+
+    fn make(&self, alloc: Global, line: &[u8]) -> Result<Made<MemoryDesk>, Fault> {
+        let head = head_of(alloc, line)?;
+        compare(&self.sizes, &head.config)?;
+        Ok(Made {
+            machine: MemoryDesk::new(alloc, head.config, self.is_lab)?,
+            is_second: head.form == Form::Two,
+        })
     }
 }
 
@@ -113,15 +93,6 @@ fn compare(sizes: &Sizes, config: &Config) -> Result<(), Fault> {
             size: difference.size,
         }),
         None => Ok(()),
-    }
-}
-
-/// A first line, with its end.
-fn first_line(line: EndedLine) -> Result<Vec<u8>, Fault> {
-    match line {
-        EndedLine::Text(line) => Ok(line),
-        EndedLine::NoMemory => Err(Fault::Memory),
-        _ => Err(Fault::Other),
     }
 }
 
@@ -143,8 +114,12 @@ fn head_line(alloc: Global, config: &Config) -> Result<String, AllocError> {
 }
 
 /// Why a file in which no line ends is refused.
-fn unfinished(alloc: Global, lines: &mut BufReader<Take<File>>) -> Fault {
-    match next_line(alloc, lines) {
+fn unfinished(alloc: Global, source: &mut FileSource) -> Fault {
+    let mut lines = match source.part(alloc, 0, u64::MAX) {
+        Ok(lines) => lines,
+        Err(error) => return Fault::of_read(error),
+    };
+    match next_line(alloc, &mut lines) {
         Ok(next) => match next.line {
             Line::End => Fault::Empty,
             Line::Text(left) if HEAD_WORD.starts_with(&left) || left.starts_with(HEAD_WORD) => {
@@ -157,18 +132,30 @@ fn unfinished(alloc: Global, lines: &mut BufReader<Take<File>>) -> Fault {
     }
 }
 
-/// The file, and how many bytes its first lines have, so many.
+/// Why nothing of a file is run again.
+pub(crate) fn why_unrun(
+    alloc: Global,
+    source: &mut FileSource,
+    fault: StandingFault<Fault>,
+) -> Fault {
+    match fault {
+        StandingFault::FirstLine(FirstLineFault::NoLine) => unfinished(alloc, source),
+        fault => Fault::of_standing(fault),
+    }
+}
+
+/// How many bytes the first lines of a file have, so many.
 fn first_lines(
     alloc: Global,
-    file: File,
+    source: &mut FileSource,
     extent: Extent,
     count: u64,
-) -> Result<(File, u64), Fault> {
+) -> Result<u64, Fault> {
     if count == 0 || count > extent.lines {
         return Err(Fault::NoLine(extent.lines, count));
     }
-    let mut reader = front(alloc, file, extent.whole).map_err(Fault::Read)?;
-    let mut lines = EndedLines::new(&mut reader);
+    let part = source.part(alloc, 0, extent.whole).map_err(Fault::of_read)?;
+    let mut lines = EndedLines::new(part);
     let mut len: u64 = 0;
     for _ in 0..count {
         match lines.next(alloc).map_err(Fault::Read)?.line {
@@ -177,58 +164,36 @@ fn first_lines(
             _ => return Err(Fault::Shorter),
         }
     }
-    drop(lines);
-    Ok((reader.into_inner().into_inner(), len))
+    Ok(len)
 }
 
-/// What is run again of a file: all of its extent, or what stands there up to a line.
-fn lines_upto(
-    alloc: Global,
-    file: File,
-    extent: Extent,
-    upto: Option<u64>,
-) -> Result<EndedLines<BufReader<Take<File>>>, Fault> {
-    let (file, len) = match upto {
-        Some(count) => first_lines(alloc, file, extent, count)?,
-        None => (file, extent.whole),
+/// What a file holds, and what is run again of it.
+#[derive(Drop)]
+pub(crate) struct Held {
+    pub(crate) standing: Standing<MemoryDesk>,
+    /// What its first line says.
+    pub(crate) head: HeadLine,
+    pub(crate) lines: EndedLines<BufReader<Take<File>>>,
+}
+
+/// Reads what a file holds, as a start does. With `upto` it is read up to that line alone.
+fn held_by(alloc: Global, file: File, asked: &Asked, upto: Option<u64>) -> Result<Held, Fault> {
+    let mut source = FileSource::new(file);
+    let standing = match found_in(alloc, &mut source, &Opener::new(asked)) {
+        Ok(standing) => standing,
+        Err(fault) => return Err(why_unrun(alloc, &mut source, fault)),
     };
-    let mut lines = EndedLines::new(front(alloc, file, len).map_err(Fault::Read)?);
-    lines.next(alloc).map_err(Fault::Read)?;
-    Ok(lines)
-}
-
-/// The first line of a file, with its end, and the file.
-fn head_in(alloc: Global, file: File) -> Result<(File, Vec<u8>), Fault> {
-    let mut first = front(alloc, file, u64::MAX).map_err(Fault::Read)?;
-    let next = EndedLines::new(&mut first)
-        .next(alloc)
-        .map_err(Fault::Read)?;
-    let head = first_line(next.line)?;
-    Ok((first.into_inner().into_inner(), head))
-}
-
-/// Reads what a file holds: it is measured, its first line has to be that of a store of the sizes that are asked for, and what stands after what
-/// is run again has to be what a crash leaves. With `upto` it is read up to that line alone.
-fn held_by(alloc: Global, reader: File, sizes: &Sizes, upto: Option<u64>) -> Result<Held, Fault> {
-    let (file, measure) = measured(alloc, reader)?;
-    if measure.whole == 0 {
-        let mut first = front(alloc, file, u64::MAX).map_err(Fault::Read)?;
-        return Err(unfinished(alloc, &mut first));
-    }
-    let (mut file, head) = head_in(alloc, file)?;
-    let HeadLine { form, config } = head_of(alloc, &head)?;
-    compare(sizes, &config)?;
-    let extent = extent_in(&mut file, form, measure, head.len())?;
-    let tail = tail_in(alloc, &mut file, extent)?;
-    check_tail(form, measure, extent, &head, &tail)?;
-    let lines = lines_upto(alloc, file, extent, upto)?;
+    let len = match upto {
+        Some(count) => first_lines(alloc, &mut source, standing.extent, count)?,
+        None => standing.extent.whole,
+    };
+    let part = source
+        .part(alloc, standing.head.len() as u64, len)
+        .map_err(Fault::of_read)?;
     Ok(Held {
-        form,
-        config,
-        head,
-        extent,
-        lines,
-        tail,
+        head: head_of(alloc, &standing.head)?,
+        standing,
+        lines: EndedLines::new(part),
     })
 }
 
@@ -276,8 +241,8 @@ fn existing<'a, R: Files<File = File>>(
     }
 }
 
-/// Opens the file that is asked for, or makes it.
-fn opened_file<'a, R: Files<File = File> + AllocGlobal>(
+/// Opens the file that is asked for, or makes it. It is locked.
+pub(crate) fn opened<'a, R: Files<File = File> + AllocGlobal>(
     rt: &'a R,
     asked: &'a Asked,
 ) -> Result<Opened<'a, R>, Fault>
@@ -287,23 +252,11 @@ fn opened_file<'a, R: Files<File = File> + AllocGlobal>(
         return Err(Fault::Memory);
     };
     match what_stands(rt, &asked.path) {
-        Ok(Standing::Nothing) => made(rt, asked, &beside),
-        Ok(Standing::Dangling) => Err(Fault::Dangling),
-        Ok(Standing::Something) => existing(rt, asked, &beside),
+        Ok(Stands::Nothing) => made(rt, asked, &beside),
+        Ok(Stands::Dangling) => Err(Fault::Dangling),
+        Ok(Stands::Something) => existing(rt, asked, &beside),
         Err(error) => Err(Fault::Open(error)),
     }
-}
-
-/// Opens the file that is asked for, or makes it, and reads what it holds.
-pub(crate) fn opened<'a, R: Files<File = File> + AllocGlobal>(
-    rt: &'a R,
-    asked: &'a Asked,
-) -> Result<Kept<'a, R>, Fault>
-    ensures { IfOk result (λ kept. is_some kept.log.fault ≡ false) }
-{
-    let Opened { log, reader } = opened_file(rt, asked)?;
-    let held = held_by(rt.alloc(), reader, &asked.sizes, None)?;
-    Ok(Kept { log, held })
 }
 
 /// Opens the file that is asked for to read it alone, locked for that or not, and reads what it holds, or what it holds up to a line.
@@ -314,13 +267,13 @@ pub(crate) fn looked_at<R: Files<File = File> + AllocGlobal>(
     upto: Option<u64>,
 ) -> Result<Held, Fault> {
     match what_stands(rt, &asked.path) {
-        Ok(Standing::Nothing) => return Err(Fault::Absent),
-        Ok(Standing::Dangling) => return Err(Fault::Dangling),
-        Ok(Standing::Something) => {}
+        Ok(Stands::Nothing) => return Err(Fault::Absent),
+        Ok(Stands::Dangling) => return Err(Fault::Dangling),
+        Ok(Stands::Something) => {}
         Err(error) => return Err(Fault::Open(error)),
     }
     match open_to_read(rt, &asked.path, is_shared) {
-        Ok(reader) => held_by(rt.alloc(), reader, &asked.sizes, upto),
+        Ok(reader) => held_by(rt.alloc(), reader, asked, upto),
         Err(fault) => Err(Fault::Opening(fault)),
     }
 }

@@ -1,7 +1,8 @@
 // What is to be cut off the file is put aside.
-use gs_keep::Rest;
+use gs_keep::{Aside, Rest};
 use gs_keep_file::put_aside;
 use gs_keep_log::Failed;
+use std::alloc::Global;
 use std::fs::File;
 use std::io;
 use std::rt::Files;
@@ -19,11 +20,12 @@ pub(crate) struct Tail<'a, R> {
 }
 
 impl<'a, R> Tail<'a, R> {
-    pub(crate) fn new(rt: &'a R, path: &'a str, bytes: Vec<u8>) -> Tail<'a, R> {
+    /// Nothing, as far as is known yet.
+    pub(crate) fn new(rt: &'a R, alloc: Global, path: &'a str) -> Tail<'a, R> {
         Tail {
             rt,
             path,
-            bytes,
+            bytes: Vec::new(alloc),
             is_alone: true,
             fault: None,
         }
@@ -62,5 +64,11 @@ impl<R: Files<File = File> + Eprint + AllocGlobal> Rest for Tail<'_, R> {
                 Err(Failed)
             }
         }
+    }
+}
+
+impl<R: Files<File = File> + Eprint + AllocGlobal> Aside for Tail<'_, R> {
+    fn hold(&mut self, bytes: Vec<u8>) {
+        self.bytes = bytes;
     }
 }

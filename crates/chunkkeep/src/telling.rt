@@ -1,5 +1,4 @@
 use gs_keep::{Progress, Replayed};
-use gs_keep_measure::Extent;
 use std::rt::Clock;
 use std::time::Instant;
 
@@ -11,18 +10,19 @@ const LINES: u64 = 16;
 pub(crate) struct Teller<'a, R> {
     rt: &'a R,
     path: &'a str,
-    extent: Extent,
+    /// How many bytes stand after what is run again.
+    rest: u64,
     begun: Option<Instant>,
     /// How many seconds had passed when it told last.
     told: u64,
 }
 
 impl<'a, R: Eprint + Clock> Teller<'a, R> {
-    pub(crate) fn new(rt: &'a R, path: &'a str, extent: Extent) -> Teller<'a, R> {
+    pub(crate) fn new(rt: &'a R, path: &'a str) -> Teller<'a, R> {
         Teller {
             rt,
             path,
-            extent,
+            rest: 0,
             begun: Instant::now(rt).ok(),
             told: 0,
         }
@@ -41,7 +41,10 @@ impl<'a, R: Eprint + Clock> Teller<'a, R> {
 }
 
 impl<R: Eprint + Clock> Progress for Teller<'_, R> {
-    fn measured(&mut self, _rest: u64) {}
+    fn measured(&mut self, rest: u64) {
+        self.rest = rest;
+        self.begun = Instant::now(self.rt).ok();
+    }
 
     fn passed(&mut self, lines: u64) {
         if lines % LINES != 0 {
@@ -67,7 +70,7 @@ impl<R: Eprint + Clock> Progress for Teller<'_, R> {
 
     fn cut(&mut self) {
         let path = self.path;
-        let rest = self.extent.rest;
+        let rest = self.rest;
         if rest > 0 {
             let _ = eprintln!(self.rt;
                 "chunkkeep: {path}: {rest} bytes after what was answered are cut off"

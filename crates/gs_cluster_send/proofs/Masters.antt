@@ -2,6 +2,7 @@
 use denote.Enum.Declared.{Declared, field, shape, variants}
 use denote.Param.Send.{EachSend, IsSend, enum_send, sendable}
 use Rattle.std.proofs.Crossing.{crosses}
+use Rattle.std.proofs.MapsCrossingOver as sets
 use Rattle.gs_master.specs.contracts.event.Event as Event
 use Rattle.gs_master_spec.specs.contracts.asking.Asking as Asking
 use Rattle.gs_master_spec.specs.contracts.asking.Prepared as Prepared
@@ -12,6 +13,7 @@ use Rattle.gs_master_state.specs.contracts.fault.Fault as Fault
 use Rattle.gs_master_state.specs.contracts.held_names.HeldNames as HeldNames
 use Rattle.gs_master_state.specs.contracts.log.Log as Log
 use Rattle.gs_master_state.specs.contracts.memory.Memory as Memory
+use Rattle.gs_master_state.specs.contracts.places.Places as Places
 use Rattle.gs_master_state.specs.contracts.recorded.Recorded as Recorded
 use Rattle.gs_master_state.specs.contracts.tracked.Calls as Calls
 use Rattle.gs_master_state.specs.contracts.tracked.Slot as Slot
@@ -24,6 +26,7 @@ use Rattle.gs_master_state.specs.contracts.undo.KeptBefore as KeptBefore
 use Rattle.gs_master_state.specs.contracts.undo.MovedNames as MovedNames
 use Rattle.gs_master_state.specs.contracts.undo.NamesBefore as NamesBefore
 use Rattle.gs_master_state.specs.contracts.undo.ProposalBefore as ProposalBefore
+use Rattle.gs_master_state.specs.contracts.undo.RemovedNames as RemovedNames
 use Rattle.gs_master_state.specs.contracts.undo.ReplyBefore as ReplyBefore
 use Rattle.gs_master_state.specs.contracts.undo.RollbackBefore as RollbackBefore
 use Rattle.gs_master_state.specs.contracts.undo.StoodNames as StoodNames
@@ -32,7 +35,7 @@ use Rattle.gs_cluster_send.proofs.Disks.{record_of}
 use Rattle.gs_cluster_send.proofs.Leases.{entry, lease, lease_table, lock_table, table}
 use Rattle.gs_cluster_send.proofs.Messages.{answer, message}
 use Rattle.gs_cluster_send.proofs.Parts.{epoch_end, handle, members, path, refusal, req_id, stamp, view}
-use Rattle.gs_cluster_send.proofs.Trees.{edit, inverse, listed_inverse, names}
+use Rattle.gs_cluster_send.proofs.Trees.{edit, inverse, listed_inverse, names, taken_out}
 
 -- an enum of parts that may
 enum_by : (T : Declared) → EachSend (variants T) → IsSend (field T).row
@@ -68,8 +71,11 @@ calls = search (sendable, crosses, pending, lock_table, handle) depth 200 fits 1
 pub tracked : IsSend (Tracked.the_field).row
 tracked = search (sendable, crosses, memory, slot, calls, handle) depth 200 fits 100000
 
+pub places : IsSend (Places.the_field).row
+places = search (sendable, crosses, sets.BTreeSet-send, path) depth 200 fits 100000
+
 pub held_names : IsSend (HeldNames.the_field).row
-held_names = search (sendable, crosses, names, path, table, handle) depth 200 fits 100000
+held_names = search (sendable, crosses, names, places, table, handle) depth 200 fits 100000
 
 pub recorded : IsSend (Recorded.the_field).row
 recorded = search (sendable, crosses, held_names, lease_table, epoch_end, table, handle, kept_reply, listed_inverse, prepared) depth 200 fits 100000
@@ -84,13 +90,16 @@ pub following : IsSend (Following.the_field).row
 following = search (sendable, crosses, edit, path) depth 200 fits 100000
 
 pub stood_names : IsSend (StoodNames.the_field).row
-stood_names = search (sendable, crosses, names, path, following) depth 200 fits 100000
+stood_names = search (sendable, crosses, names, places, following) depth 200 fits 100000
 
 pub moved_names : IsSend (MovedNames.the_field).row
 moved_names = search (sendable, crosses, names, path) depth 200 fits 100000
 
+pub removed_names : IsSend (RemovedNames.the_field).row
+removed_names = search (sendable, crosses, path, taken_out) depth 200 fits 100000
+
 pub names_before : IsSend (NamesBefore.the_field).row
-names_before = search (sendable, crosses, inverse, stood_names, moved_names) depth 200 fits 100000
+names_before = search (sendable, crosses, inverse, stood_names, moved_names, removed_names) depth 200 fits 100000
 
 pub edit_before : IsSend (EditBefore.the_field).row
 edit_before = search (sendable, crosses, names_before, chunk_before, reply_before) depth 200 fits 100000

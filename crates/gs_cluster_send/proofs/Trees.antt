@@ -6,6 +6,7 @@ use Rattle.gs_edit.specs.contracts.edit.Edit as Edit
 use Rattle.gs_edit.specs.contracts.edit.Inverse as Inverse
 use Rattle.gs_edit.specs.contracts.listed.ListedInverse as ListedInverse
 use Rattle.gs_edit.specs.contracts.names.Names as Names
+use Rattle.gs_edit.specs.contracts.names.TakenOut as TakenOut
 use Rattle.gs_refs.specs.contracts.refs.Refs as Refs
 use Rattle.gs_tree.specs.contracts.entry.TreeEntry as TreeEntry
 use Rattle.gs_tree.specs.contracts.inverse.TreeInverse as TreeInverse
@@ -40,3 +41,6 @@ listed_inverse = search (sendable, crosses, path, tree_entry) depth 200 fits 100
 
 pub names : IsSend (Names.the_field).row
 names = search (sendable, crosses, tree, refs) depth 200 fits 100000
+
+pub taken_out : IsSend (TakenOut.the_field).row
+taken_out = search (sendable, crosses, node, handle) depth 200 fits 100000

@@ -5,3 +5,5 @@ pub mod Behind
 pub mod Replied
 pub mod Served
 pub mod Calm
+pub mod Alone
+pub mod Changed

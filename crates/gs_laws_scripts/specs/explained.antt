@@ -1,4 +1,6 @@
 pub mod Asking
+pub mod CalmCommits
+pub mod Changes
 pub mod Commits
 pub mod Digested
 pub mod Following

@@ -5,6 +5,8 @@ ghost use Rattle.std.specs.Prelude.{ℕ, List};
 ghost use Rattle.gs_base.specs.declared.config.Config.{Config};
 ghost use Rattle.gs_laws_scripts.specs.explained.Commits.{AfterACommitUntilAReadFails, AfterACommitUntilAWriteFails, ScriptsAfterACommit};
 ghost use Rattle.gs_laws_scripts.specs.explained.Asking.{ListsAreTold, PlacesAreTold, QueriesAreTold, StatusesAreTold};
+ghost use Rattle.gs_laws_scripts.specs.explained.CalmCommits.{CalmAfterACommit, CalmUntilAReadFails, CalmUntilAWriteFails};
+ghost use Rattle.gs_laws_scripts.specs.explained.Changes.{CalmLinesAreExplained, ChangesAreExplainedThere, ChangesAreTold};
 ghost use Rattle.gs_laws_scripts.specs.explained.Digested.{DigestsAreExplained};
 ghost use Rattle.gs_laws_scripts.specs.explained.Following.{LooksComeBack, PlainAnswersAreAFunction};
 ghost use Rattle.gs_laws_scripts.specs.explained.Looked.{PlacesAreToldThere, StatusesAreToldThere};
@@ -85,3 +87,26 @@ fn looks_are_told_where_a_desk_stands<D>()
     ensures statuses { StatusesAreToldThere D }
     ensures places { PlacesAreToldThere D }
 {}
+
+/// What the master answers to a new directory, a new file, a rename or an undelete that is new to it is what a machine tells that shows what the master stands on, refusals too. Else the store refuses it. Where it is accepted, the machine after it shows what the master has then.
+/// Such a change that a desk carries for its client, and that is accepted, is explained where the desk stands for a machine, and after it the desk stands for the machine to which it leads. The store may have led chunks, held messages, lost and damaged replicas, and disks that fail.
+fn changes_are_told<D>()
+    ensures turns { ChangesAreTold }
+    ensures there { ChangesAreExplainedThere D }
+{}
+
+/// So lines that change the tree are explained too, where a desk stands for a machine: `mkdir`, `create`, `mv` and `undelete`, as long as each is answered `ok`. Among them may come the lines that leave what stands. After each line the desk stands for the machine to which it leads.
+/// The store may have any files with any bytes, led chunks, held messages, lost and damaged replicas, and disks that fail.
+fn calm_lines_are_explained<D>()
+    ensures { CalmLinesAreExplained D }
+{}
+
+/// Right after a prepare or a rollback that is answered by an epoch, one machine explains what a script is answered also where its lines change the tree: as long as each is one of those that leave what stands, or a `mkdir`, `create`, `mv` or `undelete` that is answered `ok`.
+/// The machine is in that epoch, with an upgrade after a prepare and without one after a rollback. So all lists of these lines are of the names that these changes make, one after the other. Whatever lines come before, with held messages, lost and damaged replicas, and disks that fail.
+pub fn calm_lines_after_a_commit_are_explained<D>()
+    ensures ended { CalmAfterACommit D }
+    ensures read_fails { CalmUntilAReadFails D }
+    ensures write_fails { CalmUntilAWriteFails D }
+{
+    configurations_have_sizes();
+}

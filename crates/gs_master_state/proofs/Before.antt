@@ -31,7 +31,7 @@ use Rattle.gs_master_spec.specs.Applied.{view_in, with_epoch}
 use Rattle.gs_master_spec.specs.Durable.{Durable, kept_before, prepared_view, with_prepared}
 use Rattle.gs_master_state.specs.inner.Recorded.{Applies, KeepsRooms, chunks_of, settled_by}
 use Rattle.gs_master_spec.specs.Replies.{client_cmp}
-use Rattle.gs_master_state.specs.inner.TakingBack.{AreNamesBefore, Enters, HasPlaceBack, IsEditBefore, LeaseAt, TakeBack, TakesBack, RoomAt, RoomBack, RoomForAll, RoomForChunk, RoomForChunks, RoomForReply, all_leases_before, all_rooms_before, leases_before, rooms_before, with_chunk_before, with_chunks_before, with_leases_before, with_moved_before, with_proposed_before, with_reply_before, with_settled_before}
+use Rattle.gs_master_state.specs.inner.TakingBack.{AreNamesBefore, Enters, HasPlaceBack, IsEditBefore, LeaseAt, TakeBack, TakesBack, RoomAt, RoomBack, RoomForAll, RoomForChunk, RoomForChunks, RoomForReply, all_leases_before, all_rooms_before, leases_before, places_before, rooms_before, with_chunk_before, with_chunks_before, with_leases_before, with_moved_before, with_proposed_before, with_reply_before, with_settled_before}
 use Rattle.gs_master_spec.specs.declared.asking.Prepared.{Prepared}
 use Rattle.gs_master_state.specs.declared.recorded.Recorded.{Recorded}
 use Rattle.gs_master_spec.specs.declared.reply.KeptReply.{KeptReply}
@@ -142,7 +142,7 @@ room_back_stays r s (undos.Propose p) room keeps = lease_at_stays r.leases s.lea
 room_back_stays r s (undos.Settle chunk) room keeps = room_for_chunk_stays r s chunk room keeps
 room_back_stays r s (undos.Holder chunk prepared) room keeps = room_at_stays nat_cmp r.prepared s.prepared chunk prepared room keeps.prepared
 room_back_stays r s (undos.RollbackBegin epoch) room keeps = tt
-room_back_stays r s (undos.Edit e) room keeps = (room_for_reply_stays r.replies s.replies e.reply room.0 keeps.replies, room_for_chunks_stays r s e.forgotten.items room.1 keeps, subst (λ o. HasPlaceBack o e.names) (sym keeps.place) room.2)
+room_back_stays r s (undos.Edit e) room keeps = (room_for_reply_stays r.replies s.replies e.reply room.0 keeps.replies, room_for_chunks_stays r s e.forgotten.items room.1 keeps, subst (λ o. HasPlaceBack o e.names) (sym keeps.places) room.2)
 room_back_stays r s (undos.Epoch e) room keeps = tt
 room_back_stays r s (undos.RollbackCommit b) room keeps = tt
 
@@ -156,9 +156,9 @@ keeps_before r s (undos.Propose p) keeps = keeps
 keeps_before r s (undos.Settle chunk) keeps = keeps
 keeps_before r s (undos.Holder chunk prepared) keeps = keeps
 keeps_before r s (undos.RollbackBegin epoch) keeps = keeps
-keeps_before r s (undos.Edit e) keeps = record { leases = keeps.leases; replies = keeps.replies; prepared = keeps.prepared; place = refl }
-keeps_before r s (undos.Epoch e) keeps = record { leases = keeps.leases; replies = keeps.replies; prepared = same_slots e.kept.prepared; place = keeps.place }
-keeps_before r s (undos.RollbackCommit b) keeps = record { leases = same_slots b.leases; replies = keeps.replies; prepared = same_slots b.kept.prepared; place = refl }
+keeps_before r s (undos.Edit e) keeps = record { leases = keeps.leases; replies = keeps.replies; prepared = keeps.prepared; places = ap (places_before e.names) keeps.places }
+keeps_before r s (undos.Epoch e) keeps = record { leases = keeps.leases; replies = keeps.replies; prepared = same_slots e.kept.prepared; places = keeps.places }
+keeps_before r s (undos.RollbackCommit b) keeps = record { leases = same_slots b.leases; replies = keeps.replies; prepared = same_slots b.kept.prepared; places = refl }
 
 pub all_keep_before : (r s : Recorded) (all : List Undo) → KeepsRooms r s → KeepsRooms (all_rooms_before all r) (all_rooms_before all s)
 all_keep_before r s [] keeps = keeps
@@ -235,7 +235,7 @@ both_keep a b c first then = record {
   leases = record { keeps = λ key room. then.leases.keeps key (first.leases.keeps key room) };
   replies = record { keeps = λ key room. then.replies.keeps key (first.replies.keeps key room) };
   prepared = record { keeps = λ key room. then.prepared.keeps key (first.prepared.keeps key room) };
-  place = then.place ∙ first.place;
+  places = then.places ∙ first.places;
 }
 
 -- ---- replies

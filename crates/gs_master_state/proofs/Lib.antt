@@ -14,6 +14,7 @@ pub mod Listed
 pub mod Lowered
 pub mod Mapping
 pub mod Opened
+pub mod PlaceSets
 pub mod Readings
 pub mod Recording
 pub mod Releasing

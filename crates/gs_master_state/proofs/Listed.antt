@@ -22,7 +22,6 @@ use Rattle.gs_tree.specs.Lists.{is_child}
 use Rattle.gs_tree.specs.Listing.{shown, HasVisible, IsListing, IsListingOf, pairs_of, is_dir_entry}
 use Rattle.gs_tree.specs.declared.node.Listed.{Listed}
 use Rattle.gs_tree.proofs.Moves.{last-append}
-use Rattle.gs_msg.specs.declared.answer.Answer.{Answer}
 use Rattle.gs_msg.specs.declared.answer.Answer.TheVariants as answers
 use Rattle.gs_msg.specs.declared.lists.ListedName.{ListedName}
 use Rattle.gs_master_spec.specs.Calls.{children, has_visible_child, is_hidden_at, listing, names_of_rows}

@@ -17,7 +17,7 @@ use Rattle.gs_edit.specs.View.{NamesView}
 use Rattle.gs_msg.specs.declared.answer.Answer.TheVariants as answers
 use Rattle.gs_master_record.specs.Plain.{Rename, UndoRename}
 use Rattle.gs_master_spec.specs.Calls.{edit_if, edited_by, renames}
-use Rattle.gs_master_spec.specs.State.{State, Turn}
+use Rattle.gs_master_spec.specs.State.{State}
 use Rattle.gs_master_spec.specs.Undoing.{edited_names, inverse_of, names_from}
 use Rattle.gs_master_state.specs.inner.Judging.{said_target}
 

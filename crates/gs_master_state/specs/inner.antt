@@ -6,6 +6,7 @@ pub mod Judging
 pub mod Knowing
 pub mod Leases
 pub mod Memories
+pub mod Places
 pub mod Plans
 pub mod Recorded
 pub mod Released

@@ -8,7 +8,7 @@ ghost use Rattle.gs_master_spec.specs.Applied.{after_if, chunk_of_edit, forgotte
 ghost use Rattle.gs_master_state.specs.inner.Recorded.{durable_of, inverses_and, IsToldBack, KeepsRooms, RoomForEach, RoomToKeep, unfit};
 ghost use Rattle.gs_master_state.specs.inner.Released.{GivesUpEach};
 ghost use Rattle.gs_master_spec.specs.Replies.{answer_to, client_cmp};
-ghost use Rattle.gs_master_state.specs.inner.TakingBack.{AreItemsBefore, AreNamesBefore, Enters, IsPlaceBefore, IsUndo, RoomForChunk, RoomForChunks, RoomForReply, with_chunk_before, with_chunks_before, with_leases_before, with_reply_before};
+ghost use Rattle.gs_master_state.specs.inner.TakingBack.{AreItemsBefore, AreNamesBefore, ArePlacesBefore, Enters, IsUndo, RoomForChunk, RoomForChunks, RoomForReply, with_chunk_before, with_chunks_before, with_leases_before, with_reply_before};
 ghost use Rattle.gs_base_table.specs.Slots.{GivesUpRoom, HasRoom, KeepsRoom, live, set_live};
 
 use crate::entry::enter_reply;
@@ -251,7 +251,7 @@ impl Recorded {
 fn enter_names(names: &mut HeldNames, edit: &Edit) -> Result<NamesBefore, Refusal>
     ensures edit { Applies edit.now names.old.names result names.new.names }
     ensures back { IfOk result (λ before. AreNamesBefore before names.old.names names.new.names) }
-    ensures place { IfOk result (λ before. IsPlaceBefore before names.old.place names.new.place) }
+    ensures places { IfOk result (λ before. ArePlacesBefore before names.old.places names.new.places) }
     ensures refused { IfErr result (λ _. names.new ≡ names.old) }
 {
     names.enter(edit)

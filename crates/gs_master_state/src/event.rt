@@ -151,7 +151,7 @@ impl Recorded {
         ensures none { undos.new.items ≡ [] }
         ensures value { durable_of self.new ≡ durable_of self.old }
         ensures leases { live nat_cmp self.new.leases ≡ live nat_cmp self.old.leases }
-        ensures place { self.new.names.place ≡ None }
+        ensures places { self.new.names.places ≡ [] }
         ensures room { ReleasesEach self.old.leases self.new.leases (all_forgotten undos.old.items) }
     {
         if let Some(undo) = undos.pop() {
@@ -165,12 +165,12 @@ impl Recorded {
         ensures none { undos.new.items ≡ [] }
         ensures value { durable_of self.new ≡ durable_of self.old }
         ensures leases { live nat_cmp self.new.leases ≡ live nat_cmp self.old.leases }
-        ensures place { self.new.names.place ≡ None }
+        ensures places { self.new.names.places ≡ [] }
         ensures room { ReleasesEach self.old.leases self.new.leases (all_forgotten undos.old.items) }
     {
         while let Some(undo) = undos.pop() {
             self.let_go(undo);
         }
-        self.names.give_up_place();
+        self.names.give_up_places();
     }
 }

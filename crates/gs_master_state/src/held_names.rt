@@ -1,7 +1,8 @@
 // The names, of which an edit is made so that it can be taken back without memory: in place, or on a copy that stands by.
-ghost use Rattle.std.specs.Prelude.{◌≡◌, ◌≢◌, None, Some, IfOk, IfErr, IfSome, MatchBool, false, not, true};
-ghost use Rattle.std.specs.List.{list_all};
-ghost use Rattle.gs_edit.specs.Edits.{Applies};
+ghost use Rattle.std.specs.Prelude.{[], ◌∷◌, ◌≡◌, ◌≢◌, None, Ok, OnOk, Some, IfOk, IfErr, IfSome, MatchBool, false, not, true};
+ghost use Rattle.std.specs.List.{list_all, list_any};
+ghost use Rattle.gs_path.specs.Path.{begins};
+ghost use Rattle.gs_edit.specs.Edits.{Applies, renamed};
 ghost use Rattle.gs_edit.specs.Listed.{is_of_kind, kind_of};
 ghost use Rattle.gs_edit.specs.Names.{NamesTakenBack, takes_memory};
 ghost use Rattle.gs_edit.specs.Scan.{Scans};
@@ -9,9 +10,9 @@ ghost use Rattle.gs_edit.specs.View.{NamesView};
 ghost use Rattle.gs_edit.specs.declared.edit.Inverse.{Inverse};
 ghost use Rattle.gs_master_record.specs.Plain.{plain_edit};
 ghost use Rattle.std.specs.FinMap as fin_map;
-ghost use Rattle.gs_edit.specs.Places.{is_move};
-ghost use Rattle.gs_master_state.specs.inner.Held.{AreSeen, IsLedBy, IsPlace, StandsBy, is_at, still, without_kept};
-ghost use Rattle.gs_master_state.specs.inner.TakingBack.{AreNamesBefore, HasPlaceBack, IsPlaceBefore, is_kept, is_made_in_place, place_before, wants_copy};
+ghost use Rattle.gs_edit.specs.Places.{IsNotRemoved, is_move};
+ghost use Rattle.gs_master_state.specs.inner.Held.{ArePlaces, AreSeen, IsLedBy, KeepsAll, StandsBy, all_but_last, is_at, still, without_kept};
+ghost use Rattle.gs_master_state.specs.inner.TakingBack.{AreNamesBefore, ArePlacesBefore, HasPlaceBack, IsLastPlace, is_kept, is_made_in_place, places_before, wants_copy};
 ghost use Rattle.gs_tree.specs.Build.{is_short, is_tree, rooted_rows, rows_of_entries};
 ghost use Rattle.gs_tree.specs.Chunks.{rows_under, visible_chunks_under};
 ghost use Rattle.gs_tree.specs.Listing.{HasVisible, Lists, StandsAs};
@@ -19,7 +20,8 @@ ghost use Rattle.gs_tree.specs.Plain.{part_at};
 ghost use Rattle.gs_master_state.specs.inner.Trying.{refusal_of};
 ghost use Rattle.gs_master_spec.specs.Undoing.{edited_names};
 
-use crate::undo::{Following, MovedNames, NamesBefore, StoodNames};
+use crate::places::Places;
+use crate::undo::{Following, MovedNames, NamesBefore, RemovedNames, StoodNames};
 use gs_base::{Handle, Moment, Refusal};
 use gs_base_table::Table;
 use gs_edit::{Edit, Inverse, Names, Scan};
@@ -46,14 +48,22 @@ fn is_made_in_place(edit: &Edit) -> bool
     }
 }
 
-/// Names without the place that is kept in them.
-fn without_place(mut names: Names, place: &Option<Path>) -> Names
-    requires { IsPlace place.now names }
-    ensures { result ≡ without_kept place.now names }
+/// Places that are kept in names are given up.
+fn give_up_each(names: &mut Names, places: &[Path])
+    requires { ArePlaces places.now names.old }
+    ensures { names.new ≡ without_kept places.now names.old }
 {
-    if let Some(place) = place {
+    for place in places {
         names.give_up_place(place);
     }
+}
+
+/// Names without the places that are kept in them.
+fn without_places(mut names: Names, places: &[Path]) -> Names
+    requires { ArePlaces places.now names }
+    ensures { result ≡ without_kept places.now names }
+{
+    give_up_each(&mut names, places);
     names
 }
 
@@ -61,7 +71,6 @@ fn without_place(mut names: Names, place: &Option<Path>) -> Names
 fn is_move(edit: &Edit) -> bool
     ensures moves { result ≡ is_move edit.now }
     ensures copies { result ≡ true → wants_copy (plain_edit edit.now) ≡ false }
-    ensures other { result ≡ false → wants_copy (plain_edit edit.now) ≡ not (is_made_in_place (plain_edit edit.now)) }
 {
     match edit {
         Edit::Rename(_, _) | Edit::Hide(_, _, _) | Edit::Unhide(_) => true,
@@ -227,20 +236,20 @@ fn undo(names: &mut Names, inverse: &Inverse)
     let _undone = names.undo(inverse);
 }
 
-/// The names, perhaps with the place that an empty directory keeps for the source of the last move, and perhaps a copy of
-/// them that stands by. They are seen as the names alone, without that directory.
+/// The names, perhaps with the places that empty directories keep for what was moved or removed last, and perhaps a copy of
+/// them that stands by. They are seen as the names alone, without these directories.
 ///
-/// An edit that can be taken back without memory is made in place. So is a move: until it stands, its place is kept, so
-/// that what was moved can go back there. The first edit of any other kind copies the names. From then on each edit is made
-/// on both, a move the second time without its tests, so a further one costs its path and not the names. Where memory is
-/// wanting for the copy it goes, and a later edit copies the names again.
+/// An edit that can be taken back without memory is made in place. So is a move or a removal: until it stands, its place is
+/// kept, so that what left it can go back there. The first edit of any other kind copies the names. From then on each edit
+/// is made on both, a move the second time without its tests, so a further one costs its path and not the names. Where
+/// memory is wanting for the copy it goes, and a later edit copies the names again.
 ///
-/// While a place is kept, which is until the event of its move ends, each further edit is made on a copy, and what lists
-/// entries or chunks copies the names.
+/// While places are kept, which is until their event ends, a removal is made in place if none of them lies at or under its
+/// path. Each other edit is made on a copy, and what lists entries or chunks copies the names.
 pub struct HeldNames {
     alloc: Global,
     names: Names,
-    place: Option<Path>,
+    places: Places,
     spare: Option<Names>,
     visible: Option<Table<Handle, bool>>,
 }
@@ -250,7 +259,7 @@ impl Drop for HeldNames {
         let Self {
             alloc: _,
             names: _,
-            place: _,
+            places: _,
             spare: _,
             visible: _,
         } = self;
@@ -258,15 +267,15 @@ impl Drop for HeldNames {
 }
 
 impl Model for HeldNames {
-    ghost use Rattle.gs_master_state.specs.inner.Held.{HeldView, IsPlace, IsSeen, StandsBy, coded_held, without_kept};
+    ghost use Rattle.gs_master_state.specs.inner.Held.{HeldView, IsSeen, KeepsAll, StandsBy, coded_held, without_kept};
 
     ghost Value = { HeldView };
 
     ghost coded = { coded_held };
 
-    ghost view = { λ a. record { names = without_kept a.place a.names; place = a.place } };
+    ghost view = { λ a. record { names = without_kept a.places.items a.names; places = a.places.items } };
 
-    ghost invariant = { λ a. IsPlace a.place a.names × StandsBy a.spare (without_kept a.place a.names) × IsSeen a.visible (without_kept a.place a.names) };
+    ghost invariant = { λ a. KeepsAll a.places.items a.names × StandsBy a.spare (without_kept a.places.items a.names) × IsSeen a.visible (without_kept a.places.items a.names) };
 }
 
 impl HeldNames {
@@ -277,7 +286,7 @@ impl HeldNames {
         HeldNames {
             alloc,
             names,
-            place: None,
+            places: Places::new(alloc),
             spare: None,
             visible: None,
         }
@@ -309,17 +318,28 @@ impl HeldNames {
         ensures { IfOk result (λ names. names ≡ self.now.names) }
     {
         let names = self.names.copy()?;
-        Ok(without_place(names, &self.place))
+        Ok(without_places(names, self.places.as_slice()))
     }
 
-    /// Whether the place that is kept is at a path.
+    /// Whether a place that is kept is at a path.
     fn is_place(&self, path: &Path) -> bool
-        ensures { result ≡ is_at self.now.place path.now }
+        ensures { result ≡ is_at self.now.places path.now }
     {
-        match &self.place {
-            None => false,
-            Some(place) => place == path,
-        }
+        self.places.as_slice().iter().any(|place| path == place)
+    }
+
+    /// Whether a place that is kept is at or under a path.
+    fn is_over(&self, path: &Path) -> bool
+        ensures { result ≡ list_any (begins path.now) self.now.places }
+    {
+        self.places.is_over(path)
+    }
+
+    /// Whether none is.
+    fn is_apart(&self, path: &Path) -> bool
+        ensures { result ≡ not (list_any (begins path.now) self.now.places) }
+    {
+        !self.is_over(path)
     }
 
     /// What stands at a path, as in the tree (`Tree::status`). It takes no memory.
@@ -338,7 +358,7 @@ impl HeldNames {
         ensures { MatchBool result (HasVisible (part_at path.now (fin_map.get self.now.names.tree))) (HasVisible (part_at path.now (fin_map.get self.now.names.tree)) → ⊥) }
     {
         let tree = self.names.tree();
-        let Some(place) = &self.place else {
+        let Some(place) = self.places.as_slice().first() else {
             return tree.has_visible(path);
         };
         let Some((name, parent)) = place.elements().split_last() else {
@@ -355,7 +375,7 @@ impl HeldNames {
     pub fn list(&self, path: &Path) -> Result<Vec<Listed>, Refusal>
         ensures { Lists (fin_map.get self.now.names.tree) path.now result }
     {
-        if self.place.is_none() {
+        if self.places.is_empty() {
             return self.names.tree().list(path);
         }
         let names = self.copy()?;
@@ -371,7 +391,7 @@ impl HeldNames {
     ) -> Result<Vec<Handle>, AllocError>
         ensures { IfOk result (λ found. found.items ≡ visible_chunks_under path.now (fin_map.entries self.now.names.tree)) }
     {
-        if self.place.is_none() {
+        if self.places.is_empty() {
             return self.names.tree().visible_chunks_under(alloc, path);
         }
         let names = self.copy()?;
@@ -383,7 +403,7 @@ impl HeldNames {
         ensures rows { IfOk result (λ listed. rooted_rows (rows_of_entries listed.items) ≡ fin_map.entries self.now.names.tree) }
         ensures tree { IfOk result (λ listed. list_all (λ r. is_short r.0) (fin_map.entries self.now.names.tree) ≡ is_tree (rows_of_entries listed.items)) }
     {
-        if self.place.is_none() {
+        if self.places.is_empty() {
             return self.names.tree().entries(alloc);
         }
         let names = self.copy()?;
@@ -394,7 +414,7 @@ impl HeldNames {
     pub fn entries_under(&self, alloc: Global, path: &Path) -> Result<Vec<TreeEntry>, AllocError>
         ensures { IfOk result (λ listed. rows_of_entries listed.items ≡ rows_under path.now (fin_map.entries self.now.names.tree)) }
     {
-        if self.place.is_none() {
+        if self.is_apart(path) {
             return self.names.tree().entries_under(alloc, path);
         }
         let names = self.copy()?;
@@ -405,21 +425,23 @@ impl HeldNames {
     pub fn scan(&self, moment: Moment) -> Result<Scan, Refusal>
         ensures { Scans moment.0 (fin_map.entries self.now.names.tree) self.now.names.refs result }
     {
-        if self.place.is_none() {
+        if self.places.is_empty() {
             return self.names.scan(moment);
         }
         let names = self.copy()?;
         names.scan(moment)
     }
 
-    /// A place that is kept is given up: its move stands.
-    pub fn give_up_place(&mut self)
+    /// The places that are kept are given up: what left them stays away.
+    pub fn give_up_places(&mut self)
         ensures { self.new ≡ still self.old.names }
     {
-        if let Some(place) = self.place.take() {
-            self.visible = None;
-            self.names.give_up_place(&place);
+        if self.places.is_empty() {
+            return;
         }
+        self.visible = None;
+        let places = mem::replace(&mut self.places, Places::new(self.alloc));
+        give_up_each(&mut self.names, places.as_slice());
     }
 
     /// Makes an edit in place, and answers what takes it back.
@@ -427,19 +449,19 @@ impl HeldNames {
         ensures edit { Applies edit.now self.old.names result self.new.names }
         ensures undo { IfOk result (λ i. NamesTakenBack i self.old.names self.new.names) }
         ensures kind { IfOk result (λ i. is_of_kind (kind_of edit.now) i ≡ true) }
-        ensures place { self.new.place ≡ None }
+        ensures places { self.new.places ≡ [] }
     {
-        self.give_up_place();
+        self.give_up_places();
         self.apply_in_place(edit)
     }
 
     /// The same where no place is kept.
     fn apply_in_place(&mut self, edit: &Edit) -> Result<Inverse, Refusal>
-        requires { self.old.place ≡ None }
+        requires { self.old.places ≡ [] }
         ensures edit { Applies edit.now self.old.names result self.new.names }
         ensures undo { IfOk result (λ i. NamesTakenBack i self.old.names self.new.names) }
         ensures kind { IfOk result (λ i. is_of_kind (kind_of edit.now) i ≡ true) }
-        ensures place { self.new.place ≡ None }
+        ensures places { self.new.places ≡ [] }
     {
         self.visible = None;
         match self.names.apply(edit) {
@@ -466,14 +488,14 @@ impl HeldNames {
     fn exchange(&mut self, names: Names, following: Following) -> NamesBefore
         ensures now { self.new ≡ still names }
         ensures back { IsLedBy following self.old.names names → AreNamesBefore result self.old.names names }
-        ensures place { IsPlaceBefore result self.old.place None }
+        ensures places { ArePlacesBefore result self.old.places [] }
         ensures kept { is_kept result ≡ true }
     {
         self.spare = None;
         self.visible = None;
         NamesBefore::Kept(StoodNames {
             names: mem::replace(&mut self.names, names),
-            place: self.place.take(),
+            places: mem::replace(&mut self.places, Places::new(self.alloc)),
             following,
         })
     }
@@ -482,7 +504,7 @@ impl HeldNames {
     fn enter_on_copy(&mut self, edit: &Edit) -> Result<NamesBefore, Refusal>
         ensures edit { Applies edit.now self.old.names result self.new.names }
         ensures back { IfOk result (λ before. AreNamesBefore before self.old.names self.new.names) }
-        ensures place { IfOk result (λ before. IsPlaceBefore before self.old.place self.new.place) }
+        ensures places { IfOk result (λ before. ArePlacesBefore before self.old.places self.new.places) }
         ensures refused { IfErr result (λ _. self.new ≡ self.old) }
         ensures kept { IfOk result (λ before. is_kept before ≡ true) }
     {
@@ -499,11 +521,11 @@ impl HeldNames {
 
     /// Makes a move in place, and keeps its place until it stands. What stood by is kept for then.
     fn enter_move(&mut self, edit: &Edit) -> Result<NamesBefore, Refusal>
-        requires place { self.old.place ≡ None }
+        requires places { self.old.places ≡ [] }
         requires edit { is_move edit.now ≡ true }
         ensures edit { Applies edit.now self.old.names result self.new.names }
         ensures back { IfOk result (λ before. AreNamesBefore before self.old.names self.new.names) }
-        ensures place { IfOk result (λ before. IsPlaceBefore before self.old.place self.new.place) }
+        ensures places { IfOk result (λ before. ArePlacesBefore before self.old.places self.new.places) }
         ensures refused { IfErr result (λ _. self.new ≡ self.old) }
         ensures kept { IfOk result (λ before. is_kept before ≡ false) }
     {
@@ -516,25 +538,79 @@ impl HeldNames {
         let TreeInverse::Moved(from, to) = inverse else {
             return Err(Refusal::Memory);
         };
-        let Ok(place) = from.copy(self.alloc) else {
+        let Ok(places) = Places::one(self.alloc, &from) else {
             self.names.return_to_place(&from, &to);
             return Err(Refusal::Memory);
         };
-        self.place = Some(place);
+        self.places = places;
         let spare = self.spare.take();
         Ok(NamesBefore::Moved(MovedNames { from, to, spare }))
     }
 
-    /// Makes an edit: in place where its inverse takes it back without memory, or where it is a move and no place is kept yet,
-    /// and else on a copy.
+    /// Takes out what is hidden at a path in place, and keeps its place until that stands. What stands by follows.
+    fn enter_removal(&mut self, edit: &Edit, path: &Path) -> Result<NamesBefore, Refusal>
+        requires edit { edit.now ≡ Edit.Remove path.now }
+        requires apart { list_any (begins path.now) self.old.places ≡ false }
+        ensures edit { OnOk result (renamed edit.now self.old.names ≡ Ok (fin_map.entries self.new.names.tree, self.new.names.refs)) }
+        ensures back { IfOk result (λ before. AreNamesBefore before self.old.names self.new.names) }
+        ensures places { IfOk result (λ before. ArePlacesBefore before self.old.places self.new.places) }
+        ensures kept { IfOk result (λ before. is_kept before ≡ false) }
+        ensures refused { IfErr result (λ _. self.new ≡ self.old) }
+        ensures first { self.old.places ≡ [] → IfErr result (λ e. IsNotRemoved path.now self.old.names e self.new.names) }
+    {
+        let kept = path.copy(self.alloc)?;
+        let path = path.copy(self.alloc)?;
+        self.places.push(kept)?;
+        let out = match self.names.remove_keeping_place(&path) {
+            Ok(out) => out,
+            Err(refusal) => {
+                self.places.pop();
+                return Err(refusal);
+            }
+        };
+        self.visible = None;
+        let beside = self.spare.take();
+        self.spare = followed(beside, edit);
+        Ok(NamesBefore::Removed(RemovedNames { path, out }))
+    }
+
+    /// Makes a removal: in place where no place that is kept is at or under its path, and else on a copy. Behind other places
+    /// a copy says why it is refused.
+    fn enter_remove(&mut self, edit: &Edit, path: &Path) -> Result<NamesBefore, Refusal>
+        requires { edit.now ≡ Edit.Remove path.now }
+        ensures edit { Applies edit.now self.old.names result self.new.names }
+        ensures back { IfOk result (λ before. AreNamesBefore before self.old.names self.new.names) }
+        ensures places { IfOk result (λ before. ArePlacesBefore before self.old.places self.new.places) }
+        ensures refused { IfErr result (λ _. self.new ≡ self.old) }
+        ensures copies { self.old.places ≡ [] → IfOk result (λ before. is_kept before ≡ false) }
+    {
+        if !self.is_apart(path) {
+            return self.enter_on_copy(edit);
+        }
+        match self.enter_removal(edit, path) {
+            Ok(before) => return Ok(before),
+            Err(refusal) => {
+                if self.places.is_empty() {
+                    return Err(refusal);
+                }
+            }
+        }
+        self.enter_on_copy(edit)
+    }
+
+    /// Makes an edit: in place where its inverse takes it back without memory, where it is a move and no place is kept yet, or
+    /// where it is a removal apart from the places that are; and else on a copy.
     pub fn enter(&mut self, edit: &Edit) -> Result<NamesBefore, Refusal>
         ensures edit { Applies edit.now self.old.names result self.new.names }
         ensures back { IfOk result (λ before. AreNamesBefore before self.old.names self.new.names) }
-        ensures place { IfOk result (λ before. IsPlaceBefore before self.old.place self.new.place) }
+        ensures places { IfOk result (λ before. ArePlacesBefore before self.old.places self.new.places) }
         ensures refused { IfErr result (λ _. self.new ≡ self.old) }
-        ensures copies { self.old.place ≡ None → IfOk result (λ before. is_kept before ≡ wants_copy (plain_edit edit.now)) }
+        ensures copies { self.old.places ≡ [] → IfOk result (λ before. is_kept before ≡ wants_copy (plain_edit edit.now)) }
     {
-        if self.place.is_some() {
+        if let Edit::Remove(path) = edit {
+            return self.enter_remove(edit, path);
+        }
+        if !self.places.is_empty() {
             return self.enter_on_copy(edit);
         }
         if is_move(edit) {
@@ -549,11 +625,11 @@ impl HeldNames {
         }
     }
 
-    /// The names stand again as they stood, with the place that was kept then.
+    /// The names stand again as they stood, with the places that were kept then.
     pub fn put_back(&mut self, before: NamesBefore)
-        requires { HasPlaceBack self.old.place before }
+        requires { HasPlaceBack self.old.places before }
         ensures names { (stood : NamesView) → AreNamesBefore before stood self.old.names → self.new.names ≡ stood }
-        ensures place { self.new.place ≡ place_before before }
+        ensures places { self.new.places ≡ places_before before self.old.places }
     {
         match before {
             NamesBefore::Undone(inverse) => {
@@ -562,39 +638,53 @@ impl HeldNames {
                 undo(&mut self.names, &inverse);
             }
             NamesBefore::Moved(moved) => self.move_back(moved),
+            NamesBefore::Removed(removed) => self.put_removed_back(removed),
             NamesBefore::Kept(stood) => self.put_stood_back(stood),
         }
     }
 
-    /// Names that were kept stand again, with the place that was kept in them.
+    /// Names that were kept stand again, with the places that were kept in them.
     fn put_stood_back(&mut self, stood: StoodNames)
-        requires { IsPlace stood.place stood.names }
-        ensures names { self.new.names ≡ without_kept stood.place stood.names }
-        ensures place { self.new.place ≡ stood.place }
+        requires { KeepsAll stood.places.items stood.names }
+        ensures names { self.new.names ≡ without_kept stood.places.items stood.names }
+        ensures places { self.new.places ≡ stood.places.items }
     {
         let StoodNames {
             names,
-            place,
+            places,
             following,
         } = stood;
         drop(following);
         self.spare = None;
         self.visible = None;
         self.names = names;
-        self.place = place;
+        self.places = places;
+    }
+
+    /// What was removed stands again in its place.
+    fn put_removed_back(&mut self, removed: RemovedNames)
+        requires { IsLastPlace self.old.places removed.path }
+        ensures names { (stood : NamesView) → AreNamesBefore (NamesBefore.Removed removed) stood self.old.names → self.new.names ≡ stood }
+        ensures places { self.new.places ≡ all_but_last self.old.places }
+    {
+        let RemovedNames { path, out } = removed;
+        self.spare = None;
+        self.visible = None;
+        self.places.pop();
+        self.names.put_back(&path, out);
     }
 
     /// What was moved goes back to its place.
     fn move_back(&mut self, moved: MovedNames)
-        requires { self.old.place ≡ Some moved.from }
+        requires { self.old.places ≡ moved.from ∷ [] }
         ensures names { (stood : NamesView) → AreNamesBefore (NamesBefore.Moved moved) stood self.old.names → self.new.names ≡ stood }
-        ensures place { self.new.place ≡ None }
+        ensures places { self.new.places ≡ [] }
     {
         let MovedNames { from, to, spare } = moved;
         drop(spare);
         self.spare = None;
         self.visible = None;
-        self.place = None;
+        self.places = Places::new(self.alloc);
         self.names.return_to_place(&from, &to);
     }
 
@@ -611,13 +701,14 @@ impl HeldNames {
                     self.spare = led(spare, &Following::Move(from, to));
                 }
             }
+            NamesBefore::Removed(removed) => drop(removed),
             NamesBefore::Kept(stood) => {
                 let StoodNames {
                     names,
-                    place,
+                    places,
                     following,
                 } = stood;
-                self.spare = led(without_place(names, &place), &following);
+                self.spare = led(without_places(names, places.as_slice()), &following);
             }
         }
     }
@@ -628,11 +719,11 @@ impl HeldNames {
         ensures memory { IfErr result (λ refusal. refusal ≡ Refusal.Memory) }
         ensures stays { self.new ≡ self.old }
     {
-        if self.place.is_none() && is_made_in_place(edit) {
+        if self.places.is_empty() && is_made_in_place(edit) {
             self.visible = None;
             return judged_in_place(&mut self.names, edit);
         }
-        if self.place.is_none() && is_move(edit) {
+        if self.places.is_empty() && is_move(edit) {
             self.visible = None;
             return judged_move(&mut self.names, edit);
         }

@@ -16,6 +16,7 @@ pub mod known;
 pub mod log;
 pub mod memory;
 pub mod message;
+pub mod places;
 pub mod plan;
 pub mod recorded;
 pub mod restart;

@@ -7,14 +7,15 @@ ghost use Rattle.gs_master_record.specs.Plain.{plain_inverse, PlainInverse};
 ghost use Rattle.gs_master_spec.specs.Durable.{Durable};
 ghost use Rattle.gs_master_state.specs.inner.Recorded.{durable_of, KeepsRooms};
 ghost use Rattle.gs_master_spec.specs.Replies.{client_cmp};
-ghost use Rattle.gs_master_state.specs.inner.TakingBack.{AreItemsBefore, AreNamesBefore, HasPlaceBack, IsEditBefore, LeaseAt, leases_before, place_before, RoomAt, RoomBack, RoomForChunk, RoomForChunks, RoomForReply, rooms_before, TakesBack, with_chunk_before, with_chunks_before, with_leases_before, with_moved_before, with_proposal_before, with_reply_before};
+ghost use Rattle.gs_master_state.specs.inner.TakingBack.{AreItemsBefore, AreNamesBefore, HasPlaceBack, IsEditBefore, LeaseAt, leases_before, places_before, RoomAt, RoomBack, RoomForChunk, RoomForChunks, RoomForReply, rooms_before, TakesBack, with_chunk_before, with_chunks_before, with_leases_before, with_moved_before, with_proposal_before, with_reply_before};
 ghost use Rattle.gs_base_table.specs.Slots.{HasRoom, KeepsRoom, live, set_live};
 
 use crate::held_names::HeldNames;
+use crate::places::Places;
 use crate::recorded::Recorded;
 use gs_base::{ClientId, Handle};
 use gs_base_table::{Key, Table};
-use gs_edit::{Edit, Inverse, ListedInverse, Names};
+use gs_edit::{Edit, Inverse, ListedInverse, Names, TakenOut};
 use gs_lease::Lease;
 use gs_lease_table::LeaseTable;
 use gs_master_record::Phase;
@@ -61,8 +62,8 @@ pub enum Following {
 #[derive(Drop)]
 pub struct StoodNames {
     pub names: Names,
-    /// The path that was kept in them.
-    pub place: Option<Path>,
+    /// The paths that were kept in them.
+    pub places: Places,
     pub following: Following,
 }
 
@@ -74,6 +75,13 @@ pub struct MovedNames {
     pub spare: Option<Names>,
 }
 
+/// A removal whose place is kept, and what was taken out there.
+#[derive(Drop)]
+pub struct RemovedNames {
+    pub path: Path,
+    pub out: TakenOut,
+}
+
 /// How the names of before are come by.
 #[derive(Drop)]
 pub enum NamesBefore {
@@ -81,6 +89,8 @@ pub enum NamesBefore {
     Undone(Inverse),
     /// What was moved goes back to its place. That takes no memory.
     Moved(MovedNames),
+    /// What was removed is put back in its place. That takes no memory.
+    Removed(RemovedNames),
     /// They were kept.
     Kept(StoodNames),
 }
@@ -198,9 +208,9 @@ fn put_moved_back(leases: &mut LeaseTable, chunk: Handle, before: Option<Lease>)
 
 /// The names stand again as they stood.
 fn put_names_back(names: &mut HeldNames, before: NamesBefore)
-    requires { HasPlaceBack names.old.place before }
+    requires { HasPlaceBack names.old.places before }
     ensures names { (stood : NamesView) → AreNamesBefore before stood names.old.names → names.new.names ≡ stood }
-    ensures place { names.new.place ≡ place_before before }
+    ensures places { names.new.places ≡ places_before before names.old.places }
 {
     names.put_back(before);
 }
@@ -312,7 +322,7 @@ impl Recorded {
     fn take_edit_back(&mut self, edit: EditBefore)
         requires replies { RoomForReply self.old.replies edit.reply }
         requires chunks { RoomForChunks self.old edit.forgotten.items }
-        requires place { HasPlaceBack self.old.names.place edit.names }
+        requires places { HasPlaceBack self.old.names.places edit.names }
         ensures value { (before : Durable) → IsEditBefore edit before (durable_of self.old) → durable_of self.new ≡ before }
         ensures leases { live nat_cmp self.new.leases ≡ with_leases_before edit.forgotten.items (live nat_cmp self.old.leases) }
         ensures keeps { KeepsRooms (rooms_before (Undo.Edit edit) self.old) self.new }

@@ -7,3 +7,6 @@ pub mod Behind
 pub mod Replied
 pub mod Served
 pub mod Calm
+pub mod Staying
+pub mod Changing
+pub mod Changed

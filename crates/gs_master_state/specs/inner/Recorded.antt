@@ -118,7 +118,7 @@ pub record KeepsRooms (old new : Recorded) : Type 0 where
   pub leases : KeepsRoom nat_cmp old.leases new.leases
   pub replies : KeepsRoom client_cmp old.replies new.replies
   pub prepared : KeepsRoom nat_cmp old.prepared new.prepared
-  pub place : new.names.place ≡ old.names.place
+  pub places : new.names.places ≡ old.names.places
 
 -- ---- a rollback
 

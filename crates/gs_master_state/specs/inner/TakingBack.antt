@@ -9,7 +9,11 @@ use Rattle.gs_base.specs.declared.refusal.Refusal.TheVariants as refusals
 use Rattle.gs_edit.specs.Names.{NamesTakenBack, takes_memory}
 use Rattle.gs_edit.specs.View.{NamesView}
 use Rattle.gs_edit.specs.declared.edit.Inverse.TheVariants.{Tree}
-use Rattle.gs_path.specs.Path.{Path}
+use Rattle.std.specs.List.{list_any}
+use Rattle.gs_path.specs.Path.{Path, begins}
+use Rattle.gs_refs.specs.Counts.{raised_each}
+use Rattle.gs_tree.specs.Find.{at}
+use Rattle.gs_tree.specs.Plain.{Same, with_at}
 use Rattle.gs_tree.specs.declared.inverse.TreeInverse.TheVariants.{Moved}
 use Rattle.gs_edit.specs.declared.listed.ListedInverse.{ListedInverse}
 use Rattle.gs_lease.specs.declared.lease.Lease.{Lease}
@@ -20,7 +24,7 @@ use Rattle.gs_master_record.specs.declared.checkpoint.Phase.TheVariants.{Rolling
 use Rattle.gs_base_table.specs.Slots.{live, set_live, HasRoom}
 use Rattle.gs_master_spec.specs.Applied.{applied}
 use Rattle.gs_master_spec.specs.Durable.{Durable, Settled}
-use Rattle.gs_master_state.specs.inner.Held.{IsLedBy, IsPlace, StandsBy, without_kept}
+use Rattle.gs_master_state.specs.inner.Held.{IsLedBy, KeepsAll, StandsBy, all_but_last, without_kept}
 use Rattle.gs_master_state.specs.inner.Recorded.{IsToldBack, KeepsRooms, chunks_of, durable_of, settled_by}
 use Rattle.gs_master_spec.specs.Replies.{client_cmp}
 use Rattle.gs_master_state.specs.declared.recorded.Recorded.{Recorded}
@@ -31,8 +35,9 @@ use Rattle.gs_master_state.specs.declared.undo.EpochBefore.{EpochBefore}
 use Rattle.gs_master_state.specs.declared.undo.ProposalBefore.{ProposalBefore}
 use Rattle.gs_master_state.specs.declared.undo.KeptBefore.{KeptBefore}
 use Rattle.gs_master_state.specs.declared.undo.NamesBefore.{NamesBefore}
-use Rattle.gs_master_state.specs.declared.undo.NamesBefore.TheVariants.{Undone, Moved as MovedTo, Kept}
+use Rattle.gs_master_state.specs.declared.undo.NamesBefore.TheVariants.{Undone, Moved as MovedTo, Removed as RemovedFrom, Kept}
 use Rattle.gs_master_state.specs.declared.undo.MovedNames.{MovedNames}
+use Rattle.gs_master_state.specs.declared.undo.RemovedNames.{RemovedNames}
 use Rattle.gs_master_state.specs.declared.undo.ReplyBefore.{ReplyBefore}
 use Rattle.gs_master_state.specs.declared.undo.StoodNames.{StoodNames}
 use Rattle.gs_master_state.specs.declared.undo.RollbackBefore.{RollbackBefore}
@@ -67,27 +72,35 @@ abbrev pub with_proposed_before : ℕ → Option Lease → fin.FinMap nat_cmp Se
 with_proposed_before chunk None chunks = chunks
 with_proposed_before chunk (Some lease) chunks = with_settled_before chunk (Some lease) chunks
 
--- the names: what was made of them is undone without memory, what was moved goes back, or they were kept
+-- the names: what was made of them is undone without memory, what was moved or removed goes back, or they were kept
 abbrev pub AreNamesBefore : NamesBefore → NamesView → NamesView → Type 0
 AreNamesBefore (Undone inverse) before after = NamesTakenBack inverse before after × (takes_memory inverse ≡ false)
 AreNamesBefore (MovedTo m) before after = NamesTakenBack (Tree (Moved m.from m.to)) before after × StandsBy m.spare before
-AreNamesBefore (Kept stood) before after = (before ≡ without_kept stood.place stood.names) × IsLedBy stood.following (without_kept stood.place stood.names) after × IsPlace stood.place stood.names
+AreNamesBefore (RemovedFrom r) before after = Same (fin.get before.tree) (with_at r.path (at r.out.node) (fin.get after.tree)) × (raised_each after.refs r.out.chunks.items ≡ Ok before.refs)
+AreNamesBefore (Kept stood) before after = (before ≡ without_kept stood.places.items stood.names) × IsLedBy stood.following (without_kept stood.places.items stood.names) after × KeepsAll stood.places.items stood.names
 
--- the path that was kept before an edit: where something is undone or goes back, none was
-abbrev pub place_before : NamesBefore → Option Path
-place_before (Undone inverse) = None
-place_before (MovedTo m) = None
-place_before (Kept stood) = stood.place
+-- The paths that were kept before an edit, by those that are kept since: where something is undone or moved back none was,
+-- and of a removal its own is the last.
+abbrev pub places_before : NamesBefore → List Path → List Path
+places_before (Undone inverse) now = []
+places_before (MovedTo m) now = []
+places_before (RemovedFrom r) now = all_but_last now
+places_before (Kept stood) now = stood.places.items
+
+-- the last path is that of a removal, and no other lies at or under it
+abbrev pub IsLastPlace : List Path → Path → Type 0
+IsLastPlace now path = (others : List Path) × ((now ≡ others ++ path ∷ []) × (list_any (begins path) others ≡ false))
 
 -- what has to be kept so that an edit can be taken back
-abbrev pub HasPlaceBack : Option Path → NamesBefore → Type 0
-HasPlaceBack place (Undone inverse) = place ≡ None
-HasPlaceBack place (MovedTo m) = place ≡ Some m.from
-HasPlaceBack place (Kept stood) = IsPlace stood.place stood.names
+abbrev pub HasPlaceBack : List Path → NamesBefore → Type 0
+HasPlaceBack now (Undone inverse) = now ≡ []
+HasPlaceBack now (MovedTo m) = now ≡ m.from ∷ []
+HasPlaceBack now (RemovedFrom r) = IsLastPlace now r.path
+HasPlaceBack now (Kept stood) = KeepsAll stood.places.items stood.names
 
 -- the paths that are kept before and after an edit
-abbrev pub IsPlaceBefore : NamesBefore → Option Path → Option Path → Type 0
-IsPlaceBefore before old new = (old ≡ place_before before) × HasPlaceBack new before
+abbrev pub ArePlacesBefore : NamesBefore → List Path → List Path → Type 0
+ArePlacesBefore before old new = (old ≡ places_before before new) × HasPlaceBack new before
 
 -- an edit that its inverse takes back without memory
 abbrev pub is_made_in_place : PlainEdit → Bool
@@ -109,7 +122,7 @@ wants_copy (Create p) = false
 wants_copy (Rename from to) = false
 wants_copy (Hide p moment number) = false
 wants_copy (Unhide p) = false
-wants_copy (Remove p) = true
+wants_copy (Remove p) = false
 wants_copy (AddChunk p chunk) = false
 wants_copy (Cow p index old new) = false
 wants_copy (Snapshot from to) = true
@@ -119,6 +132,7 @@ wants_copy (Forget chunks) = true
 abbrev pub is_kept : NamesBefore → Bool
 is_kept (Undone inverse) = false
 is_kept (MovedTo m) = false
+is_kept (RemovedFrom r) = false
 is_kept (Kept stood) = true
 
 -- all but the last, where one was put behind them
@@ -220,7 +234,7 @@ rooms_before (undos.Propose p) r = r
 rooms_before (undos.Settle chunk) r = r
 rooms_before (undos.Holder chunk prepared) r = r
 rooms_before (undos.RollbackBegin epoch) r = r
-rooms_before (undos.Edit e) r = record r { names = record r.names { place = place_before e.names } }
+rooms_before (undos.Edit e) r = record r { names = record r.names { places = places_before e.names r.names.places } }
 rooms_before (undos.Epoch e) r = record r { prepared = e.kept.prepared }
 rooms_before (undos.RollbackCommit b) r = record r { names = b.names; leases = b.leases; prepared = b.kept.prepared }
 
@@ -236,7 +250,7 @@ RoomBack r (undos.Propose p) = LeaseAt r.leases p.chunk p.lease
 RoomBack r (undos.Settle chunk) = RoomForChunk r chunk
 RoomBack r (undos.Holder chunk prepared) = RoomAt nat_cmp r.prepared chunk prepared
 RoomBack r (undos.RollbackBegin epoch) = Unit {0}
-RoomBack r (undos.Edit e) = RoomForReply r.replies e.reply × RoomForChunks r e.forgotten.items × HasPlaceBack r.names.place e.names
+RoomBack r (undos.Edit e) = RoomForReply r.replies e.reply × RoomForChunks r e.forgotten.items × HasPlaceBack r.names.places e.names
 RoomBack r (undos.Epoch e) = Unit {0}
 RoomBack r (undos.RollbackCommit b) = Unit {0}
 
@@ -301,11 +315,15 @@ what_stood_nowhere_needs_no_room : RoomAt {V = ℕ} nat_cmp [] 3 None
 what_stood_nowhere_needs_no_room = tt
 
 -- a directory is made behind a move, so on a copy: once that is taken back, the place of the move is kept again
-the_place_is_kept_again : (from : Path) (e : EditBefore) (stood : StoodNames) (r : Recorded) → (rooms_before (undos.Edit (record e { names = Kept (record stood { place = Some from }) })) r).names.place ≡ Some from
-the_place_is_kept_again from e stood r = refl
+the_place_is_kept_again : (from : Path) (e : EditBefore) (stood : StoodNames) (r : Recorded) → stood.places.items ≡ from ∷ [] → (rooms_before (undos.Edit (record e { names = Kept stood })) r).names.places ≡ from ∷ []
+the_place_is_kept_again from e stood r is = is
 
-what_goes_back_needs_its_place : (m : MovedNames) → HasPlaceBack (Some m.from) (MovedTo m) ≡ (Some m.from ≡ Some m.from)
+what_goes_back_needs_its_place : (m : MovedNames) → HasPlaceBack (m.from ∷ []) (MovedTo m) ≡ ((m.from ∷ []) ≡ (m.from ∷ []))
 what_goes_back_needs_its_place m = refl
+
+-- behind two removals the second is taken back first, and the place of the first is kept still
+the_places_before_are_kept : (first second : Path) (r : RemovedNames) → places_before (RemovedFrom r) (first ∷ second ∷ []) ≡ first ∷ []
+the_places_before_are_kept first second r = refl
 
 a_move_wants_no_copy : (from to : Path) → wants_copy (Rename from to) ≡ false
 a_move_wants_no_copy from to = refl

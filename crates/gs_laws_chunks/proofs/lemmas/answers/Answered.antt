@@ -37,7 +37,7 @@ use Rattle.gs_master_spec.specs.Replies.{client_cmp, later}
 use Rattle.gs_master_spec.specs.State.{State, Turn, is_failed, is_unopened, last_reply, unmoved}
 use Rattle.gs_master_spec.specs.Volatile.{Volatile, is_pending}
 use Rattle.gs_master_spec.specs.declared.reply.KeptReply.{KeptReply}
-use Rattle.gs_laws_moves.specs.answers.AtOnce.{AnswersAlone, KeepsBut, OneSays, SaysAlone, is_answered_at_once}
+use Rattle.gs_laws_moves.specs.answers.AtOnce.{AnswersAlone, KeepsBut, OneSays, SaysAlone}
 use Rattle.gs_laws_moves.proofs.lemmas.answers.AtOnce.{at_once}
 use Rattle.gs_laws_moves.specs.answers.Concerned.{AnswersOnly, IsConcerned, KeepsOn, RepliesTo, answered_by}
 use Rattle.gs_laws_moves.proofs.lemmas.answers.Concerning.{messages_concerned, ticks_concerned}
@@ -60,6 +60,7 @@ use Rattle.gs_world.specs.Runs.{Comes, Goes, RunsTo, Step, Takes}
 use Rattle.gs_world.specs.Sent.{Sent}
 use Rattle.gs_laws_lift.proofs.lemmas.stores.Posting.{posted_all, sent_then}
 use Rattle.gs_laws_lift.specs.stores.Going.{AllSent, Posts}
+use Rattle.gs_laws_chunks.specs.answers.Alone.{IsAnsweredAlone, LoneAnswersAreMade}
 use Rattle.gs_laws_chunks.specs.answers.Answered.{AnswersAreMade, AsksFresh, Passes, SaidBy, SaysNow, WasSaid, sent_by, spares_master}
 use Rattle.gs_laws_chunks.specs.answers.Asked.{AreAsked, HasAsked, KeepsOfAt, SaysOf}
 use Rattle.gs_client.specs.Nodes.{pushes, with_bytes}
@@ -322,9 +323,9 @@ module _ (req : ReqId) (call : Call) where
         by_replies (Some a) (Some o) in_durable in_memory h = by_later (nat_lt a.number o.number) a o in_durable in_memory h
 
     module _ (anyway : IsAnyway Then) where
-      taken_own : (config : Config) (s : State) (moment : Moment) (how : Numbered) → is_answered_at_once call ≡ true → numbered (last_reply s req.client) req.number ≡ how → is_pending s.volatile.pending req ≡ false → StateSo Made s
+      taken_own : (config : Config) (s : State) (moment : Moment) (how : Numbered) → IsAnsweredAlone call → numbered (last_reply s req.client) req.number ≡ how → is_pending s.volatile.pending req ≡ false → StateSo Made s
           → Now s (taken_as config s req moment call how) → Own s (taken_as config s req moment call how)
-      taken_own config s moment New once is apart so now = (let alone = at_once config s req moment call once in alone_own alone.0 s (new_call config s req moment call) alone.1 so (now apart is))
+      taken_own config s moment New once is apart so now = (let alone = once config s req moment in alone_own alone.0 s (new_call config s req moment call) alone.1 so (now apart is))
       taken_own config s moment (Again result) once is apart so now = replied s result so (again_kept s result so is)
       taken_own config s moment Older once is apart so now = replied s (Err refusals.Old) so anyway.0
 
@@ -335,7 +336,7 @@ module _ (req : ReqId) (call : Call) where
           by_fault true = replied s (Err refusals.Device) so anyway.1
           by_fault false = (state_more s so, tt)
 
-      pub call_own : (config : Config) (s : State) (moment : Moment) → is_answered_at_once call ≡ true → StateSo Made s → Now s (call_turn config s req moment call) → Own s (call_turn config s req moment call)
+      pub call_own : (config : Config) (s : State) (moment : Moment) → IsAnsweredAlone call → StateSo Made s → Now s (call_turn config s req moment call) → Own s (call_turn config s req moment call)
       call_own config s moment once so now = by_opened (is_unopened s.fault) now
         where
           taken : Turn
@@ -351,11 +352,11 @@ module _ (req : ReqId) (call : Call) where
           by_opened false now = by_waits (is_pending s.volatile.pending req) refl now
 
       -- one record at most
-      call_few : (config : Config) (s : State) (moment : Moment) → is_answered_at_once call ≡ true → length (call_turn config s req moment call).records ≤ 1
+      call_few : (config : Config) (s : State) (moment : Moment) → IsAnsweredAlone call → length (call_turn config s req moment call).records ≤ 1
       call_few config s moment once = by_opened (is_unopened s.fault)
         where
           by_how : (how : Numbered) → length (taken_as config s req moment call how).records ≤ 1
-          by_how New = (at_once config s req moment call once).1.few
+          by_how New = (once config s req moment).1.few
           by_how (Again result) = omega arith
           by_how Older = omega arith
 
@@ -445,7 +446,7 @@ module _ (req : ReqId) (call : Call) where
         unfolding handle
         is_call_turn config s message moment asks from = ap (λ (b : Body). from_node config s moment b message.from) asks ∙ ap (λ (n : NodeId). from_node config s moment (bodies.Call req call) n) from
 
-        own_hears : (message : Message) (moment : Moment) (m after : MasterOf D) (turn : Told_turn) → is_answered_at_once call ≡ true → message.body ≡ bodies.Call req call → message.from ≡ nodes.Client req.client → StateSo Made m.state → Told_now m turn
+        own_hears : (message : Message) (moment : Moment) (m after : MasterOf D) (turn : Told_turn) → IsAnsweredAlone call → message.body ≡ bodies.Call req call → message.from ≡ nodes.Client req.client → StateSo Made m.state → Told_now m turn
             → MasterAnswers seen failures (caller_of message.body) (handle m.config m.state message moment) m (Ok turn) after → Left (Standing after) turn.sent.items
         own_hears message moment m after turn once asks from so now answers =
             own_left (call_turn m.config m.state req moment call) m after turn so (call_own m.config m.state moment once so) (call_few m.config m.state moment once) now
@@ -473,7 +474,7 @@ module _ (req : ReqId) (call : Call) where
         hears_other message moment m after turn body is none so answers =
             answers_other (caller_of message.body) (handle m.config m.state message moment) m after turn (messages_concerned m.config m.state message moment) so (other_caller message.body (λ r c there same. none r c (sym is ∙ there))) answers
 
-        hears_one : (message : Message) (moment : Moment) (m after : MasterOf D) (turn : Told_turn) (body : Body) → message.body ≡ body → is_answered_at_once call ≡ true → Says Made body → SaysOf (λ r. Unit {0}) message.from body → StateSo Made m.state
+        hears_one : (message : Message) (moment : Moment) (m after : MasterOf D) (turn : Told_turn) (body : Body) → message.body ≡ body → IsAnsweredAlone call → Says Made body → SaysOf (λ r. Unit {0}) message.from body → StateSo Made m.state
             → ((asks : message.body ≡ bodies.Call req call) (from : message.from ≡ nodes.Client req.client) → Told_now m turn) → MasterAnswers seen failures (caller_of message.body) (handle m.config m.state message moment) m (Ok turn) after → Left (Standing after) turn.sent.items
         hears_one message moment m after turn (bodies.Call other calls) is once says of so now answers = elim (same_call other) [
           | inl same ↦
@@ -497,7 +498,7 @@ module _ (req : ReqId) (call : Call) where
         hears_one message moment m after turn (bodies.Learned epoch handles) is once says of so now answers = hears_other message moment m after turn (bodies.Learned epoch handles) is (λ r c there. absurd cc) so answers
         hears_one message moment m after turn (bodies.Behind epoch) is once says of so now answers = hears_other message moment m after turn (bodies.Behind epoch) is (λ r c there. absurd cc) so answers
 
-        pub hears_so : (message : Message) (moment : Moment) (old new : MasterPlace D) (turn : Told_turn) → is_answered_at_once call ≡ true → Says Made message.body → SaysOf (λ r. Unit {0}) message.from message.body → PlaceSo Made old
+        pub hears_so : (message : Message) (moment : Moment) (old new : MasterPlace D) (turn : Told_turn) → IsAnsweredAlone call → Says Made message.body → SaysOf (λ r. Unit {0}) message.from message.body → PlaceSo Made old
             → ((m : MasterOf D) → old ≡ Standing m → message.body ≡ bodies.Call req call → message.from ≡ nodes.Client req.client → Told_now m turn) → MasterHears seen failures message moment old (Ok turn) new → Left new turn.sent.items
         hears_so message moment (Standing m) new turn once says of so now (after, is, answers) =
             let left = hears_one message moment m after turn message.body refl once says of so (now m refl) answers in (subst (PlaceSo Then) (sym is) left.0, left.1)
@@ -586,7 +587,7 @@ module _ (req : ReqId) (call : Call) where
   request_says Then other (requests.Write handle members primary stamp op bytes) same = both_say Then (pushes other (with_bytes members op) bytes) _ (pushed_says Then other (with_bytes members op) bytes) (tt, tt)
   request_says Then other (requests.Fetch to handle stamp epoch asked) same = (tt, tt)
 
-  module _ {D : Type 0} (seen : D → List ℕ) (failures : D → ℕ) (armed : DiskId → ℕ → MasterPlace D → MasterPlace D) (once : is_answered_at_once call ≡ true) where
+  module _ {D : Type 0} (seen : D → List ℕ) (failures : D → ℕ) (armed : DiskId → ℕ → MasterPlace D → MasterPlace D) (once : IsAnsweredAlone call) where
     module _ (Made Then : Result Answer Refusal → Type 0) (more : (result : Result Answer Refusal) → Made result → Then result) (anyway : IsAnyway Then) (Given : Type 0) (given : Given → (refusal : Refusal) → Then (Err refusal)) (old : History D) (refused : AllSent (λ (m : Message). RefusesIf req Given m.body) old.sent)
         (f : Follows Made old) (moment : Moment) (happening : Happening) (outcome : Upshot) (now : (result : Result Answer Refusal) → SaysNow old (record { moment = moment; happening = happening }) outcome req call result → Then result) where
       at_master : (place : MasterPlace D) (new : Nodes D) (messages : List Message) → new ≡ with_master place old.nodes → sent_by outcome ≡ messages → PlaceSo req call Then place × AllSays req call Then messages → AllSaid Any messages → Leaves Then outcome new
@@ -1001,7 +1002,7 @@ module _ {D : Type 0} (seen : D → List ℕ) (failures : D → ℕ) (armed : Di
   Such h = Passes seen failures armed h steps asked new runs
 
   pub says_are_made : (Given : Type 0) (Spared : Refusal → Type 0) → Spared refusals.Old × Spared refusals.Device × Spared refusals.Unsure → (Given → (refusal : Refusal) → Spared refusal) → AllSent (λ (m : Message). RefusesIf req Given m.body) asked.sent
-      → ((h : History D) → Such h → AllSent (λ (m : Message). RefusesIf req Given m.body) h.sent) → AreAsked seen old → AsksFresh seen failures armed old moment req call asked → is_answered_at_once call ≡ true → AllByRecursion (λ step. spares_master step ≡ true) steps
+      → ((h : History D) → Such h → AllSent (λ (m : Message). RefusesIf req Given m.body) h.sent) → AreAsked seen old → AsksFresh seen failures armed old moment req call asked → IsAnsweredAlone call → AllByRecursion (λ step. spares_master step ≡ true) steps
       → (node : Node) (result : Result Answer Refusal) → client_in new.nodes.clients req.client ≡ Some node → node.last ≡ req.number → node.reply ≡ Some (answered replies.Answer result)
       → SparedIn Spared result ⊎ ((made : WasSaid seen failures armed steps asked new req call result) × SaidBy seen failures armed Such steps asked new req call result made)
   says_are_made Given Spared spared given here fine are fresh once spares node result there last reply =
@@ -1024,9 +1025,14 @@ any_refuses req (bodies.Epoch epoch end) = tt
 any_refuses req (bodies.Learned epoch handles) = tt
 any_refuses req (bodies.Behind epoch) = tt
 
-pub answers_are_made : {D : Type 0} (seen : D → List ℕ) (failures : D → ℕ) (armed : DiskId → ℕ → MasterPlace D → MasterPlace D) → AnswersAreMade seen failures armed
-answers_are_made {D} seen failures armed old asked new moment req call steps node answer are fresh once runs spares there last reply =
+-- of each call that is answered by itself
+pub lone_answers_are_made : {D : Type 0} (seen : D → List ℕ) (failures : D → ℕ) (armed : DiskId → ℕ → MasterPlace D → MasterPlace D) → LoneAnswersAreMade seen failures armed
+lone_answers_are_made {D} seen failures armed old asked new moment req call steps node answer are fresh once runs spares there last reply =
     elim (says_are_made seen failures armed old asked new moment req call steps runs (Unit {0}) (λ refusal. Unit {0}) (tt, tt, tt) (λ given refusal. tt) (λ id m was. any_refuses req m.body) (λ h such id m was. any_refuses req m.body) are fresh once spares node (Ok answer) there last reply) [
       | inl never ↦ absurd never
       | inr made ↦ made
     ]
+
+pub answers_are_made : {D : Type 0} (seen : D → List ℕ) (failures : D → ℕ) (armed : DiskId → ℕ → MasterPlace D → MasterPlace D) → AnswersAreMade seen failures armed
+answers_are_made seen failures armed old asked new moment req call steps node answer are fresh once runs spares there last reply =
+    lone_answers_are_made seen failures armed old asked new moment req call steps node answer are fresh (λ config s other now. at_once config s other now call once) runs spares there last reply

@@ -225,11 +225,11 @@ module _ (config : Config) (s : State) (moment : Moment) (failed : is_failed s.f
 
 -- ---- what begins a prepare
 
-abbrev is_begin : Body → Bool
+abbrev pub is_begin : Body → Bool
 is_begin (bodies.Call req calls.PrepareBegin) = true
 is_begin body = false
 
-begin_is : (body : Body) → is_begin body ≡ true → (req : ReqId) × (body ≡ bodies.Call req calls.PrepareBegin)
+pub begin_is : (body : Body) → is_begin body ≡ true → (req : ReqId) × (body ≡ bodies.Call req calls.PrepareBegin)
 begin_is (bodies.Call req calls.PrepareBegin) is = (req, refl)
 begin_is body is = absurd (false≢true is)
 
@@ -272,7 +272,7 @@ module _ (config : Config) (s : State) (moment : Moment) (client : ClientId) (nu
 
 module _ (d : Durable) (client : ClientId) (number : ℕ) (config : Config) (s : State) (so : StandsStill d client number s) where
   -- a message
-  handle_calm : (message : Message) (moment : Moment) → IsOldOrLooks client number message.body → (is_failed s.fault ≡ false → EndsOnce config (IsMadeWellFor config (said_from message.from message.body)) s (handle config s message moment)) → IsCalm s → IsCalm (handle config s message moment).after
+  pub handle_calm : (message : Message) (moment : Moment) → IsOldOrLooks client number message.body → (is_failed s.fault ≡ false → EndsOnce config (IsMadeWellFor config (said_from message.from message.body)) s (handle config s message moment)) → IsCalm s → IsCalm (handle config s message moment).after
   handle_calm message moment says once (inl failed) = inl (message_fails config s moment failed message)
   handle_calm message moment says once (inr calm) = by_fault (is_failed s.fault) refl
     where
@@ -292,8 +292,19 @@ module _ (d : Durable) (client : ClientId) (number : ℕ) (config : Config) (s :
       by_fault true is = inl (message_fails config s moment is message)
       by_fault false is = inr (by_begin (is_begin message.body) refl is)
 
+-- a message that begins no prepare
+pub unbegun_calm : (config : Config) (s : State) (message : Message) (moment : Moment) → is_begin message.body ≡ false → (is_failed s.fault ≡ false → EndsOnce config (IsMadeWellFor config (said_from message.from message.body)) s (handle config s message moment)) → IsCalm s
+    → IsCalm (handle config s message moment).after
+unbegun_calm config s message moment none once (inl failed) = inl (message_fails config s moment failed message)
+unbegun_calm config s message moment none once (inr calm) = by_fault (is_failed s.fault) refl
+  where
+    by_fault : (b : Bool) → is_failed s.fault ≡ b → IsCalm (handle config s message moment).after
+    by_fault true is = inl (message_fails config s moment is message)
+    by_fault false is =
+        inr (once_calm config (said_from message.from message.body) (λ from req heard. false≢true (sym none ∙ ap is_begin (said_is message.from message.body from req calls.PrepareBegin heard))) s (handle config s message moment) (once is) calm)
+
 -- a tick, and one without the checkpoint that is due
-tick_calm : (config : Config) (s : State) (moment : Moment) → (is_failed s.fault ≡ false → IsSteady s) → IsCalm s → IsCalm (tick s moment).after
+pub tick_calm : (config : Config) (s : State) (moment : Moment) → (is_failed s.fault ≡ false → IsSteady s) → IsCalm s → IsCalm (tick s moment).after
 tick_calm config s moment steady (inl failed) = inl (tick_fails config s moment failed)
 tick_calm config s moment steady (inr calm) = by_fault (is_failed s.fault) refl
   where
@@ -304,7 +315,7 @@ tick_calm config s moment steady (inr calm) = by_fault (is_failed s.fault) refl
     by_fault true is = inl (tick_fails config s moment is)
     by_fault false is = inr (once_calm config None none s (tick s moment) (events_stand_for config s (TicksAt moment) tt tt (steady is)) calm)
 
-lacking_calm : (config : Config) (s : State) (moment : Moment) → is_failed s.fault ≡ false → (is_failed s.fault ≡ false → IsSteady s) → IsCalm s → IsCalm (lacking (pressed_all s moment)).after
+pub lacking_calm : (config : Config) (s : State) (moment : Moment) → is_failed s.fault ≡ false → (is_failed s.fault ≡ false → IsSteady s) → IsCalm s → IsCalm (lacking (pressed_all s moment)).after
 lacking_calm config s moment sound steady (inl failed) = absurd (false≢true (sym sound ∙ failed))
 lacking_calm config s moment sound steady (inr calm) = inr (once_calm config None none s (pressed_all s moment) (steps_stand_for config s moment (steady sound)) calm)
   where

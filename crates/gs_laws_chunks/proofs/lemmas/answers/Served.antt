@@ -18,6 +18,7 @@ use Rattle.gs_laws_chunks.proofs.lemmas.answers.Replied.{run_replied}
 use Rattle.gs_laws_chunks.proofs.lemmas.answers.Sparing.{AllSpare, asked_spared, lasts_spared}
 use Rattle.gs_laws_chunks.proofs.lemmas.calls.Arming.{unarmed_alone}
 use Rattle.gs_laws_chunks.proofs.lemmas.calls.Runs.{arming, posts}
+use Rattle.gs_laws_chunks.specs.answers.Alone.{IsAnsweredAlone, LoneCallsAreForTheMaster, LoneRefusalsAreMade}
 use Rattle.gs_laws_chunks.specs.answers.Answered.{AsksFresh, Passes, sent_by, spares_master}
 use Rattle.gs_laws_chunks.specs.answers.Asked.{AreAsked, HasAsked}
 use Rattle.gs_laws_chunks.specs.answers.Behind.{asks_call}
@@ -37,7 +38,7 @@ use Rattle.gs_laws_lift.specs.stores.Going.{AllSent, Beats, Damages, Elsewhere, 
 use Rattle.gs_laws_lift.specs.stores.Left.{as_left}
 use Rattle.gs_laws_lift.specs.stores.Waiting.{AllWaitFor, OutboxAsks, WaitsFor}
 use Rattle.gs_laws_lift.specs.stores.Saying.{AreOfClient, AreOfMaster, IsOfClient, IsOfMaster}
-use Rattle.gs_laws_moves.specs.answers.AtOnce.{is_answered_at_once}
+use Rattle.gs_laws_moves.proofs.lemmas.answers.AtOnce.{at_once}
 use Rattle.gs_laws_parts.proofs.lemmas.server.Elsewhere.{ByServer}
 use Rattle.gs_laws_parts.specs.server.Answering.{IsByServer}
 use Rattle.gs_laws_server.proofs.lemmas.refusals.Telling.{quiet_ticks, tells_refusals}
@@ -421,7 +422,7 @@ module _ {D : Type 0} (seen : D → List ℕ) (failures : D → ℕ) (armed : Di
     none_told h a reply of w = says_none reply of w.message.body w.says (a.sent w.was.0 w.message w.was.1)
 
     -- where it is asked
-    module _ (call : Call) (once : is_answered_at_once call ≡ true) (old asked : History D) (moment : Moment) (are : AreAsked seen old) (served : AreServed old) (types : KeepsTypes old) (lasts : LastsThrough seen old.nodes.master) (x : AsksFresh seen failures armed old moment req call asked)
+    module _ (call : Call) (once : IsAnsweredAlone call) (old asked : History D) (moment : Moment) (are : AreAsked seen old) (served : AreServed old) (types : KeepsTypes old) (lasts : LastsThrough seen old.nodes.master) (x : AsksFresh seen failures armed old moment req call asked)
         (within : IsStepWithin (Comes (asks_at moment req (requests.Call call)))) where
       abbrev ask : Step
       ask = Comes (asks_at moment req (requests.Call call))
@@ -465,18 +466,27 @@ module _ {D : Type 0} (seen : D → List ℕ) (failures : D → ℕ) (armed : Di
         waits = step_waits (HasAsked old.nodes.clients) NotIt none_asked ask old asked goes within types served.sent served.waits;
       }
 
-  pub refusals_are_made : RefusalsAreMade seen failures armed
-  refusals_are_made old asked new moment req call steps node refusal are served types lasts fresh once runs spare within there last reply =
+  -- of each call that is answered by itself
+  pub lone_refusals_are_made : LoneRefusalsAreMade seen failures armed
+  lone_refusals_are_made old asked new moment req call steps node refusal are served types lasts fresh once runs spare within there last reply =
       let first = apart_first req call once old asked moment are served types lasts fresh within.0 in
       says_are_made seen failures armed old asked new moment req call steps runs ⊥ (λ e. IsUnjudged e) (inl refl, inr (inl refl), inr (inr refl)) (λ none e. absurd none) (λ id m was. refuses_none req m.body (first.sent id m was))
       (λ h such id m was. refuses_none req m.body ((passes_apart req steps asked new runs spare within.1 first h such).sent id m was)) are fresh once spare node (Err refusal) there last reply
 
-  pub calls_are_for_the_master : CallsAreForTheMaster seen failures armed
-  calls_are_for_the_master old asked new moment req call steps node reply are served replied types lasts fresh once runs spare within there last has of =
+  pub lone_calls_are_for_the_master : LoneCallsAreForTheMaster seen failures armed
+  lone_calls_are_for_the_master old asked new moment req call steps node reply are served replied types lasts fresh once runs spare within there last has of =
       let end = run_apart req steps asked new runs spare within.1 (apart_first req call once old asked moment are served types lasts fresh within.0) in
       let told = run_replied seen failures armed (asks_call moment req call ∷ steps) old new (asked, (Ok tt, fresh.happens), runs) replied in
       let its : ◌≡◌ {A = ReqId} (record { client = req.client; number = node.last }) req = λ i. record { client = req.client; number = last i } in
       none_told req new end reply of (subst (λ r. WasReplied new.sent r reply) its (told.replied req.client node reply there has))
+
+  pub refusals_are_made : RefusalsAreMade seen failures armed
+  refusals_are_made old asked new moment req call steps node refusal are served types lasts fresh once runs spare within there last reply =
+      lone_refusals_are_made old asked new moment req call steps node refusal are served types lasts fresh (λ config s other now. at_once config s other now call once) runs spare within there last reply
+
+  pub calls_are_for_the_master : CallsAreForTheMaster seen failures armed
+  calls_are_for_the_master old asked new moment req call steps node reply are served replied types lasts fresh once runs spare within there last has of =
+      lone_calls_are_for_the_master old asked new moment req call steps node reply are served replied types lasts fresh (λ config s other now. at_once config s other now call once) runs spare within there last has of
 
 -- ---- a new store, and what a script leaves
 

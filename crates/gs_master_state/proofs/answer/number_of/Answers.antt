@@ -1,5 +1,4 @@
 use Rattle.std.proofs.Common.{arith}
-use Rattle.std.specs.Char.{digit_value}
 use Rattle.gs_master_state.proofs.Digits.{all_read, too_many}
 use Rattle.gs_master_state.proofs.answer.number_of.Goals as goal
 

@@ -1,5 +1,4 @@
-use Rattle.std.proofs.Common.{refl}
-use Rattle.std.specs.Prelude.{Some}
+use Rattle.std.proofs.Common.{[], ◌∷◌, refl}
 use Rattle.gs_master_state.specs.inner.Held.{without_kept}
 use Rattle.gs_master_state.proofs.Holding.{none_refuses, refused_told}
 use Rattle.gs_master_state.proofs.Keeping.{closed_at, returned_home}
@@ -15,7 +14,7 @@ returns-in-Err-clause-stays c = (c.in-Err.ensures.edit c.requires c.move_keeping
 
 pub returns-clause-judged : goal.returns-clause-judged
 returns-clause-judged c =
-    let after = without_kept (Some c.in-Moved.from) c.move_keeping_place.new.self in
+    let after = without_kept (c.in-Moved.from ∷ []) c.move_keeping_place.new.self in
     none_refuses c.args.edit.now c.args.names.now after (c.in-Ok.ensures.edit c.requires after (closed_at c.in-Ok.inverse c.in-Moved.from c.in-Moved.to c.in-Moved.from c.move_keeping_place.new.self c.in-Moved.is refl c.in-Ok.ensures.place))
 
 pub returns-clause-stays : goal.returns-clause-stays

@@ -1,4 +1,4 @@
-use Rattle.std.proofs.Common.{◌≡◌, ◌∷◌, ◌+◌, ◌-◌, ◌∙◌, arith, ap, drop, map}
+use Rattle.std.proofs.Common.{◌≡◌, ◌∷◌, ◌+◌, ◌∙◌, arith, ap, drop, map}
 use Rattle.std.specs.Prelude.{is_some}
 use Rattle.gs_master_record.specs.Plain.{plain}
 use Rattle.gs_master_spec.specs.State.{size_of, size_of_all}

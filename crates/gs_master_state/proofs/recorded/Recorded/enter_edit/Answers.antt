@@ -4,7 +4,7 @@ use Rattle.gs_base_table.specs.Slots.{live}
 use Rattle.gs_master_spec.specs.Durable.{Durable}
 use Rattle.gs_master_state.specs.inner.Recorded.{KeepsRooms, durable_of, inverses_and}
 use Rattle.gs_master_spec.specs.Replies.{client_cmp}
-use Rattle.gs_master_state.specs.inner.TakingBack.{AreItemsBefore, AreNamesBefore, HasPlaceBack}
+use Rattle.gs_master_state.specs.inner.TakingBack.{AreItemsBefore, AreNamesBefore, HasPlaceBack, places_before}
 use Rattle.gs_master_state.specs.declared.recorded.Recorded.{Recorded}
 use Rattle.gs_master_state.proofs.Before.{edit_before, room_for_chunks_stays}
 use Rattle.gs_master_state.proofs.Edits.{edit_refused, edited_gives, may_not, names_after, names_left}
@@ -32,7 +32,7 @@ returns-clause-back c =
     let left = c.enter_forgotten_each.new.self in
     let now : Recorded = record left { next_hidden = c.next_behind-self.result; replies = c.enter_answer-reply.new.replies; inverses = c.enter_inverse-keeps_inverse.new.inverses } in
     let forgotten = c.enter_forgotten_each.new.before.items in
-    let replied : KeepsRooms left now = record { leases = record { keeps = λ key room. room }; replies = c.enter_answer-reply.ensures.keeps; prepared = record { keeps = λ key room. room }; place = refl } in
+    let replied : KeepsRooms left now = record { leases = record { keeps = λ key room. room }; replies = c.enter_answer-reply.ensures.keeps; prepared = record { keeps = λ key room. room }; places = refl } in
     let same_names = ap (λ (d : Durable). d.names) c.enter_forgotten_each.ensures.value ∙ names_left (durable_of (record c.args.self.now { names = c.enter_names.new.names })) c.forgotten_by-chunks.result.now in
     record {
       value = record {
@@ -46,12 +46,12 @@ returns-clause-back c =
       room = (
         c.enter_answer-reply.ensures.room,
         room_for_chunks_stays left now forgotten c.enter_forgotten_each.ensures.room replied,
-        subst (λ o. HasPlaceBack o c.in-Ok.before) (sym c.enter_forgotten_each.ensures.keeps.place) c.in-Ok.ensures.place.1,
+        subst (λ o. HasPlaceBack o c.in-Ok.before) (sym c.enter_forgotten_each.ensures.keeps.places) c.in-Ok.ensures.places.1,
       );
       keeps = record {
         leases = c.enter_forgotten_each.ensures.keeps.leases;
         replies = record { keeps = λ key room. c.enter_answer-reply.ensures.keeps.keeps key (c.enter_forgotten_each.ensures.keeps.replies.keeps key room) };
         prepared = c.enter_forgotten_each.ensures.keeps.prepared;
-        place = sym c.in-Ok.ensures.place.0;
+        places = ap (places_before c.in-Ok.before) c.enter_forgotten_each.ensures.keeps.places ∙ sym c.in-Ok.ensures.places.0;
       };
     }

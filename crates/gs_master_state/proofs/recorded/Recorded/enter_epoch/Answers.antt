@@ -14,5 +14,5 @@ returns-clause-back c =
           (ap (λ v. map plain_inverse v.items) c.exchange_kept-kept.ensures.inverses) (ap (live nat_cmp) c.exchange_kept-kept.ensures.prepared);
       leases = ap (live nat_cmp) (sym c.end_epoch.ensures.leases);
       room = tt;
-      keeps = record { leases = same_rooms _ _ c.end_epoch.ensures.leases; replies = same_rooms _ _ c.end_epoch.ensures.replies; prepared = same_rooms _ _ (c.exchange_kept-kept.ensures.prepared ∙ c.end_epoch.ensures.prepared); place = ap (λ (v : HeldView). v.place) c.end_epoch.ensures.names };
+      keeps = record { leases = same_rooms _ _ c.end_epoch.ensures.leases; replies = same_rooms _ _ c.end_epoch.ensures.replies; prepared = same_rooms _ _ (c.exchange_kept-kept.ensures.prepared ∙ c.end_epoch.ensures.prepared); places = ap (λ (v : HeldView). v.places) c.end_epoch.ensures.names };
     }

@@ -36,5 +36,5 @@ returns-clause-keeps c = record {
   leases = same_room _ _ _ c.keep_prepared.ensures.leases c.take-lease.ensures.keeps;
   replies = same_replies_room _ _ c.keep_prepared.ensures.replies;
   prepared = c.keep_prepared.ensures.room;
-  place = ap (λ (v : HeldView). v.place) c.keep_prepared.ensures.names;
+  places = ap (λ (v : HeldView). v.places) c.keep_prepared.ensures.names;
 }

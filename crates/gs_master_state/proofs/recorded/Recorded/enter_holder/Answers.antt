@@ -15,5 +15,5 @@ returns-clause-back c =
       value = λ i. record (durable_of c.args.self.now) { prepared = exchanged nat_cmp_total fin.nat_cmp-IsAntisymmetric _ _ c.args.chunk _ _ c.exchange-before.ensures.value c.exchange-before.ensures.put i };
       leases = refl;
       room = room_at nat_cmp _ c.args.chunk c.exchange-before.result (c.exchange-before.ensures.keeps.keeps c.args.chunk room);
-      keeps = record { leases = record { keeps = λ key has. has }; replies = record { keeps = λ key has. has }; prepared = c.exchange-before.ensures.keeps; place = refl };
+      keeps = record { leases = record { keeps = λ key has. has }; replies = record { keeps = λ key has. has }; prepared = c.exchange-before.ensures.keeps; places = refl };
     }

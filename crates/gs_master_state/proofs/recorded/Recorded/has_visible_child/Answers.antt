@@ -1,5 +1,3 @@
-use Rattle.std.specs.FinMap as fin
-use Rattle.gs_master_spec.specs.Calls.{has_visible_child}
 use Rattle.gs_master_state.proofs.Listed.{has_visible_is}
 use Rattle.gs_master_state.proofs.recorded.Recorded.has_visible_child.Goals as goal
 

@@ -1,8 +1,6 @@
 use Rattle.std.proofs.Common.{ap, ◌∙◌}
 use Rattle.std.specs.Prelude.{Ok}
-use Rattle.std.specs.FinMap as fin
 use Rattle.gs_msg.specs.declared.answer.Answer.TheVariants as answers
-use Rattle.gs_master_spec.specs.Calls.{listing}
 use Rattle.gs_master_state.proofs.Listed.{listed_as}
 use Rattle.gs_master_state.proofs.recorded.Recorded.listing.Goals as goal
 

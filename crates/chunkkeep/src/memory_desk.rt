@@ -1,0 +1,76 @@
+// The desk of a store whose journal is in memory.
+ghost use Rattle.std.specs.Prelude.{◌&&◌, not, is_some};
+ghost use Rattle.gs_journal.specs.Memory.{bytes_of, times_failed};
+ghost use Rattle.gs_keep_desk.specs.Keeps.{MayAnswer, marks_are_none, other_lines_are_refused, other_lines_change_nothing};
+ghost use Rattle.gs_keep_desk.specs.Looks.{harms_line};
+ghost use Rattle.gs_shell_grammar.specs.Grammar.{line_request};
+
+use crate::fault::Fault;
+use gs_base::Config;
+use gs_journal::MemoryDisk;
+use gs_keep::Keeping;
+use gs_keep_desk::{KeptDesk, LookingDesk};
+use gs_nodes::empty_disks;
+use gs_shell_desk::Desk;
+use gs_shell_script::Answering;
+use std::alloc::{AllocError, Global};
+
+/// A kept desk whose journal is in memory, which answers all. It is a type without parameters: the checker takes no other for what
+/// is made by a start.
+pub(crate) struct MemoryDesk {
+    desk: KeptDesk<MemoryDisk>,
+}
+
+impl Drop for MemoryDesk {
+    fn drop(self) {
+        let Self { desk: _ } = self;
+    }
+}
+
+impl MemoryDesk {
+    /// That of a new store.
+    pub(crate) fn new(alloc: Global, config: Config, is_lab: bool) -> Result<MemoryDesk, Fault> {
+        match Desk::new(alloc, config, empty_disks(alloc)) {
+            Ok(desk) => Ok(MemoryDesk {
+                desk: KeptDesk::new(desk, is_lab),
+            }),
+            Err(_) => Err(Fault::Memory),
+        }
+    }
+
+    /// What it has come to is only looked at from now on.
+    pub(crate) fn looking(self) -> LookingDesk<MemoryDisk> {
+        let Self { desk } = self;
+        desk.looking()
+    }
+}
+
+impl Answering for MemoryDesk {
+    ghost Answers = { λ old line text new. MayAnswer bytes_of times_failed old.desk line text new.desk };
+
+    fn answer(&mut self, alloc: Global, line: &[u8]) -> Result<String, AllocError> {
+        self.desk.answer(alloc, line)
+    }
+}
+
+impl Keeping for MemoryDesk {
+    ghost use Rattle.std.proofs.Common.{ap};
+
+    ghost is_kept = { λ line. is_some (line_request line) };
+
+    ghost is_turned_away = { λ desk line. not desk.desk.is_lab && harms_line line };
+
+    ghost changes_nothing = { λ old new line text other may. ap (λ d. record { desk = d }) (other_lines_change_nothing bytes_of times_failed old.desk new.desk line text other may) };
+
+    ghost is_refused = { λ old new line text. other_lines_are_refused bytes_of times_failed old.desk new.desk line text };
+
+    ghost marks_are_none = { λ line. marks_are_none line };
+
+    fn keeps(&self, alloc: Global, line: &[u8]) -> Result<bool, AllocError> {
+        self.desk.keeps(alloc, line)
+    }
+
+    fn turns_away(&self, alloc: Global, line: &[u8]) -> Result<bool, AllocError> {
+        self.desk.turns_away(alloc, line)
+    }
+}

@@ -1,0 +1,5 @@
+pub mod Encoding
+pub mod Writable
+pub mod Reading
+pub mod Work
+pub mod Laws
