@@ -161,3 +161,7 @@ a_touched_block_needs_no_copy = refl
 none_behind_the_sealed : (missing (record { long = 4; digests = [] ∷ []; blocks = None ∷ [] }) overwritten 4 9).copies ≡ []
 unfolding missing missing_at block_before count_of
 none_behind_the_sealed = refl
+
+-- the last block of 6 bytes is short, and so is its image
+an_image_of_the_last_block : IsImage (min 4 (6 - 1 * 4)) (Some (5 ∷ 6 ∷ []))
+an_image_of_the_last_block = refl

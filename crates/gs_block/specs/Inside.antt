@@ -1,7 +1,8 @@
 -- What the bodies of this crate speak of among themselves: no public contract rests on it.
-use Rattle.std.specs.Prelude.{◌≡◌, ℕ, ◌+◌, ◌-◌, ◌/◌, cond, nat_le, min, List, [], ◌∷◌, ◌++◌, length, take, drop, map, slice_index_or, Option, Some, None, refl}
+use Rattle.std.specs.Prelude.{◌≡◌, ℕ, ◌+◌, ◌-◌, ◌*◌, ◌/◌, ◌<◌, cond, nat_le, min, List, [], ◌∷◌, ◌++◌, length, take, drop, map, slice_index_or, Option, Some, None, refl}
 use Rattle.std.specs.List.{range_with_len}
 use Rattle.gs_block.specs.Chunk.{written}
+use Rattle.gs_block.specs.Images.{IsImage}
 use Rattle.gs_block.specs.Inverses.{replaced}
 use Rattle.gs_block.specs.Stored.{count_of, digests_from}
 
@@ -25,6 +26,10 @@ kept_at images first copies k = cond (nat_le first k) (or_else (slice_index_or c
 
 abbrev pub kept_images : List (Option (List ℕ)) → ℕ → List (Option (List ℕ)) → List (Option (List ℕ))
 kept_images images first copies = map (kept_at images first copies) (range_with_len 0 (length images))
+
+-- each image is as long as its block was sealed
+abbrev pub AreWhole : List (Option (List ℕ)) → ℕ → ℕ → Type 0
+AreWhole images size long = (k : ℕ) → k < length images → IsImage (min size (long - k * size)) (slice_index_or images k None)
 
 -- the digests when a piece is written at an offset: those of the blocks that have a byte between the end of the bytes, or
 -- the offset where that is before, and the end of the piece are taken anew

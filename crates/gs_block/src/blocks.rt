@@ -1,4 +1,4 @@
-ghost use Rattle.std.specs.Prelude.{◌≡◌, ◌≤◌, ◌<◌, ◌+◌, ◌-◌, ◌/◌, ◌*◌, ◌↔◌, ◌==◌, ◌||◌, nat_le, IfOk, OnOk, IsTrue, replicate, false, length, take, drop, min, max, Ok};
+ghost use Rattle.std.specs.Prelude.{◌≡◌, ◌≤◌, ◌<◌, ◌+◌, ◌-◌, ◌/◌, ◌*◌, ◌↔◌, ◌==◌, ◌||◌, ◌&&◌, nat_le, IfOk, OnOk, IsTrue, replicate, false, length, take, drop, min, max, Ok};
 ghost use Rattle.gs_block.specs.Chunk.{written};
 ghost use Rattle.gs_block.specs.Stored.{Stored, IsStored, empty, digests_of, first_damaged, are_digests};
 ghost use Rattle.gs_block.specs.Edits.{changed, chunk_of, carried, copied, copied_bytes, is_outside, out_of_range, write, append, pad, read, digest, damage, damaged_between};
@@ -480,6 +480,13 @@ impl Blocks {
         }
     }
 
+    /// Whether the chunk is of these sizes.
+    pub fn has_sizes(&self, sizes: Sizes) -> bool
+        ensures { result ≡ ((self.now.block == sizes.block) && (self.now.chunk == sizes.chunk)) }
+    {
+        self.block as u64 == sizes.block && self.chunk as u64 == sizes.chunk
+    }
+
     /// The bytes of a block.
     pub(crate) fn block_size(&self) -> usize
         ensures size { result ≡ self.now.block }
@@ -496,8 +503,8 @@ impl Blocks {
         self.chunk as u64
     }
 
-    /// The stored bytes.
-    pub(crate) fn stored(&self) -> &[u8]
+    /// The stored bytes. No block is verified.
+    pub fn stored(&self) -> &[u8]
         ensures { result.now ≡ self.now.bytes }
     {
         &self.bytes

@@ -1,9 +1,9 @@
-ghost use Rattle.std.specs.Prelude.{true, [], ◌≡◌, ◌≤◌, ◌<◌, ◌+◌, ◌-◌, ◌*◌, List, ℕ, IfOk, length, map, min, not, replicate, is_some, Option, Some, None, slice_index_or};
+ghost use Rattle.std.specs.Prelude.{true, [], ◌≡◌, ◌↔◌, IsTrue, ◌≤◌, ◌<◌, ◌+◌, ◌-◌, ◌*◌, List, ℕ, IfOk, length, map, min, not, replicate, is_some, Option, Some, None, slice_index_or};
 ghost use Rattle.gs_block.specs.Stored.{Stored, count_of, is_intact, first_damaged};
 ghost use Rattle.sha2.specs.Sha256.{sha256};
 ghost use Rattle.gs_block.specs.Kept.{Outside};
 ghost use Rattle.gs_block.specs.Images.{Images, Missing, AreFirst, IsImage, touched, all_touched, covers, bytes_before, block_before, missing_of, copies_from, image_bytes, missing, UndoesTheSame, TouchesItsSpan, CoversItsInverse, StaysWhenUndone};
-ghost use Rattle.gs_block.specs.Inside.{image_or, put_image, or_else, kept_images};
+ghost use Rattle.gs_block.specs.Inside.{image_or, put_image, or_else, kept_images, AreWhole};
 
 use crate::blocks::Blocks;
 use crate::digests::{Digest, count_of, digest_of, is_same};
@@ -14,7 +14,7 @@ use std::marker::Model;
 
 /// The bytes of a block as they were sealed.
 #[derive(Debug, Drop)]
-pub(crate) struct Image {
+pub struct Image {
     bytes: Vec<u8>,
 }
 
@@ -24,6 +24,21 @@ impl Model for Image {
     ghost Value = { List ℕ };
 
     ghost view = { λ i. i.bytes.items };
+}
+
+impl Image {
+    /// An image of these bytes. It takes them as they are.
+    pub fn new(bytes: Vec<u8>) -> Image
+        ensures { result ≡ bytes.items }
+    {
+        Image { bytes }
+    }
+
+    pub fn bytes(&self) -> &[u8]
+        ensures { result.now ≡ self.now }
+    {
+        &self.bytes
+    }
 }
 
 /// What takes a chunk back to where it was sealed: its length and digests then, and the first image of each sealed block
@@ -60,6 +75,55 @@ impl Model for Missing {
 }
 
 impl Images {
+    /// Images of so many sealed bytes, with their digests as sealed and what images their blocks have. It takes all as it is.
+    pub fn of(alloc: Global, long: u64, digests: Vec<Digest>, blocks: Vec<Option<Image>>) -> Images
+        ensures { result ≡ record { long = long; digests = digests.items; blocks = blocks.items } }
+    {
+        Images {
+            alloc,
+            long: long as usize,
+            digests,
+            blocks,
+        }
+    }
+
+    /// How many bytes were sealed.
+    pub fn long(&self) -> u64
+        ensures { result ≡ self.now.long }
+    {
+        self.long as u64
+    }
+
+    /// The digests as sealed, one for each sealed block.
+    pub fn digests(&self) -> &[Digest]
+        ensures { result.now ≡ self.now.digests }
+    {
+        &self.digests
+    }
+
+    /// Of each sealed block its first image, where an edit has touched it since.
+    pub fn blocks(&self) -> &[Option<Image>]
+        ensures { result.now ≡ self.now.blocks }
+    {
+        &self.blocks
+    }
+
+    /// Whether the images are those of a chunk: it has at least the sealed bytes, as many digests and images are there as
+    /// sealed blocks, and each image is as long as its block was sealed. It takes no memory.
+    pub fn are_first(&self, blocks: &Blocks) -> bool
+        ensures { IsTrue result ↔ AreFirst self.now blocks.now }
+    {
+        let size = blocks.block_size();
+        if self.long as u64 > blocks.len() {
+            return false;
+        }
+        let count = count_of(size, self.long);
+        if self.digests.len() != count || self.blocks.len() != count {
+            return false;
+        }
+        are_whole(&self.blocks, size, self.long)
+    }
+
     /// Copies of the sealed blocks that have a byte from `start` on and below `end`, and no image yet.
     pub fn missing(&self, blocks: &Blocks, start: u64, end: u64) -> Result<Missing, AllocError>
         requires first { AreFirst self.now blocks.now }
@@ -151,6 +215,31 @@ fn held_bytes(images: &[Option<Image>], size: usize, long: usize) -> usize
         many += len_of(&images[index]);
     }
     many
+}
+
+/// Whether an image is as long as its block was sealed, if it is there.
+fn is_whole(image: &Option<Image>, many: usize) -> bool
+    ensures { IsTrue result ↔ IsImage many image.now }
+{
+    match image {
+        Some(image) => image.bytes.len() == many,
+        None => true,
+    }
+}
+
+/// Whether each image is as long as its block was sealed.
+fn are_whole(images: &[Option<Image>], size: usize, long: usize) -> bool
+    requires some { 1 ≤ size }
+    requires counted { length images.now ≡ count_of size long }
+    ensures { IsTrue result ↔ AreWhole images.now size long }
+{
+    for index in 0..images.len() {
+        let many = size.min(long - index * size);
+        if !is_whole(&images[index], many) {
+            return false;
+        }
+    }
+    true
 }
 
 /// Whether each sealed block from `first` on and below `last` has an image.

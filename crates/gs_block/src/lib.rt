@@ -12,6 +12,6 @@ mod sizes;
 
 pub use blocks::{BlockParts, Blocks};
 pub use digests::Digest;
-pub use images::{Images, Missing};
+pub use images::{Image, Images, Missing};
 pub use inverse::BlockInverse;
 pub use sizes::Sizes;

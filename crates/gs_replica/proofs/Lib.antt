@@ -1,4 +1,5 @@
 pub mod Tables
+pub mod Belonging
 pub mod Back
 pub mod Sealing
 pub mod Firsts

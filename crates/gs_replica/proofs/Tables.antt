@@ -53,3 +53,8 @@ decides_tables r es fs low high d = (λ h. ap (fin.from_entries {R = nat_cmp}) (
 -- entries that are not as many are others
 pub fewer_differ : {X : Type 0} (es fs : List (ℕ × X)) → length es ≢ length fs → Decides false (es ≡ fs)
 fewer_differ es fs few = (λ h. absurd (cc), λ h. absurd (few (ap length h)))
+
+-- they are what the map lists
+pub listed_table : {X : Type 0} (es : List (ℕ × X)) → IsStrictlySortedBy nat_cmp (map (λ e. e.0) es) → es ≡ fin.entries (fin.from_entries {R = nat_cmp} es)
+listed_table es low = same_entries nat_cmp nat_cmp_total fin.nat_cmp-IsAntisymmetric es (fin.entries (fin.from_entries {R = nat_cmp} es)) (sorted_tests es low) (fin.entries_sorted (fin.from_entries {R = nat_cmp} es))
+    (λ q. sym (fin.get-from_entries nat_cmp_total es q) ∙ fin.get-entries (fin.from_entries {R = nat_cmp} es) q)

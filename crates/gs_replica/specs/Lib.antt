@@ -6,6 +6,7 @@ pub mod Seals
 pub mod Copies
 pub mod Whole
 pub mod View
+pub mod Parts
 pub mod Stands
 pub mod Calls
 pub mod Promises

@@ -2,13 +2,14 @@ ghost use Rattle.std.specs.Prelude.{◌≡◌, ◌↔◌, IsTrue, IfOk, OnOk, On
 ghost use Rattle.std.specs.FinMap as fin;
 ghost use Rattle.gs_replica.specs.Undo.{entry_before};
 ghost use Rattle.gs_replica.specs.First.{done_before};
-ghost use Rattle.gs_replica.specs.Inside.{HasSealed};
+ghost use Rattle.gs_replica.specs.Inside.{HasSealed, has_one, has_each};
 
 use crate::first::FirstEntries;
 use crate::op::Done;
 use gs_base::ClientId;
 use std::alloc::{AllocError, Global};
 use std::collections::BTreeMap;
+use std::collections::btree_map::Iter;
 use std::marker::Model;
 
 /// The last applied request of each client that has one.
@@ -72,6 +73,13 @@ impl DoneTable {
         self.entries == other.entries
     }
 
+    /// Each client's last applied request, in the order of the clients.
+    pub fn iter(&self) -> Iter<'_, u32, Done>
+        ensures { result ≡ fin.entries self.entry.now }
+    {
+        self.entries.iter()
+    }
+
     /// A client's last applied request.
     pub fn get(&self, client: ClientId) -> Option<Done>
         ensures { result ≡ fin.get self.now client.0 }
@@ -111,6 +119,33 @@ impl DoneTable {
             }
             None => self.remove(client),
         }
+    }
+
+    /// Whether a client has a request, where it had one when a replica was sealed.
+    fn has_one(&self, client: u32, before: &Option<Done>) -> bool
+        ensures { result ≡ has_one self.now (client, before.now) }
+    {
+        before.is_none() || self.get(ClientId(client)).is_some()
+    }
+
+    /// Whether each client with a first entry has a request, where it had one when a replica was sealed.
+    fn has_each(&self, first: &FirstEntries) -> bool
+        ensures { result ≡ has_each first.now self.now }
+    {
+        for (client, before) in first.iter() {
+            if !self.has_one(*client, before) {
+                return false;
+            }
+        }
+        true
+    }
+
+    /// Whether these are first entries of the table: each client that had a request when it was sealed has one.
+    #[tactic(auto, using(crate::proofs::Belonging::decides_sealed))]
+    pub(crate) fn has_sealed(&self, first: &FirstEntries) -> bool
+        ensures { IsTrue result ↔ HasSealed first.now self.now }
+    {
+        self.has_each(first)
     }
 
     /// First entries of a replica as it stands: none yet.

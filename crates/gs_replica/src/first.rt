@@ -6,11 +6,12 @@ use crate::op::Done;
 use gs_base::ClientId;
 use std::alloc::{AllocError, Global};
 use std::collections::BTreeMap;
+use std::collections::btree_map::Iter;
 use std::marker::Model;
 
 /// Of each client that an edit has changed since a seal, its request as it was sealed, if it had one.
 #[derive(Debug, Drop)]
-pub(crate) struct FirstEntries {
+pub struct FirstEntries {
     entries: BTreeMap<u32, Option<Done>>,
 }
 
@@ -29,7 +30,7 @@ impl Model for FirstEntries {
 
 impl FirstEntries {
     /// No client is changed.
-    pub(crate) fn new(alloc: Global) -> FirstEntries
+    pub fn new(alloc: Global) -> FirstEntries
         ensures { result ≡ fin.empty }
     {
         FirstEntries {
@@ -46,6 +47,13 @@ impl FirstEntries {
         })
     }
 
+    /// Each client's first entry, in the order of the clients.
+    pub fn iter(&self) -> Iter<'_, u32, Option<Done>>
+        ensures { result ≡ fin.entries self.entry.now }
+    {
+        self.entries.iter()
+    }
+
     /// A client's first entry.
     fn get(&self, client: ClientId) -> Option<Option<Done>>
         ensures { result ≡ fin.get self.now client.0 }
@@ -54,7 +62,7 @@ impl FirstEntries {
     }
 
     /// Sets a client's first entry.
-    fn put(&mut self, client: ClientId, before: Option<Done>) -> Result<(), AllocError>
+    pub fn put(&mut self, client: ClientId, before: Option<Done>) -> Result<(), AllocError>
         ensures ok { OnOk result (self.new ≡ fin.insert self.old client.0 before) }
         ensures err { OnErr result (self.new ≡ self.old) }
     {

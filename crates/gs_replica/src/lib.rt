@@ -14,8 +14,10 @@ mod replica;
 mod seal;
 
 pub use done::DoneTable;
+pub use first::FirstEntries;
 pub use image::{Image, SealedImage};
 pub use live::ReplicaInverse;
 pub use op::{Done, EditOutcome, Op};
 pub use prepared::PreparedSeal;
 pub use replica::Replica;
+pub use seal::Seal;

@@ -1,4 +1,4 @@
-ghost use Rattle.std.specs.Prelude.{◌≡◌, ◌≤◌, IfOk, OnOk, OnErr, length, Ok, Option, Some, None, is_some};
+ghost use Rattle.std.specs.Prelude.{◌≡◌, ◌≤◌, ◌==◌, ◌&&◌, IfOk, OnOk, OnErr, length, Ok, Option, Some, None, is_some};
 ghost use Rattle.std.specs.FinMap as fin;
 ghost use Rattle.gs_base.specs.declared.numbers.Stamp.{Stamp};
 ghost use Rattle.gs_block.specs.Stored.{are_digests};
@@ -10,6 +10,9 @@ ghost use Rattle.gs_replica.specs.Seals.{State, with_seal, holding, seal, unseal
 ghost use Rattle.gs_replica.specs.Copies.{image_of, image, sealed_image, of_image, of_sealed};
 ghost use Rattle.gs_replica.specs.Undo.{inverse_of};
 ghost use Rattle.gs_replica.specs.Whole.{IsWhole};
+ghost use Rattle.gs_replica.specs.View.{seen_in, BelongsIn};
+ghost use Rattle.gs_replica.specs.Parts.{stands_of, PartsMake};
+ghost use Rattle.std.specs.Option.{option_copied};
 
 use crate::done::DoneTable;
 use crate::image::{Image, SealedImage};
@@ -17,7 +20,7 @@ use crate::live::{Live, ReplicaInverse};
 use crate::op::{Done, Op};
 use crate::prepared::PreparedSeal;
 use crate::seal::{
-    Seal, apply_sealed, begin, damage_sealed, image_bytes, sealed_image, undo_sealed,
+    Seal, apply_sealed, begin, belongs_in, damage_sealed, image_bytes, sealed_image, undo_sealed,
 };
 use gs_base::{ClientId, Refusal, Refused, ReqId, Stamp};
 use gs_block::{Digest, Sizes};
@@ -96,6 +99,42 @@ impl Replica {
                 given: live.into_sealed_image(),
             }),
         }
+    }
+
+    /// A replica as these parts say, under the promise that they carry, and with this seal or with none. It takes all as it is, and
+    /// verifies no block. `Range` where the bytes pass the size of the chunk, and `BadLine` where the digests are not as many as
+    /// the blocks, or the seal is not one of this replica. It takes no memory.
+    pub fn of_parts(
+        alloc: Global,
+        sizes: Sizes,
+        stands: SealedImage,
+        seal: Option<Seal>,
+    ) -> Result<Replica, Refusal>
+        ensures { PartsMake seal (stands_of sizes.block sizes.chunk stands) result }
+    {
+        let live = match Live::carried(alloc, sizes, stands) {
+            Ok(live) => live,
+            Err(refused) => return Err(refused.refusal),
+        };
+        if !belongs_in(&live, &seal) {
+            return Err(Refusal::BadLine);
+        }
+        Ok(Replica { live, seal })
+    }
+
+    /// What takes the replica back to where it was sealed, where it is sealed.
+    pub fn seal_parts(&self) -> Option<&Seal>
+        ensures seen { seen_in self.now.held (option_copied result) ≡ self.now.sealed }
+        ensures belongs { BelongsIn self.now.held (option_copied result) }
+    {
+        self.seal.as_ref()
+    }
+
+    /// The stored bytes. No block is verified: what is sent of a replica is `image`.
+    pub fn bytes(&self) -> &[u8]
+        ensures { result.now ≡ self.now.held.chunk.bytes }
+    {
+        self.live.blocks().stored()
     }
 
     /// The bytes, count and requests as they stand, which go on without the replica. No block is verified: what is sent of a
@@ -310,6 +349,13 @@ impl Replica {
         ensures { result ≡ self.now.held.chunk.chunk }
     {
         self.live.capacity()
+    }
+
+    /// Whether the chunk is of these sizes.
+    pub fn has_sizes(&self, sizes: Sizes) -> bool
+        ensures { result ≡ ((self.now.held.chunk.block == sizes.block) && (self.now.held.chunk.chunk == sizes.chunk)) }
+    {
+        self.live.blocks().has_sizes(sizes)
     }
 
     /// Every replica is whole. A caller whose proof asks this of a replica calls it; it changes nothing.

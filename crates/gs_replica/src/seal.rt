@@ -1,4 +1,4 @@
-ghost use Rattle.std.specs.Prelude.{◌≡◌, ◌≤◌, ◌+◌, ◌==◌, ℕ, IfOk, Some, Ok, Result, length, min};
+ghost use Rattle.std.specs.Prelude.{◌≡◌, ◌↔◌, IsTrue, ◌≤◌, ◌+◌, ◌==◌, ℕ, IfOk, Some, Ok, Result, length, min};
 ghost use Rattle.gs_block.specs.Stored.{IsStored};
 ghost use Rattle.gs_replica.specs.Edits.{start_of, end_of};
 ghost use Rattle.gs_replica.specs.Edits as edits;
@@ -7,7 +7,7 @@ ghost use Rattle.gs_replica.specs.Undo.{inverse_of};
 ghost use Rattle.gs_base.specs.Calls.{Follows, Does, Makes, Refuses};
 ghost use Rattle.gs_replica.specs.Seals.{images_of, sealed_length, apply, undo, damage, holding};
 ghost use Rattle.gs_replica.specs.Copies.{sealed_image_of};
-ghost use Rattle.gs_replica.specs.View.{seen, state_of, Belongs, Seals};
+ghost use Rattle.gs_replica.specs.View.{seen, state_of, Belongs, BelongsIn, Seals};
 
 use crate::first::FirstEntries;
 use crate::image::{Image, SealedImage};
@@ -19,11 +19,77 @@ use std::alloc::AllocError;
 
 /// What takes a replica back to where it was sealed.
 #[derive(Debug, Drop)]
-pub(crate) struct Seal {
+pub struct Seal {
     pub(crate) stamp: Stamp,
     pub(crate) count: u64,
     pub(crate) images: Images,
     pub(crate) first: FirstEntries,
+}
+
+impl Seal {
+    /// What takes a replica back to where it had made this promise and applied so many edits. It takes all as it is.
+    pub fn new(stamp: Stamp, count: u64, images: Images, first: FirstEntries) -> Seal
+        ensures { result ≡ record { stamp = stamp; count = count; images = images; first = first } }
+    {
+        Seal {
+            stamp,
+            count,
+            images,
+            first,
+        }
+    }
+
+    /// The promise that stood when the replica was sealed.
+    pub fn stamp(&self) -> Stamp
+        ensures { result ≡ self.now.stamp }
+    {
+        self.stamp
+    }
+
+    /// How many edits were applied then.
+    pub fn count(&self) -> u64
+        ensures { result ≡ self.now.count }
+    {
+        self.count
+    }
+
+    /// The first images of the blocks.
+    pub fn images(&self) -> &Images
+        ensures { result.now ≡ self.now.images }
+    {
+        &self.images
+    }
+
+    /// The first entries of the clients.
+    pub fn first(&self) -> &FirstEntries
+        ensures { result.now ≡ self.now.first }
+    {
+        &self.first
+    }
+}
+
+/// Whether a seal is one of a replica: its images are of its chunk, it is of no later count, and each client that had a request
+/// then has one.
+fn belongs(live: &Live, seal: &Seal) -> bool
+    ensures { IsTrue result ↔ Belongs live.now seal.now }
+{
+    if !seal.images.are_first(live.blocks()) {
+        return false;
+    }
+    if seal.count > live.count() {
+        return false;
+    }
+    live.done_table().has_sealed(&seal.first)
+}
+
+/// Whether a seal is one of a replica, where there is one.
+pub(crate) fn belongs_in(live: &Live, seal: &Option<Seal>) -> bool
+    ensures { IsTrue result ↔ BelongsIn live.now seal.now }
+{
+    match seal {
+        Some(seal) => belongs(live, seal),
+        None => true,
+    }
 }
 
 /// The first images and entries of a replica as it stands: none yet.

@@ -80,6 +80,13 @@ coded_server =
 abbrev pub new : ℕ → ℕ → ℕ → Server
 new me block chunk = record { me = me; block = block; chunk = chunk; kept = record { epoch = 0; slots = fin.empty; refused = fin.empty }; dropped = record { leases = fin.empty; buffer = [] } }
 
+-- a server of this store and these kept refusals, which holds no lease
+abbrev pub of_parts : ℕ → Store → fin.FinMap client_cmp KeptRefusal → Server
+of_parts me t refused = record { me = me; block = t.block; chunk = t.chunk; kept = record { epoch = t.epoch; slots = t.slots; refused = refused }; dropped = record { leases = fin.empty; buffer = t.buffer } }
+
+a_new_store_is_of_a_new_server : (me block chunk : ℕ) → of_parts me (stores.new block chunk) fin.empty ≡ new me block chunk
+a_new_store_is_of_a_new_server me block chunk = refl
+
 -- ---- its parts
 
 -- what its store has

@@ -1,6 +1,8 @@
 ghost use Rattle.std.specs.Prelude.{◌≡◌, ◌≤◌, [], None, IfOk};
 ghost use Rattle.gs_server.specs.Places.{damaged_block, marked_by};
-ghost use Rattle.gs_server.specs.Servers.{new, ServerSteps, store_of, with_store, change_slot};
+ghost use Rattle.gs_server.specs.Servers.{new, of_parts, client_cmp, ServerSteps, store_of, with_store, change_slot};
+ghost use Rattle.std.specs.FinMap as fin;
+ghost use Rattle.gs_base_table.specs.Slots.{live};
 ghost use Rattle.gs_server_lease.specs.Leases.{tell};
 ghost use Rattle.gs_server.specs.inner.Answering.{refused_by, promised_by};
 ghost use Rattle.gs_msg.specs.declared.body.Body.TheVariants.{About};
@@ -9,7 +11,7 @@ use crate::leases::spend;
 use crate::sending::Sending;
 use crate::turn::{KeptRefusal, Turn};
 use gs_base::{ClientId, Config, Handle, Refusal, ServerId, Stamp};
-use gs_base_table::Table;
+use gs_base_table::{Entries, Table};
 use gs_block::Sizes;
 use gs_msg::{Body, Chunk, Message, NodeId};
 use gs_server_lease::{PrimaryLease, tell};
@@ -62,6 +64,38 @@ impl Server {
             leases: Table::new(alloc),
             refused: Table::new(alloc),
         })
+    }
+
+    /// A server of this store and these kept refusals, which holds no lease. It takes no memory.
+    pub fn of(
+        alloc: Global,
+        id: ServerId,
+        store: Store,
+        refused: Table<ClientId, KeptRefusal>,
+    ) -> Server
+        ensures { result ≡ of_parts id store (live client_cmp refused) }
+    {
+        Server {
+            alloc,
+            id,
+            store,
+            leases: Table::new(alloc),
+            refused,
+        }
+    }
+
+    /// What is kept of the chunks, and the bytes that were pushed.
+    pub fn store(&self) -> &Store
+        ensures { result.now ≡ store_of self.now }
+    {
+        &self.store
+    }
+
+    /// Of each client its edit that was refused last, in the order of the clients. It takes no memory.
+    pub fn refusals(&self) -> Entries<'_, ClientId, KeptRefusal>
+        ensures { result ≡ fin.entries self.entry.now.kept.refused }
+    {
+        self.refused.iter()
     }
 
     /// What is told of a chunk.

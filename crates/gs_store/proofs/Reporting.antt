@@ -16,6 +16,9 @@ module _ (block chunk epoch : ℕ) (places : fin.FinMap nat_cmp ℕ) (slots : Li
   pub named_seen : (e : ℕ) → named e s ≡ named_of e (entries_at (fin.entries places) slots)
   named_seen e = ap (named_of e) entries_seen
 
+  pub slots_seen : fin.entries s.slots ≡ entries_at (fin.entries places) slots
+  slots_seen = entries_seen
+
   pub report_seen : report s ≡ reports_of (entries_at (fin.entries places) slots)
   report_seen = ap reports_of entries_seen
 

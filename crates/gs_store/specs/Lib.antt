@@ -7,6 +7,7 @@ pub mod Standing
 pub mod Calls
 pub mod Buffers
 pub mod Stores
+pub mod Parts
 pub mod StoreCalls
 pub mod Told
 pub mod Reported

@@ -3,6 +3,7 @@ ghost use Rattle.std.specs.FinMap as fin;
 ghost use Rattle.gs_base.specs.Calls.{Does, Follows, Refuses};
 ghost use Rattle.gs_base.specs.declared.refusal.Refusal.TheVariants.{Memory};
 ghost use Rattle.gs_store.specs.Serving.{foreseen};
+ghost use Rattle.gs_store.specs.Parts.{CanKeep, KeepsIf};
 ghost use Rattle.gs_store.specs.Stores.{Performs, slot_of, with_slot, create, advance, drop_replica, take_lease, apply, lose, damage, mark_bad};
 
 use crate::slot::Slot;
@@ -23,6 +24,22 @@ impl Store {
         self.slots.push(slot)?;
         self.places.put(handle, place);
         Ok(())
+    }
+
+    /// Keeps a slot for a handle of which nothing was kept, as it is read of an image. `BadLine` where a slot is kept of it, and
+    /// where the slot is of other sizes, whatever memory there is.
+    pub fn keep(&mut self, handle: Handle, slot: Slot) -> Result<(), Refusal>
+        ensures ok { OnOk result (self.new ≡ with_slot handle slot self.old) }
+        ensures err { OnErr result (self.new ≡ self.old) }
+        ensures judged { KeepsIf (CanKeep handle slot self.old) result }
+    {
+        if self.slot(handle).is_some() {
+            return Err(Refusal::BadLine);
+        }
+        if !slot.is_of(self.sizes) {
+            return Err(Refusal::BadLine);
+        }
+        self.add(handle, slot)
     }
 
     /// Makes an empty replica of a handle under a stamp above its promise, in place of the one that was live. A stamp that is

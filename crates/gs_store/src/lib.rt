@@ -21,6 +21,6 @@ mod store;
 pub mod store_promises;
 
 pub use moves::CopyImages;
-pub use report::{ReplicaReport, Reports};
-pub use slot::Slot;
+pub use report::{ReplicaReport, Reports, Slots};
+pub use slot::{LiveReplica, Slot, SlotParts};
 pub use store::Store;

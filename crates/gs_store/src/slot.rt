@@ -1,9 +1,11 @@
-ghost use Rattle.std.specs.Prelude.{◌≡◌, Some, None, true};
+ghost use Rattle.std.specs.Prelude.{◌≡◌, ◌↔◌, IsTrue, Some, None, true};
 ghost use Rattle.std.specs.Option.{option_copied};
 ghost use Rattle.gs_base.specs.Stamps.{is_before};
 ghost use Rattle.gs_base.specs.Calls.{Does, Judges};
 ghost use Rattle.gs_store.specs.Slots.{nothing, removed, replaced, create, again, advance, drop_replica, check_grant, is_taken, take_lease, lose, damage, mark_bad, count_of, bad_in, lost, sealed_of, trashed_seal};
-ghost use Rattle.gs_store.specs.Whole.{IsWholeSlot};
+ghost use Rattle.gs_store.specs.Whole.{IsWholeSlot, Keeps, LiveUnder, TrashSealed, Reaches, is_sealed, HasSizes, LiveHasSizes, TrashHasSizes, IsSlotOf};
+ghost use Rattle.gs_store.specs.Parts.{PartsKeep};
+ghost use Rattle.gs_replica.specs.Seals.{stamp_of};
 
 use gs_base::{Refusal, Stamp};
 use gs_block::Sizes;
@@ -14,7 +16,7 @@ use std::marker::Model;
 
 /// A replica that is live, and the first block that was found without its digest.
 #[derive(Debug, Drop)]
-pub(crate) struct LiveReplica {
+pub struct LiveReplica {
     pub(crate) replica: Replica,
     pub(crate) bad: Option<u64>,
 }
@@ -27,6 +29,38 @@ impl Model for LiveReplica {
     ghost coded = { coded_live };
 
     ghost view = { λ l. record { replica = l.replica; bad = l.bad } };
+}
+
+impl LiveReplica {
+    /// A live replica, and the block that marks it as bad, if one does.
+    pub fn new(replica: Replica, bad: Option<u64>) -> LiveReplica
+        ensures { result ≡ record { replica = replica; bad = bad } }
+    {
+        LiveReplica { replica, bad }
+    }
+
+    pub fn replica(&self) -> &Replica
+        ensures { result.now ≡ self.now.replica }
+    {
+        &self.replica
+    }
+
+    /// The block that marks it as bad, if one does.
+    pub fn bad(&self) -> Option<u64>
+        ensures { result ≡ self.now.bad }
+    {
+        self.bad
+    }
+}
+
+/// What a slot is made of.
+#[derive(Debug, Drop)]
+pub struct SlotParts {
+    pub promise: Stamp,
+    pub carried: bool,
+    pub live: Option<LiveReplica>,
+    pub trash: Option<Replica>,
+    pub taken: Option<Stamp>,
 }
 
 /// What a server keeps of one handle. The promise is kept for good, also when the replica goes.
@@ -79,6 +113,74 @@ impl Slot {
             trash: None,
             taken: None,
         }
+    }
+
+    /// A slot of these parts. `BadLine` where the live replica stands under another promise, where what is in the trash is not
+    /// sealed, where both are sealed, and where a lease was taken above the promise. It takes no memory.
+    pub fn of(parts: SlotParts) -> Result<Slot, Refusal>
+        ensures { PartsKeep parts result }
+    {
+        if !keeps(&parts) {
+            return Err(Refusal::BadLine);
+        }
+        let SlotParts {
+            promise,
+            carried,
+            live,
+            trash,
+            taken,
+        } = parts;
+        Ok(Slot {
+            promise,
+            carried,
+            live,
+            trash,
+            taken,
+        })
+    }
+
+    /// Whether the slot is one of a store of these sizes. It takes no memory.
+    pub(crate) fn is_of(&self, sizes: Sizes) -> bool
+        ensures { IsTrue result ↔ IsSlotOf sizes.block sizes.chunk self.now }
+    {
+        if !live_has_sizes(&self.live, sizes) {
+            return false;
+        }
+        if !trash_has_sizes(&self.trash, sizes) {
+            return false;
+        }
+        reaches(self.promise, self.sealed_at())
+    }
+
+    /// The stamp under which the image of the slot was sealed, if there is one.
+    fn sealed_at(&self) -> Option<Stamp>
+        ensures { result ≡ stamp_of (sealed_of self.now) }
+    {
+        match self.sealed() {
+            Some(replica) => replica.sealed_at(),
+            None => None,
+        }
+    }
+
+    /// The replica that is live, if one is.
+    pub fn live(&self) -> Option<&LiveReplica>
+        ensures { option_copied result ≡ self.now.live }
+    {
+        self.live.as_ref()
+    }
+
+    /// The sealed replica that stands in the trash, if one does.
+    pub fn trash(&self) -> Option<&Replica>
+        ensures { option_copied result ≡ self.now.trash }
+    {
+        self.trash.as_ref()
+    }
+
+    /// The stamp of the lease that was taken last, if one was.
+    pub fn taken(&self) -> Option<Stamp>
+        ensures { result ≡ self.now.taken }
+    {
+        self.taken
     }
 
     /// The stamp below which no edit of the handle is taken.
@@ -296,5 +398,98 @@ impl Slot {
     {
         self.remove();
         self.trash.take()
+    }
+}
+
+/// Whether a slot can be of these parts.
+fn keeps(parts: &SlotParts) -> bool
+    ensures { IsTrue result ↔ Keeps parts.now.promise parts.now.live parts.now.trash parts.now.taken }
+{
+    if !is_under(&parts.live, parts.promise) {
+        return false;
+    }
+    if !is_trash(&parts.trash) {
+        return false;
+    }
+    if is_sealed(&parts.live) && parts.trash.is_some() {
+        return false;
+    }
+    reaches(parts.promise, parts.taken)
+}
+
+/// Whether stamps are the same.
+#[tactic(auto, using(crate::proofs::Parted::decides_stamp))]
+fn are_same(stamp: Stamp, other: Stamp) -> bool
+    ensures { IsTrue result ↔ (stamp ≡ other) }
+{
+    stamp == other
+}
+
+/// Whether a replica stands under a promise, if there is one.
+fn is_under(live: &Option<LiveReplica>, promise: Stamp) -> bool
+    ensures { IsTrue result ↔ LiveUnder promise live.now }
+{
+    match live {
+        Some(live) => are_same(live.replica.promised(), promise),
+        None => true,
+    }
+}
+
+/// Whether a replica is sealed, if there is one.
+fn is_trash(trash: &Option<Replica>) -> bool
+    ensures { IsTrue result ↔ TrashSealed trash.now }
+{
+    match trash {
+        Some(trash) => trash.is_sealed(),
+        None => true,
+    }
+}
+
+/// Whether there is a live replica that is sealed.
+fn is_sealed(live: &Option<LiveReplica>) -> bool
+    ensures { result ≡ is_sealed live.now }
+{
+    match live {
+        Some(live) => live.replica.is_sealed(),
+        None => false,
+    }
+}
+
+/// Whether a promise reaches a stamp, if there is one.
+fn reaches(promise: Stamp, stamp: Option<Stamp>) -> bool
+    ensures { IsTrue result ↔ Reaches promise stamp }
+{
+    match stamp {
+        Some(stamp) => !promise.is_before(stamp),
+        None => true,
+    }
+}
+
+/// Whether a replica is of these sizes, and what undoing gives too.
+#[tactic(auto, using(crate::proofs::Parted::decides_sizes))]
+fn has_sizes(replica: &Replica, sizes: Sizes) -> bool
+    ensures { IsTrue result ↔ HasSizes sizes.block sizes.chunk replica.now }
+{
+    replica.whole();
+    replica.has_sizes(sizes)
+}
+
+/// Whether a live replica is of these sizes, if there is one.
+fn live_has_sizes(live: &Option<LiveReplica>, sizes: Sizes) -> bool
+    ensures { IsTrue result ↔ LiveHasSizes sizes.block sizes.chunk live.now }
+{
+    match live {
+        Some(live) => has_sizes(&live.replica, sizes),
+        None => true,
+    }
+}
+
+/// Whether a replica in the trash is of these sizes, if there is one.
+fn trash_has_sizes(trash: &Option<Replica>, sizes: Sizes) -> bool
+    ensures { IsTrue result ↔ TrashHasSizes sizes.block sizes.chunk trash.now }
+{
+    match trash {
+        Some(trash) => has_sizes(trash, sizes),
+        None => true,
     }
 }

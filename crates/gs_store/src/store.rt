@@ -5,6 +5,7 @@ ghost use Rattle.gs_base.specs.Calls.{Answers, Foretells, Judges};
 ghost use Rattle.gs_store.specs.Slots.{check_grant, is_taken, count_of, bad_in};
 ghost use Rattle.gs_store.specs.Serving.{read, text_length, digest, edited_in, done_in};
 ghost use Rattle.gs_store.specs.Stores.{new, slot_of, check_epoch};
+ghost use Rattle.gs_store.specs.Parts.{at_epoch};
 
 use crate::buffer::PushBuffer;
 use crate::slot::Slot;
@@ -62,6 +63,20 @@ impl Store {
             alloc,
             sizes,
             epoch: 0,
+            places: Table::new(alloc),
+            slots: Vec::new(alloc),
+            buffer: PushBuffer::new(alloc)?,
+        })
+    }
+
+    /// A store in which nothing is kept yet, in this epoch.
+    pub fn at_epoch(alloc: Global, sizes: Sizes, epoch: u64) -> Result<Store, AllocError>
+        ensures { IfOk result (λ s. s ≡ at_epoch sizes.block sizes.chunk epoch) }
+    {
+        Ok(Store {
+            alloc,
+            sizes,
+            epoch,
             places: Table::new(alloc),
             slots: Vec::new(alloc),
             buffer: PushBuffer::new(alloc)?,

@@ -1,0 +1,21 @@
+use Rattle.std.proofs.Common.{ℕ, map, ap, sym, ◌∙◌}
+use Rattle.std.proofs.lemmas.List.{map_push}
+use Rattle.std.specs.Slice.Iter.{iter_rest}
+use Rattle.gs_replica.specs.declared.op.Done.{Done}
+use Rattle.gs_store_image.specs.declared.done.DoneField.{DoneField}
+use Rattle.gs_store_image.proofs.Tables.{onto, onto_last, onto_empty}
+use Rattle.gs_store_image.proofs.table.table_of.Goals as goal
+
+abbrev seen : ℕ × DoneField → ℕ × Done
+seen e = (e.0, e.1.done)
+
+pub loop-client-init : goal.loop-client-init
+loop-client-init c =
+    rw (c.into_iter-client-iterator.ensures.into_iter_gives, c.rev-client-items.ensures.source, c.iter.ensures.rest, c.new-table.ensures) (onto_empty (map seen c.args.entries.now))
+
+pub loop-client-preserved : goal.loop-client-preserved
+loop-client-preserved c =
+    let rest = iter_rest c.next.new.self.iter in
+    ap (onto (map seen rest)) c.in_ok-put.ensures.ok ∙ sym (onto_last (map seen rest) (seen c.in-Some.field-0.now) c.loop-client.table)
+    ∙ ap (λ es. onto es c.loop-client.table) (sym (map_push seen rest c.in-Some.field-0.now))
+    ∙ ap (λ es. onto (map seen es) c.loop-client.table) (sym c.in-Some.ensures.steps) ∙ c.loop-client.invariant
