@@ -1,5 +1,5 @@
 -- Openings of disks that have the same bytes.
-use Rattle.std.proofs.Common.{◌≡◌, ◌∙◌, ◌+◌, ℕ, List, refl, ap, subst, sym}
+use Rattle.std.proofs.Common.{◌≡◌, ◌∙◌, ◌+◌, ℕ, false, List, refl, ap, subst, sym}
 use Rattle.std.specs.Prelude.{Option, Some, None, Result, Ok, unwrap_or}
 use Rattle.std.specs.Result.{is_ok, result_ok}
 use Rattle.std.proofs.lemmas.Bool.{false≢true}
