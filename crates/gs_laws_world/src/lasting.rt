@@ -1,6 +1,6 @@
 //! The master of a store stands firm as long as no disk of it fails, and a restart opens what stood.
 
-ghost use Rattle.gs_laws_world.specs.lasting.Laws.{NewStoresLast, SoundRunsLast, UnarmedSoundRunsLast, RestartsOpenWhatStood, RefusedRestartsWait, WaitingDisksAreOpened};
+ghost use Rattle.gs_laws_world.specs.lasting.Laws.{NewStoresLast, SoundRunsLast, UnarmedSoundRunsLast, RestartsOpenWhatStood, RefusedRestartsWait, WaitingDisksAreOpened, OpeningsAreAlike};
 
 /// As long as no disk of the master fails, the master stands firm, whatever happens, restarts and coming failures among it: its journal is as
 /// its disks are seen, and the records there can be read again and tell what is durable. Where memory was wanting for a restart its disks wait,
@@ -18,4 +18,11 @@ pub fn a_restart_opens_what_stood<D>()
     ensures opened { RestartsOpenWhatStood D }
     ensures waits { RefusedRestartsWait D }
     ensures again { WaitingDisksAreOpened D }
+{}
+
+/// What a master is opened as stands in the bytes of its two disks alone. Where two pairs of disks have the same bytes and both are opened, by the same
+/// sizes, the masters are the same but for the disks themselves, and send the same messages. So a copy of both disks is opened as what it was copied of.
+/// An opening may always be refused for want of memory, or where a disk fails in it.
+pub fn disks_of_the_same_bytes_are_opened_alike<D, E>()
+    ensures alike { OpeningsAreAlike D E }
 {}

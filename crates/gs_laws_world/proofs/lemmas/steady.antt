@@ -7,4 +7,3 @@ pub mod Refusing
 pub mod ServersSay
 pub mod Steady
 pub mod Through
-pub mod Entries

@@ -8,12 +8,13 @@ use Rattle.gs_journal.specs.Records.{fresh, standing}
 use Rattle.gs_master.specs.Masters.{MasterOf}
 use Rattle.gs_master.specs.declared.turn.Turn.{Turn}
 use Rattle.gs_world.specs.Histories.{Begins, History, arms, failures_of, seen_of}
+use Rattle.gs_laws_world.specs.lasting.Alike.{AreOpenedAlike}
 use Rattle.gs_laws_world.specs.lasting.Lasting.{IsToldIn, Lasts, OpensAs, RunsSoundly, StandsFirm, WaitsAs, failures_at}
 use Rattle.gs_laws_master.specs.Promises.{IsKept}
 use Rattle.gs_laws_master.specs.Standing.{AreCounters}
 use Rattle.gs_master_spec.specs.Durable.{Durable}
 use Rattle.gs_world.specs.Runs.{Step}
-use Rattle.gs_nodes.specs.Happenings.{Reopens}
+use Rattle.gs_nodes.specs.Happenings.{Opens, Reopens}
 use Rattle.gs_nodes.specs.declared.place.MasterPlace.{MasterPlace}
 use Rattle.gs_nodes.specs.declared.place.MasterPlace.TheVariants.{Closed, Standing}
 
@@ -49,3 +50,10 @@ RefusedRestartsWait D = (seen : D → List ℕ) (failures : D → ℕ) (config :
 abbrev pub WaitingDisksAreOpened : Type 0 → Type 0
 WaitingDisksAreOpened D = (seen : D → List ℕ) (failures : D → ℕ) (config : Config) (first second : D) (d : Durable) (turn : Turn) (new : MasterPlace D) → IsKept d
     → AreCounters d → IsToldIn (standing (seen first) (seen second)) d → Reopens seen failures config (Closed first second) (Ok turn) new → OpensAs seen d new
+
+-- ---- two openings
+-- Where two pairs of disks have the same bytes and both are opened, by the same sizes, they are opened as the same master, which sends the same.
+abbrev pub OpeningsAreAlike : Type 0 → Type 0 → Type 0
+OpeningsAreAlike D E = (seen : D → List ℕ) (failures : D → ℕ) (other_seen : E → List ℕ) (other_failures : E → ℕ) (config : Config) (disks : D × D) (others : E × E)
+    (turn other_turn : Turn) (place : MasterPlace D) (other_place : MasterPlace E) → seen disks.0 ≡ other_seen others.0 → seen disks.1 ≡ other_seen others.1
+    → Opens seen failures config disks (Ok turn) place → Opens other_seen other_failures config others (Ok other_turn) other_place → AreOpenedAlike turn place other_turn other_place

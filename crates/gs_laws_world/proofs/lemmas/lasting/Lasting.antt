@@ -1,5 +1,5 @@
 -- That the master stands firm as long as no disk fails, and that a restart opens what stood.
-use Rattle.std.proofs.Common.{◌≡◌, ◌∙◌, inl, inr, ◌+◌, ◌-◌, ◌<◌, ◌&&◌, ◌++◌, ℕ, Bool, true, false, not, List, [], ◌∷◌, map, drop, get_or, Option, Some, None, MatchOption, Result, Ok, Err, refl, ap, subst, sym, arith, slice_get, slice_set}
+use Rattle.std.proofs.Common.{◌≡◌, ◌∙◌, inl, inr, ◌+◌, ◌-◌, ◌<◌, ◌&&◌, ◌++◌, ℕ, Bool, true, false, not, List, [], ◌∷◌, map, Option, Some, None, MatchOption, Result, Ok, Err, refl, ap, subst, sym, arith, slice_get, slice_set}
 use Rattle.std.specs.Prelude.{is_none, option_and_then, unwrap_or}
 use Rattle.std.specs.List.{AllByRecursion}
 use Rattle.std.proofs.lemmas.Bool.{false≢true}
@@ -15,7 +15,7 @@ use Rattle.gs_base.specs.Calls.{Does}
 use Rattle.gs_client.specs.Nodes.{Node, given_up}
 use Rattle.gs_journal.specs.Faults.{Failing}
 use Rattle.gs_journal.specs.Journal.{failures_of_both}
-use Rattle.gs_journal.specs.Records.{Entry as Record, Text, fresh as fresh_text, standing}
+use Rattle.gs_journal.specs.Records.{Text, fresh as fresh_text, standing}
 use Rattle.gs_journal.specs.declared.version.Version.TheVariants.{Two}
 use Rattle.gs_laws_master.proofs.lemmas.standing.StandingAnswers.{pressed_good}
 use Rattle.gs_laws_master.proofs.lemmas.standing.StandingRuns.{events_fit, opens_firm, starts_firm}
@@ -42,7 +42,6 @@ use Rattle.gs_msg.specs.declared.node.NodeId.TheVariants as nodes
 use Rattle.gs_msg.specs.declared.node.StoreNode.{StoreNode}
 use Rattle.gs_msg.specs.declared.node.StoreNode.TheVariants as keepers
 use Rattle.gs_master_plan.specs.Renewable.{renewal_refusal}
-use Rattle.gs_master_record.proofs.Whole.{one_entry}
 use Rattle.gs_master_record.specs.Encoding.{encoded}
 use Rattle.gs_master_record.specs.Plain.{PlainCheckpoint, PlainEntry, Whole}
 use Rattle.gs_master_record.specs.Writable.{IsEntry}
@@ -59,27 +58,12 @@ use Rattle.gs_nodes.specs.Nodes.{Nodes, with_clients, with_master, with_servers}
 use Rattle.gs_nodes.specs.declared.place.MasterPlace.{MasterPlace}
 use Rattle.gs_nodes.specs.declared.place.MasterPlace.TheVariants.{Standing, Closed, Away}
 use Rattle.gs_world.specs.Histories.{AtNode, Begins, ComesTo, History, Upshot, Restarts, Ticks, arms, seen_of, failures_of}
+use Rattle.gs_laws_world.proofs.lemmas.lasting.Entries.{same_entries}
 use Rattle.gs_laws_world.specs.lasting.Lasting.{HearsNamed, IsToldIn, Lasts, OpensAs, RunsSoundly, StandsFirm, StepNamed, TellsAMaster, WaitsAs, failures_at}
 use Rattle.gs_world.specs.Runs.{Goes, Step, Comes, Takes}
 use Rattle.gs_world.specs.Sent.{message_of}
 
 -- ---- records
-
-first_same : (x y : Record) (xs ys : List Record) → x ∷ xs ≡ y ∷ ys → x ≡ y
-first_same x y xs ys same = ap (λ l. get_or l 0 x) same
-
-rest_same : (x y : Record) (xs ys : List Record) → x ∷ xs ≡ y ∷ ys → xs ≡ ys
-rest_same x y xs ys same = ap (drop 1) same
-
--- records that can be read again are those of these entries alone
-same_entries : (xs ys : List PlainEntry) → AllByRecursion (IsEntry Two) xs → AllByRecursion (IsEntry Two) ys → map (encoded Two) xs ≡ map (encoded Two) ys → xs ≡ ys
-same_entries [] [] p q same = refl
-same_entries [] (y ∷ ys) p q same = absurd (cc)
-same_entries (x ∷ xs) [] p q same = absurd (cc)
-same_entries (x ∷ xs) (y ∷ ys) p q same =
-    let one = one_entry Two x y p.0 q.0 (first_same (encoded Two x) (encoded Two y) (map (encoded Two) xs) (map (encoded Two) ys) same) in
-    let others = same_entries xs ys p.1 q.1 (rest_same (encoded Two x) (encoded Two y) (map (encoded Two) xs) (map (encoded Two) ys) same) in
-    λ i. one i ∷ others i
 
 -- what a checkpoint tells doesn't depend on what it meets
 whole_alike : (d e : Durable) (c : PlainCheckpoint) → replayed d (Whole c ∷ []) ≡ replayed e (Whole c ∷ [])
@@ -141,7 +125,7 @@ module _ {D : Type 0} (seen : D → List ℕ) (failures : D → ℕ) where
 
       durable : is.durable ≡ d
       durable =
-          let entries = same_entries told.entries is.entries told.are_entries records.are_entries records.written in
+          let entries = same_entries Two told.entries is.entries told.are_entries records.are_entries records.written in
           ap (λ (o : Option Durable). unwrap_or o d) (sym is.tells.replays ∙ ap (replayed start) (sym entries) ∙ told.replays)
 
       state : m.state ≡ restarted d log

@@ -66,7 +66,7 @@ use Rattle.gs_world.specs.Sent.{message_of}
 use Rattle.gs_laws_world.proofs.lemmas.steady.Apart.{at_client, at_server}
 use Rattle.gs_laws_world.proofs.lemmas.steady.Keeping.{step_keeps, step_within}
 use Rattle.gs_laws_world.proofs.lemmas.steady.Parts.{AtEach, IsPart, has_room, part_all, part_anew, part_left, part_of_more, tells_anew, tells_more}
-use Rattle.gs_laws_world.proofs.lemmas.steady.Entries.{same_entries}
+use Rattle.gs_laws_world.proofs.lemmas.lasting.Entries.{same_entries}
 use Rattle.gs_laws_world.proofs.lemmas.steady.Steady.{begins_steady, both, goes_on, goes_on_anew, left_standing, nothing, opened, sound_writes, steps_bounded, tells_one}
 use Rattle.gs_laws_world.specs.steady.Saying.{IsStepWithin, KeepsTypes}
 use Rattle.gs_laws_world.specs.steady.Steady.{HearsWithin, IsHeardAt, LastsSteady, StandsSteady, StepWithin, TellsSteady}
@@ -78,7 +78,7 @@ some_is x y is = cc
 -- a text tells one
 pub told_once : (text : Text) (d e : Durable) → IsToldIn text d → IsToldIn text e → d ≡ e
 told_once text d e t u =
-    let same = same_entries t.entries u.entries t.are_entries u.are_entries (ap (λ (x : Text). x.1) (sym t.records ∙ u.records)) in
+    let same = same_entries Two t.entries u.entries t.are_entries u.are_entries (ap (λ (x : Text). x.1) (sym t.records ∙ u.records)) in
     some_is d e (sym t.replays ∙ ap (replayed start) same ∙ u.replays)
 
 -- one of the second version is never written anew
