@@ -42,6 +42,8 @@ MOST_SECONDS = 0.1
 LINES = 400
 # The bytes of a mark with its end.
 MARK_BYTES = 153
+# The name in the first line of a file, which is another one in each.
+NAME = re.compile(rb"\A([^\n]*) name [0-9a-f]{32}\n")
 F_SETPIPE_SZ = 1031
 PIPE_BYTES = 1_048_576
 
@@ -184,6 +186,11 @@ def unmarked(text):
     return b"".join(line for line in text.splitlines(keepends=True) if not is_mark(line))
 
 
+def unnamed(text):
+    """A file without the name in its first line, if it has one."""
+    return NAME.sub(rb"\1\n", text)
+
+
 def logged(path):
     """The lines of a file up to its last mark, but for its first line and the marks, and the bytes behind."""
     if not os.path.exists(path):
@@ -307,13 +314,17 @@ def wrong_end(program, words, path, status, pattern):
 def foreign(program, path, chance):
     """A file that isn't the program's."""
     count = chance.choice((1, 10, 1_000, 600_000))
-    kind = chance.randint(0, 3)
+    kind = chance.randint(0, 4)
     if kind == 0:
         text = b"#" + chance.randbytes(count)
     elif kind == 1:
         text = b"mkdir /a\ncreate /a/f\n" * count
     elif kind == 2:
         text = b"chunkkeep 2 --servers 3 --racks 1 --replicas 3 --chunk 67108864 --block  65536\n" + b"mkdir /a\n"
+    elif kind == 3:
+        # A name has 32 digits, and none in upper case.
+        name = chance.choice((b"", b" name", b" name ", b" name " + b"ab" * 15, b" name " + b"AB" * 16, b" name " + b"ab" * 17, b" named " + b"ab" * 16))
+        text = HEAD + (name or b" ") + b"\nmkdir /a\n"
     else:
         text = b"chunkkeep %d --servers 3 --racks 1 --replicas 3 --chunk 67108864 --block 0\n" % chance.choice((1, 2))
     with open(path, "wb") as file:
@@ -405,9 +416,10 @@ def tried(name, how, count, programs, folder, seed):
 # ---- what an operator breaks
 
 
-# The first line of the stores here, without its end, and that of the first form.
+# The first line of the stores here, without its end and the name that is drawn for a store, and that of the first form.
 HEAD = b"chunkkeep 2 --servers 3 --racks 1 --replicas 3 --chunk 16 --block 4"
 FIRST_HEAD = b"chunkkeep 1" + HEAD[11:]
+NAMED_HEAD = HEAD + b" name 0123456789abcdeffedcba9876543210"
 KEPT = marked([[(b"mkdir /a", b"ok")], [(b"mkdir /b", b"ok")]])
 MORE = b"mkdir /c\nmkdir /d\n"
 STANDARD = ("standard input", "standard output", "standard error")
@@ -436,7 +448,7 @@ def unlike(path, text):
 def lines_unlike(path, text):
     """Says how the lines of a file differ from those that it is meant to hold, the marks aside."""
     found = bytes_of(path)
-    return None if found is not None and unmarked(found) == unmarked(text) else f"the file holds {found!r} where the lines of {text!r} are meant"
+    return None if found is not None and unmarked(unnamed(found)) == unmarked(text) else f"the file holds {found!r} where the lines of {text!r} are meant"
 
 
 def goes_on(program, path, names):
@@ -608,10 +620,15 @@ def not_ordinary(program, path, chance):
     return None
 
 
+def is_new(text):
+    """Whether a file is that of a new store, with a name."""
+    return bool(NAME.match(text)) and unnamed(text) == HEAD + b"\n"
+
+
 def left_beside(program, path, chance):
     """What a crash left beside the name while the file was made is gone on from; what isn't that is refused, and stays."""
     beside = f"{path}.new"
-    head = HEAD + b"\n"
+    head = NAMED_HEAD + b"\n"
     kept_file(beside, head[: chance.randint(0, len(head))])
     status, answered, said = ended(program, [path, *SIZES], b"mkdir /a\nmkdir /b\n")
     if (status, answered) != (0, b"ok\nok\n"):
@@ -627,7 +644,7 @@ def left_beside(program, path, chance):
     if wrong:
         return wrong
     os.remove(path)
-    kept_file(beside, chance.choice((b"my own\n", HEAD + b"\nmkdir /a\n", HEAD + b"0")))
+    kept_file(beside, chance.choice((b"my own\n", HEAD + b"\nmkdir /a\n", HEAD + b"0", NAMED_HEAD + b"\nmkdir /a\n")))
     text = bytes_of(beside)
     wrong = refused_at(program, [path, *SIZES], path, 1, "stands there and isn't a beginning of it") or unlike(beside, text)
     os.remove(beside)
@@ -640,7 +657,7 @@ def killed_while_made(program, path, chance):
     time.sleep(chance.random() * 0.02)
     run.kill()
     run.communicate()
-    if os.path.exists(path) and bytes_of(path) != HEAD + b"\n":
+    if os.path.exists(path) and not is_new(bytes_of(path)):
         return f"the file holds {bytes_of(path)!r}"
     status, answered, said = ended(program, [path, *SIZES], b"mkdir /a\nmkdir /b\n")
     if (status, answered) != (0, b"ok\nok\n"):
@@ -714,7 +731,7 @@ def is_killed_at(name):
             if run.returncode == 0:
                 return None if number > 1 else f"no {name} was made"
             stands = bytes_of(path)
-            if stands is not None and not (stands.startswith(HEAD + b"\n") and unmarked(KEPT).startswith(unmarked(stands))):
+            if stands is not None and not (NAME.match(stands) and unmarked(KEPT).startswith(unmarked(unnamed(stands)))):
                 return f"killed at {name} {number}: the file holds {stands!r}"
             kept = len(logged(path)[0])
             if kept < run.stdout.count(b"\n"):
@@ -827,7 +844,7 @@ def is_refused(program, path, text):
 def small_log():
     """A log of some batches, as the definition of its form has it."""
     made = [[(b"mkdir /a", b"ok"), (b"create /a/f", b"ok")], [(b"append /a/f 3030", b"ok 0")], [(b"append /a/f 3131", b"ok 2"), (b"read /a/f 0 9", b"ok 30303131")]]
-    return marked(made)
+    return marked(made, NAMED_HEAD)
 
 
 def a_bit_is_flipped(program, path, chance):
@@ -1015,7 +1032,21 @@ def is_checked(program, path, chance):
     if status or b"3 lines and 3 marks" not in shown:
         return f"the status of a look at a file that is in use is {status}: {shown!r} {said}"
     os.remove(path)
-    return refused_at(program, [path, "--check"], path, 1, "nothing stands there")
+    return refused_at(program, [path, "--check"], path, 1, "nothing stands there") or is_named(program, path)
+
+
+def is_named(program, path):
+    """A store gets a name when it is made, and --check tells it. Another one gets another."""
+    names = set()
+    for _ in range(2):
+        ended(program, [path, *SIZES], b"mkdir /a\n")
+        head = bytes_of(path).split(b"\n")[0]
+        status, shown, said = ended(program, [path, "--check"])
+        if status or b" --block 4, name " + head.split()[-1] + b"\n" not in shown:
+            return f"the status of a look at a file that has the first line {head} is {status}: {shown!r} {said}"
+        names.add(head)
+        os.remove(path)
+    return None if len(names) == 2 and all(NAME.match(name + b"\n") for name in names) else f"the first lines of two stores are {names}"
 
 
 def is_read_only(program, path, chance):

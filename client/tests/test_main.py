@@ -74,7 +74,8 @@ class Words(StoreCase):
 
     def test_sizes_are_those_of_a_new_store(self) -> None:
         self.fs("mkdir", "/a")
-        self.assertEqual(self.store.read_text().splitlines()[0], "chunkkeep 2 --servers 3 --racks 1 --replicas 3 --chunk 16 --block 4")
+        head = "chunkkeep 2 --servers 3 --racks 1 --replicas 3 --chunk 16 --block 4 name [0-9a-f]{32}"
+        self.assertRegex(self.store.read_text().splitlines()[0], f"^{head}$")
 
     def test_sizes_that_make_no_store(self) -> None:
         for name, size, told in (

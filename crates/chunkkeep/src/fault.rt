@@ -14,6 +14,8 @@ pub(crate) enum Fault {
     NoStore,
     #[error("nothing stands there, and --existing makes no store")]
     NotThere,
+    #[error("nothing stands there, and no name can be drawn for a new store: {0}")]
+    Name(io::Error),
     #[error("nothing stands there")]
     Absent,
     #[error("it is a symbolic link to a name under which nothing stands; no store is made there")]

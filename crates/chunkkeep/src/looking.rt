@@ -76,7 +76,7 @@ pub(crate) fn look<R: Files<File = File> + Input + Print + Eprint + Clock + Allo
 
 /// Says on standard output what the first line of a file says.
 fn tell_head(rt: &impl Print, path: &str, head: &HeadLine) -> io::Result<()> {
-    let HeadLine { form, config } = head;
+    let HeadLine { form, config, name } = head;
     let number = match form {
         Form::One => 1,
         Form::Two => 2,
@@ -86,9 +86,13 @@ fn tell_head(rt: &impl Print, path: &str, head: &HeadLine) -> io::Result<()> {
     let replicas = config.replicas;
     let chunk = config.chunk;
     let block = config.block;
-    println!(rt;
+    print!(rt;
         "{path}: a store of form {number}, --servers {servers} --racks {racks} --replicas {replicas} --chunk {chunk} --block {block}"
-    )
+    )?;
+    match name {
+        Some(name) => println!(rt; ", name {name}"),
+        None => println!(rt; ""),
+    }
 }
 
 /// Says on standard output what was run, and what a start would do.

@@ -4,6 +4,7 @@
 
 ghost use Rattle.std.specs.Prelude.{◌≡◌, false, is_some};
 
+mod drawing;
 mod fault;
 mod looking;
 mod memory_desk;

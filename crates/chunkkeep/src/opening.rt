@@ -1,11 +1,14 @@
-ghost use Rattle.std.specs.Prelude.{◌≡◌, false, IfOk, is_some};
+ghost use Rattle.std.specs.Prelude.{◌≡◌, true, false, IfOk, IfErr, OnOk, is_some};
+ghost use Rattle.gs_keep_options.specs.Sizes.{fits};
+ghost use Rattle.chunkkeep.specs.Opening.{DiffersAs, RefusesLine, Says, is_second};
 
+use crate::drawing::drawn_name;
 use crate::fault::Fault;
 use crate::memory_desk::MemoryDesk;
 use gs_base::Config;
 use gs_keep::{FirstLineFault, Made, Making, Source, Standing, StandingFault, found_in};
-use gs_keep_file::{Opened, Standing as Stands, make, open, open_to_read, what_stands};
-use gs_keep_head::{Form, HeadFault, HeadLine, head, read_head};
+use gs_keep_file::{FirstText, Opened, Standing as Stands, make, open, open_to_read, what_stands};
+use gs_keep_head::{Form, HeadFault, HeadLine, LogName, NAME_DIGITS, head, read_head};
 use gs_keep_measure::Extent;
 use gs_keep_options::{Asked, Sizes};
 use gs_shell_line::{EndedLine, EndedLines, Line, content_of, next_line};
@@ -71,22 +74,37 @@ impl Making for Opener {
 
     type Fault = Fault;
 
-    ghost Begins = { λ opener head is_second desk. Unit {0} };
+    ghost use Rattle.chunkkeep.specs.Opening.{BeginsAt, RefusesAt};
 
-    ghost Refuses = { λ opener head fault. Unit {0} };
+    ghost Begins = { λ opener head is_second desk. BeginsAt opener.sizes opener.is_lab head is_second desk };
+
+    ghost Refuses = { λ opener head fault. RefusesAt opener.sizes head fault };
 
     fn make(&self, alloc: Global, line: &[u8]) -> Result<Made<MemoryDesk>, Fault> {
         let head = head_of(alloc, line)?;
         compare(&self.sizes, &head.config)?;
         Ok(Made {
             machine: MemoryDesk::new(alloc, head.config, self.is_lab)?,
-            is_second: head.form == Form::Two,
+            is_second: is_second(head.form),
         })
     }
 }
 
+/// Whether a file of this form has marks.
+fn is_second(form: Form) -> bool
+    ensures { result ≡ is_second form }
+{
+    match form {
+        Form::One => false,
+        Form::Two => true,
+    }
+}
+
 /// Refuses sizes that are asked for and aren't the store's.
-fn compare(sizes: &Sizes, config: &Config) -> Result<(), Fault> {
+fn compare(sizes: &Sizes, config: &Config) -> Result<(), Fault>
+    ensures fits { OnOk result (fits sizes.now config.now ≡ true) }
+    ensures differs { IfErr result (λ e. DiffersAs e sizes.now config.now) }
+{
     match sizes.difference(config) {
         Some(difference) => Err(Fault::Differs {
             name: difference.name,
@@ -96,8 +114,11 @@ fn compare(sizes: &Sizes, config: &Config) -> Result<(), Fault> {
     }
 }
 
-/// What a first line says.
-fn head_of(alloc: Global, line: &[u8]) -> Result<HeadLine, Fault> {
+/// What a first line says, which has its end.
+fn head_of(alloc: Global, line: &[u8]) -> Result<HeadLine, Fault>
+    ensures says { IfOk result (λ head. Says head line.now) }
+    ensures refused { IfErr result (λ e. RefusesLine e line.now) }
+{
     match read_head(alloc, content_of(line)) {
         Ok(head) => Ok(head),
         Err(HeadFault::Memory) => Err(Fault::Memory),
@@ -106,11 +127,20 @@ fn head_of(alloc: Global, line: &[u8]) -> Result<HeadLine, Fault> {
     }
 }
 
-/// The first line of a log, with its end.
-fn head_line(alloc: Global, config: &Config) -> Result<String, AllocError> {
-    let mut text = head(alloc, Form::Two, config)?;
+/// The first line of a log that has a name, with its end.
+fn head_line(alloc: Global, config: &Config, name: LogName) -> Result<String, AllocError> {
+    let mut text = head(alloc, Form::Two, config, Some(name))?;
     text.push('\n')?;
     Ok(text)
+}
+
+/// The first line of a new log, of which the name is drawn.
+fn first_text(line: &str) -> FirstText<'_> {
+    // The name stands at the end of the line.
+    let (fixed, drawn) = line
+        .as_bytes()
+        .split_at(line.len().saturating_sub(NAME_DIGITS + 1));
+    FirstText { fixed, drawn }
 }
 
 /// Why a file in which no line ends is refused.
@@ -218,10 +248,14 @@ fn made<'a, R: Files<File = File> + AllocGlobal>(
     let Ok(config) = asked.sizes.config() else {
         return Err(Fault::NoStore);
     };
-    let Ok(text) = head_line(rt.alloc(), &config) else {
+    let name = match drawn_name(rt) {
+        Ok(name) => name,
+        Err(error) => return Err(Fault::Name(error)),
+    };
+    let Ok(line) = head_line(rt.alloc(), &config, name) else {
         return Err(Fault::Memory);
     };
-    match make(rt, &asked.path, beside, text.as_bytes()) {
+    match make(rt, &asked.path, beside, &first_text(&line)) {
         Ok(opened) => Ok(opened),
         Err(fault) => Err(Fault::Opening(fault)),
     }

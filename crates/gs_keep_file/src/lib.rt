@@ -16,7 +16,7 @@ mod standard;
 pub use aside::{open_to_read, put_aside};
 pub use file::{FileFault, LogFile};
 pub use log::FileLog;
-pub use making::make;
+pub use making::{FirstText, make};
 pub use named::NamedFile;
 pub use opening::{OpenFault, Opened, Standing, open, what_stands};
 pub use standard::{Placeholders, fill_standard};

@@ -1,5 +1,6 @@
 // A log's file is made beside its name, and gets the name once its first line is on the disk.
-ghost use Rattle.std.specs.Prelude.{◌≡◌, None, IfOk};
+ghost use Rattle.std.specs.Prelude.{◌≡◌, None, IfOk, length};
+ghost use Rattle.gs_keep_file.specs.Making.{is_begun_by};
 ghost use Rattle.gs_keep_file.specs.Standard.{IsBeyond};
 
 use crate::named::Identity;
@@ -9,18 +10,42 @@ use std::fs::{self, File};
 use std::io::{self, ErrorKind, Read, Write};
 use std::rt::Files;
 
-/// Whether a file holds a beginning of the text, or all of it, and nothing else.
-fn is_begun(alloc: Global, mut file: &File, text: &[u8]) -> io::Result<bool> {
+/// The first text of a log's file.
+#[derive(Clone, Copy)]
+pub struct FirstText<'a> {
+    /// The beginning that each run would write.
+    pub fixed: &'a [u8],
+    /// What stands after that, which each run draws anew.
+    pub drawn: &'a [u8],
+}
+
+impl FirstText<'_> {
+    /// Whether bytes are a beginning of the text, or of one that another run has drawn: they end within what is fixed, or go on after that
+    /// and are no longer than the text.
+    fn is_begun_by(&self, bytes: &[u8]) -> bool
+        ensures { result ≡ is_begun_by self.now.fixed.now (length self.now.drawn.now) bytes.now }
+    {
+        if bytes.len() <= self.fixed.len() {
+            return self.fixed.starts_with(bytes);
+        }
+        bytes.starts_with(self.fixed) && bytes.len() - self.fixed.len() <= self.drawn.len()
+    }
+}
+
+/// Whether a file holds a beginning of the text, or of one that another run has drawn, and nothing else.
+fn is_begun(alloc: Global, mut file: &File, text: &FirstText<'_>) -> io::Result<bool> {
     let mut bytes = Vec::new(alloc);
-    let most = (text.len() as u64).saturating_add(1);
+    let len = text.fixed.len().saturating_add(text.drawn.len());
+    let most = (len as u64).saturating_add(1);
     file.take(most).read_to_end(&mut bytes)?;
-    Ok(text.starts_with(&bytes))
+    Ok(text.is_begun_by(&bytes))
 }
 
 /// Puts a text into a file in place of what stands there, and waits until it is on the disk.
-fn put(mut file: &File, text: &[u8]) -> io::Result<()> {
+fn put(mut file: &File, text: &FirstText<'_>) -> io::Result<()> {
     file.set_len(0)?;
-    file.write_all(text)?;
+    file.write_all(text.fixed)?;
+    file.write_all(text.drawn)?;
     file.sync_all()
 }
 
@@ -49,7 +74,7 @@ fn named<R: Files<File = File>>(
     path: &str,
     beside: &str,
     file: &File,
-    text: &[u8],
+    text: &FirstText<'_>,
 ) -> io::Result<()> {
     let folder = File::open(rt, folder_of(path))?;
     put(file, text)?;
@@ -78,11 +103,11 @@ fn is_link<R: Files>(rt: &R, path: &str) -> bool {
     }
 }
 
-/// The file beside the name, locked. Refused where it holds anything but a beginning of the text.
+/// The file beside the name, locked. Refused where it holds anything but a beginning of the text, or of one that another run has drawn.
 fn begun<R: Files<File = File> + AllocGlobal>(
     rt: &R,
     beside: &str,
-    text: &[u8],
+    text: &FirstText<'_>,
 ) -> Result<File, OpenFault>
     ensures { IfOk result (λ f. IsBeyond f) }
 {
@@ -102,12 +127,12 @@ fn begun<R: Files<File = File> + AllocGlobal>(
 
 /// Makes the file of a log where nothing stands under its name, with a first text, and locks it. It is made under the name `beside`, and
 /// gets its own once the text is on the disk, so a crash leaves the whole text or no file of that name. What a crash left under the name
-/// `beside` is gone on from, if it is a beginning of the same text.
+/// `beside` is written anew, if it is a beginning of the same text or of one of which only what is drawn differs.
 pub fn make<'a, R: Files<File = File> + AllocGlobal>(
     rt: &'a R,
     path: &'a str,
     beside: &str,
-    text: &[u8],
+    text: &FirstText<'_>,
 ) -> Result<Opened<'a, R>, OpenFault>
     ensures fault { IfOk result (λ opened. opened.log.fault ≡ None) }
     ensures log { IfOk result (λ opened. IsBeyond opened.log.file.file) }

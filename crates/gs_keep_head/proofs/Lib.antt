@@ -1,3 +1,5 @@
 pub mod Words
 pub mod Splitting
+pub mod Names
 pub mod Numbers
+pub mod Behind

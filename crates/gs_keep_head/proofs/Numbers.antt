@@ -1,5 +1,5 @@
 -- What a first line says is read.
-use Rattle.std.proofs.Common.{◌≡◌, ◌<◌, ◌≤◌, ◌∷◌, [], ◌*◌, ◌/◌, ◌%◌, ◌^◌, ◌&&◌, ◌==◌, ℕ, zero, suc, true, not, cond, length, List, nat_lt, nat_le, codes, Option, Some, None, refl, sym, ap, subst, ◌∙◌, arith, mul-le-mul, div-add-mod', mod-lt}
+use Rattle.std.proofs.Common.{◌≡◌, ◌<◌, ◌≤◌, ◌∷◌, ◌++◌, [], ◌*◌, ◌/◌, ◌%◌, ◌^◌, ◌&&◌, ◌==◌, ℕ, zero, suc, true, not, cond, length, List, nat_lt, nat_le, codes, Option, Some, None, option_map, IfSome, refl, sym, ap, subst, ◌∙◌, arith, mul-le-mul, div-add-mod', mod-lt}
 use Rattle.std.specs.Fmt.{decimal}
 use Rattle.std.specs.List.{slice_split}
 use Rattle.std.specs.Str.{IsAscii, IsUtf8, all_ascii_digits}
@@ -9,11 +9,13 @@ use Rattle.std.proofs.lemmas.Bool.Decides.{nat_tests}
 use Rattle.std.proofs.lemmas.Fmt.{decimal_is_IsNumeral, decimal_nonempty, digits_decimal, digits_value-decimal}
 use Rattle.std.proofs.lemmas.Str.{IsUtf8-from_ascii}
 use Rattle.std.proofs.lemmas.Str.Parse.{IsNumeralModel, numerals_by_value, tells_all_ascii_digits}
+use Rattle.hex.specs.Hex.{encode_lower}
 use Rattle.gs_base.specs.Configs.{is_within}
 use Rattle.gs_keep_head.specs.declared.Form.{Form}
 use Rattle.gs_keep_head.specs.declared.Form.TheVariants as form
-use Rattle.gs_keep_head.specs.Head.{AreSizes, Sizes, ◌>>=◌, form_digit, head_text, head_words, number_of, store_sizes, words_sizes}
-use Rattle.gs_keep_head.proofs.Splitting.{AllPlain, joined, joined_ascii, plain, plain_digits, split_joined}
+use Rattle.gs_keep_head.specs.Head.{AreSizes, IsName, Sizes, ◌>>=◌, form_digit, head_text, head_words, name_of, named_parts, number_of, sized_text, sized_words, store_sizes, words_name, words_parts, words_sizes}
+use Rattle.gs_keep_head.proofs.Names.{name_read, plain_name}
+use Rattle.gs_keep_head.proofs.Splitting.{AllPlain, joined, joined_ascii, joined_more, plain, plain_digits, plain_more, split_joined}
 
 -- ---- sizes are below 2 ^ 64
 
@@ -73,16 +75,22 @@ number_decimal n h =
 abbrev chain : (o1 o2 o3 o4 o5 : Option ℕ) → Option Sizes
 chain o1 o2 o3 o4 o5 = o1 >>= λ a. o2 >>= λ b. o3 >>= λ c. o4 >>= λ d. o5 >>= λ e. store_sizes a b c d e
 
-pub words_say : (f : Form) (s : Sizes) → AreSizes s → words_sizes (head_words f s) ≡ Some s
+sizes_read : (f : Form) (s : Sizes) → AreSizes s → words_sizes (sized_words f s) ≡ Some s
 unfolding words_sizes
-words_say form.One s h =
+sizes_read form.One s h =
     let m = small s h in
     (λ i. chain (number_decimal s.servers m.servers i) (number_decimal s.racks m.racks i) (number_decimal s.replicas m.replicas i) (number_decimal s.chunk m.chunk i) (number_decimal s.block m.block i))
     ∙ ap (λ b. cond b (Some s) None) h
-words_say form.Two s h =
+sizes_read form.Two s h =
     let m = small s h in
     (λ i. chain (number_decimal s.servers m.servers i) (number_decimal s.racks m.racks i) (number_decimal s.replicas m.replicas i) (number_decimal s.chunk m.chunk i) (number_decimal s.block m.block i))
     ∙ ap (λ b. cond b (Some s) None) h
+
+pub words_say : (f : Form) (s : Sizes) (name : Option (List ℕ)) → AreSizes s → IfSome name IsName → words_parts (head_words f s name) ≡ Some (s, name)
+unfolding words_parts words_name
+words_say f s None h is = ap (λ o. o >>= λ sizes. named_parts sizes []) (sizes_read f s h)
+words_say f s (Some bytes) h is =
+    ap (λ o. o >>= λ sizes. named_parts sizes (codes "name" ∷ encode_lower bytes ∷ [])) (sizes_read f s h) ∙ ap (option_map (λ bytes. (s, Some bytes))) (name_read bytes is)
 
 -- ---- its words
 
@@ -123,13 +131,37 @@ all_plain f s h =
       ),
     )
 
-is_joined : (f : Form) (s : Sizes) → head_text f s ≡ joined (codes "chunkkeep") (behind f s)
+sized_joined : (f : Form) (s : Sizes) → sized_text f s ≡ joined (codes "chunkkeep") (behind f s)
+unfolding sized_text
+sized_joined form.One s = refl
+sized_joined form.Two s = refl
+
+-- the words behind the first one
+abbrev all_behind : Form → Sizes → Option (List ℕ) → List (List ℕ)
+all_behind f s None = behind f s
+all_behind f s (Some bytes) = behind f s ++ codes "name" ∷ encode_lower bytes ∷ []
+
+is_joined : (f : Form) (s : Sizes) (name : Option (List ℕ)) → head_text f s name ≡ joined (codes "chunkkeep") (all_behind f s name)
 unfolding head_text
-is_joined form.One s = refl
-is_joined form.Two s = refl
+is_joined f s None = sized_joined f s
+is_joined f s (Some bytes) =
+    ap (λ (l : List ℕ). l ++ (codes " name " ++ encode_lower bytes)) (sized_joined f s) ∙ sym (joined_more (codes "chunkkeep") (behind f s) (codes "name") (encode_lower bytes ∷ []))
 
-pub head_splits : (f : Form) (s : Sizes) → AreSizes s → slice_split (λ b. b == 32) (head_text f s) ≡ head_words f s
-head_splits f s h = ap (slice_split (λ b. b == 32)) (is_joined f s) ∙ split_joined (codes "chunkkeep") (behind f s) refl (all_plain f s h)
+whole_plain : (f : Form) (s : Sizes) (name : Option (List ℕ)) → AreSizes s → IfSome name IsName → AllPlain (all_behind f s name)
+whole_plain f s None h is = all_plain f s h
+whole_plain f s (Some bytes) h is =
+    let last : AllPlain (codes "name" ∷ encode_lower bytes ∷ []) = (refl, (plain_name bytes is.1, tt)) in
+    plain_more (behind f s) (codes "name" ∷ encode_lower bytes ∷ []) (all_plain f s h) last
 
-pub head_utf8 : (f : Form) (s : Sizes) → AreSizes s → IsUtf8 (head_text f s)
-head_utf8 f s h = IsUtf8-from_ascii (head_text f s) (subst IsAscii (sym (is_joined f s)) (joined_ascii (codes "chunkkeep") (behind f s) refl (all_plain f s h)))
+head_is : (f : Form) (s : Sizes) (name : Option (List ℕ)) → codes "chunkkeep" ∷ all_behind f s name ≡ head_words f s name
+head_is f s None = refl
+head_is f s (Some bytes) = refl
+
+pub head_splits : (f : Form) (s : Sizes) (name : Option (List ℕ)) → AreSizes s → IfSome name IsName → slice_split (λ b. b == 32) (head_text f s name) ≡ head_words f s name
+head_splits f s name h is =
+    ap (slice_split (λ b. b == 32)) (is_joined f s name) ∙ split_joined (codes "chunkkeep") (all_behind f s name) refl (whole_plain f s name h is) ∙ head_is f s name
+
+pub head_utf8 : (f : Form) (s : Sizes) (name : Option (List ℕ)) → AreSizes s → IfSome name IsName → IsUtf8 (head_text f s name)
+head_utf8 f s name h is =
+    IsUtf8-from_ascii (head_text f s name)
+    (subst IsAscii (sym (is_joined f s name)) (joined_ascii (codes "chunkkeep") (all_behind f s name) refl (whole_plain f s name h is)))

@@ -1,5 +1,5 @@
 -- A text of words with single spaces between is split into these words.
-use Rattle.std.proofs.Common.{◌≡◌, ◌<◌, ◌++◌, ◌∷◌, [], ◌&&◌, ◌==◌, ℕ, Bool, true, false, List, All, nat_lt, refl, ap, ◌∙◌, arith}
+use Rattle.std.proofs.Common.{◌≡◌, ◌<◌, ◌++◌, ◌∷◌, [], ◌&&◌, ◌==◌, ℕ, Bool, true, false, List, All, nat_lt, refl, sym, ap, ◌∙◌, arith}
 use Rattle.std.specs.List.{AllByRecursion, slice_split}
 use Rattle.std.specs.Str.{IsAscii}
 use Rattle.std.specs.Str.Parse.{AllDigits}
@@ -7,6 +7,7 @@ use Rattle.std.proofs.lemmas.Str.Parse.{digit_from_value}
 use Rattle.std.proofs.lemmas.Bool.{and_from, and_parts, lt-ltb, ltb-true}
 use Rattle.std.proofs.lemmas.Bool.Decides.{nat_tests}
 use Rattle.std.proofs.lemmas.List.Elements.{All-nil, All-cons}
+use Rattle.std.proofs.lemmas.List.{append_assoc}
 use Rattle.std.proofs.lemmas.List.Splits.{slice_split_at, slice_split_none}
 use Rattle.std.proofs.lemmas.Str.{IsAscii-append}
 use Rattle.std.proofs.lemmas.Str.Ascii.{IsAscii-nil, IsAscii-cons}
@@ -51,3 +52,13 @@ split_joined w (v ∷ ws) h hs = slice_split_at (λ b. b == 32) w 32 (joined v w
 pub joined_ascii : (w : List ℕ) (ws : List (List ℕ)) → plain w ≡ true → AllPlain ws → IsAscii (joined w ws)
 joined_ascii w [] h hs = plain_ascii w h
 joined_ascii w (v ∷ ws) h hs = IsAscii-append w (32 ∷ joined v ws) (plain_ascii w h) (IsAscii-cons 32 (joined v ws) (omega arith) (joined_ascii v ws hs.0 hs.1))
+
+-- ---- words behind words
+
+pub joined_more : (w : List ℕ) (ws : List (List ℕ)) (v : List ℕ) (vs : List (List ℕ)) → joined w (ws ++ v ∷ vs) ≡ joined w ws ++ 32 ∷ joined v vs
+joined_more w [] v vs = refl
+joined_more w (u ∷ ws) v vs = ap (λ (l : List ℕ). w ++ 32 ∷ l) (joined_more u ws v vs) ∙ sym (append_assoc w (32 ∷ joined u ws) (32 ∷ joined v vs))
+
+pub plain_more : (ws vs : List (List ℕ)) → AllPlain ws → AllPlain vs → AllPlain (ws ++ vs)
+plain_more [] vs h hs = hs
+plain_more (w ∷ ws) vs h hs = (h.0, plain_more ws vs h.1 hs)

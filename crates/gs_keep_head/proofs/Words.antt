@@ -1,6 +1,6 @@
 -- The words of a first line, one by one.
 use Rattle.std.proofs.Common.{◌≡◌, ◌<◌, ◌≤◌, ◌∷◌, [], ℕ, List, ◌&&◌, ◌||◌, cond, length, map, get_or, Option, None, refl, arith, codes, bytes_eq, Bor}
-use Rattle.gs_keep_head.specs.Head.{Sizes, named_sizes, words_sizes}
+use Rattle.gs_keep_head.specs.Head.{Sizes, name_of, named_sizes, words_name, words_sizes}
 
 pub not_twelve : (ws : List (Bor (List ℕ))) → (length ws ≡ 12 → ⊥) → words_sizes (map (λ w. w.now) ws) ≡ None
 unfolding words_sizes
@@ -42,3 +42,23 @@ twelve (w0 ∷ w1 ∷ w2 ∷ w3 ∷ w4 ∷ w5 ∷ w6 ∷ w7 ∷ w8 ∷ w9 ∷ []
 twelve (w0 ∷ w1 ∷ w2 ∷ w3 ∷ w4 ∷ w5 ∷ w6 ∷ w7 ∷ w8 ∷ w9 ∷ w10 ∷ []) d least most = absurd (omega (arith, least))
 twelve (w0 ∷ w1 ∷ w2 ∷ w3 ∷ w4 ∷ w5 ∷ w6 ∷ w7 ∷ w8 ∷ w9 ∷ w10 ∷ w11 ∷ []) d least most = refl
 twelve (w0 ∷ w1 ∷ w2 ∷ w3 ∷ w4 ∷ w5 ∷ w6 ∷ w7 ∷ w8 ∷ w9 ∷ w10 ∷ w11 ∷ w12 ∷ rest) d least most = absurd (omega (arith, most))
+
+-- ---- the words of a name
+
+pub not_two : (ws : List (Bor (List ℕ))) → (length ws ≡ 2 → ⊥) → words_name (map (λ w. w.now) ws) ≡ None
+unfolding words_name
+not_two [] other = refl
+not_two (w0 ∷ []) other = refl
+not_two (w0 ∷ w1 ∷ []) other = absurd (other refl)
+not_two (w0 ∷ w1 ∷ w2 ∷ rest) other = refl
+
+-- what two words name
+abbrev pub called : (ws : List (Bor (List ℕ))) (d : Bor (List ℕ)) → Option (List ℕ)
+called ws d = cond (bytes_eq (get_or ws 0 d).now (codes "name")) (name_of (get_or ws 1 d).now) None
+
+pub two : (ws : List (Bor (List ℕ))) (d : Bor (List ℕ)) → 2 ≤ length ws → length ws < 3 → words_name (map (λ w. w.now) ws) ≡ called ws d
+unfolding words_name
+two [] d least most = absurd (omega (arith, least))
+two (w0 ∷ []) d least most = absurd (omega (arith, least))
+two (w0 ∷ w1 ∷ []) d least most = refl
+two (w0 ∷ w1 ∷ w2 ∷ rest) d least most = absurd (omega (arith, most))

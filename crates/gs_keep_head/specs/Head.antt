@@ -1,13 +1,17 @@
 -- The first line of a log, without its end.
-use Rattle.std.specs.Prelude.{◌≡◌, ◌≢◌, ◌++◌, ◌∷◌, ◌^◌, ◌&&◌, ◌||◌, ◌==◌, ℕ, true, not, List, [], length, codes, bytes_eq, nat_lt, Option, Some, None, option_and_then, Result, Ok, Err, if◌then◌else◌}
+use Rattle.std.specs.Prelude.{◌≡◌, ◌≢◌, ◌++◌, ◌∷◌, ◌^◌, ◌&&◌, ◌||◌, ◌==◌, ℕ, true, not, List, [], length, take, drop, codes, bytes_eq, nat_lt, Option, Some, None, IfSome, option_map, option_and_then, Result, Ok, Err, if◌then◌else◌}
 use Rattle.std.specs.Fmt.{decimal}
 use Rattle.std.specs.Str.{all_ascii_digits}
 use Rattle.std.specs.Str.Parse.{digits_value}
+use Rattle.std.specs.Result.{result_ok}
+use Rattle.hex.specs.Hex.{IsBytes, decode_sized, encode_lower}
 use Rattle.gs_base.specs.Configs.{is_config}
 use Rattle.gs_base.specs.declared.config.Config.{Config}
 use Rattle.gs_keep_head.specs.declared.Form.{Form}
 use Rattle.gs_keep_head.specs.declared.Form.TheVariants as form
 use Rattle.gs_keep_head.specs.declared.HeadLine.{HeadLine}
+use Rattle.gs_keep_head.specs.declared.Parts.{Parts}
+use Rattle.gs_keep_head.specs.declared.name.LogName.{LogName}
 use Rattle.gs_keep_head.specs.declared.HeadFault.{HeadFault}
 use Rattle.gs_keep_head.specs.declared.HeadFault.TheVariants as fault
 
@@ -30,24 +34,44 @@ abbrev pub form_digit : Form → List ℕ
 form_digit form.One = codes "1"
 form_digit form.Two = codes "2"
 
--- the first line of the log of a store of these sizes
-unfoldable pub head_text : Form → Sizes → List ℕ
-head_text f s =
+-- a name is 16 bytes
+abbrev pub IsName : List ℕ → Type 0
+IsName bytes = (length bytes ≡ 16) × IsBytes bytes
+
+abbrev pub bytes_of : Option LogName → Option (List ℕ)
+bytes_of name = option_map (λ n. n.bytes) name
+
+-- what a first line says of the form and the sizes
+unfoldable pub sized_text : Form → Sizes → List ℕ
+sized_text f s =
     codes "chunkkeep " ++ (form_digit f ++ (codes " --servers " ++ (decimal s.servers ++ (codes " --racks " ++ (decimal s.racks ++ (codes " --replicas " ++ (decimal s.replicas
     ++ (codes " --chunk " ++ (decimal s.chunk ++ (codes " --block " ++ decimal s.block))))))))))
 
+-- the first line of the log of a store of these sizes, with the log's name if it has one
+unfoldable pub head_text : Form → Sizes → Option (List ℕ) → List ℕ
+head_text f s None = sized_text f s
+head_text f s (Some bytes) = sized_text f s ++ (codes " name " ++ encode_lower bytes)
+
 -- its words
-abbrev pub head_words : Form → Sizes → List (List ℕ)
-head_words f s =
+abbrev pub sized_words : Form → Sizes → List (List ℕ)
+sized_words f s =
     codes "chunkkeep" ∷ form_digit f ∷ codes "--servers" ∷ decimal s.servers ∷ codes "--racks" ∷ decimal s.racks ∷ codes "--replicas" ∷ decimal s.replicas
     ∷ codes "--chunk" ∷ decimal s.chunk ∷ codes "--block" ∷ decimal s.block ∷ []
 
--- What is read is the line of a store of its sizes; what isn't read is the line of no store, unless memory is lacking to tell.
+abbrev pub head_words : Form → Sizes → Option (List ℕ) → List (List ℕ)
+head_words f s None = sized_words f s
+head_words f s (Some bytes) = sized_words f s ++ (codes "name" ∷ encode_lower bytes ∷ [])
+
+-- a line is the first of no log
+abbrev pub IsNoHead : List ℕ → Type 0
+IsNoHead line = (f : Form) (s : Sizes) (name : Option (List ℕ)) → AreSizes s → IfSome name IsName → line ≢ head_text f s name
+
+-- What is read is the line of a log of its form, sizes and name; what isn't read is the line of none, unless memory is lacking to tell.
 abbrev pub Reads : Result HeadLine HeadFault → List ℕ → Type 0
-Reads (Ok head) line = line ≡ head_text head.form (sizes_of head.config)
+Reads (Ok head) line = line ≡ head_text head.form (sizes_of head.config) (bytes_of head.name)
 Reads (Err fault.Memory) line = Unit {0}
-Reads (Err fault.Version) line = (f : Form) (s : Sizes) → AreSizes s → line ≢ head_text f s
-Reads (Err fault.Other) line = (f : Form) (s : Sizes) → AreSizes s → line ≢ head_text f s
+Reads (Err fault.Version) line = IsNoHead line
+Reads (Err fault.Other) line = IsNoHead line
 
 -- ---- how the words are read
 
@@ -86,3 +110,28 @@ words_sizes words = None
 abbrev pub SizedAs : Option Config → Option Sizes → Type 0
 SizedAs (Some c) sizes = sizes ≡ Some (sizes_of c)
 SizedAs None sizes = sizes ≡ None
+
+-- the bytes that 32 hexadecimal digits write
+abbrev pub name_of : List ℕ → Option (List ℕ)
+name_of digits = result_ok (decode_sized digits 16)
+
+unfoldable pub words_name : List (List ℕ) → Option (List ℕ)
+words_name (word ∷ digits ∷ []) = if bytes_eq word (codes "name") then name_of digits else None
+words_name words = None
+
+abbrev pub CalledAs : Option LogName → Option (List ℕ) → Type 0
+CalledAs name bytes = bytes ≡ bytes_of name
+
+-- these sizes, and the name that the words behind them tell, if there are any
+abbrev pub named_parts : Sizes → List (List ℕ) → Option (Sizes × Option (List ℕ))
+named_parts sizes [] = Some (sizes, None)
+named_parts sizes (word ∷ words) = option_map (λ bytes. (sizes, Some bytes)) (words_name (word ∷ words))
+
+-- the sizes and the name that words tell
+unfoldable pub words_parts : List (List ℕ) → Option (Sizes × Option (List ℕ))
+words_parts words = do
+  sizes ← words_sizes (take 12 words)
+  named_parts sizes (drop 12 words)
+
+abbrev pub PartsAs : Option Parts → Option (Sizes × Option (List ℕ)) → Type 0
+PartsAs parts told = told ≡ option_map (λ p. (sizes_of p.config, bytes_of p.name)) parts

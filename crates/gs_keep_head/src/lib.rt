@@ -1,13 +1,20 @@
-//! The first line of the log of a store that is kept: its form, and the sizes of the store.
+//! The first line of the log of a store that is kept: its form, the sizes of the store, and the name that was drawn for the log.
 #![tactic(auto)]
 
 ghost use Rattle.std.specs.Prelude.{◌≡◌, ◌≢◌, ◌==◌, ◌&&◌, ◌||◌, ℕ, true, false, bytes_eq, codes, if◌then◌else◌, IfOk, IfErr, map, string_bytes};
 ghost use Rattle.std.specs.List.{slice_split};
-ghost use Rattle.gs_keep_head.specs.Head.{Reads, SizedAs, Sizes, form_digit, head_text, named_number, named_sizes, number_of, sizes_of, words_sizes};
+ghost use Rattle.gs_keep_head.specs.Head.{Reads, PartsAs, SizedAs, Sizes, bytes_of, form_digit, head_text, named_number, named_parts, named_sizes, number_of, sized_text, sizes_of, words_parts, words_sizes};
+
+mod name;
 
 use gs_base::Config;
+use name::name_in;
+pub use name::{LogName, NAME_BYTES, NAME_DIGITS};
 use std::alloc::{AllocError, Global};
 use std::str;
+
+/// How many words of a first line tell its form and sizes.
+const SIZE_WORDS: usize = 12;
 
 /// Why a line isn't the first one of a log.
 #[derive(Clone, Copy, Debug, PartialEq, Eq)]
@@ -45,6 +52,8 @@ pub enum Form {
 pub struct HeadLine {
     pub form: Form,
     pub config: Config,
+    /// The log's name, if one was drawn for it.
+    pub name: Option<LogName>,
 }
 
 fn form_digit(form: Form) -> &'static str
@@ -56,10 +65,10 @@ fn form_digit(form: Form) -> &'static str
     }
 }
 
-/// The first line of the log of a store of these sizes, without its end.
-#[tactic(auto, unfolding(crate::specs::Head::head_text))]
-pub fn head(alloc: Global, form: Form, config: &Config) -> Result<String, AllocError>
-    ensures { IfOk result (λ text. string_bytes text ≡ head_text form (sizes_of config.now)) }
+/// What a first line says of the form and the sizes.
+#[tactic(auto, unfolding(crate::specs::Head::sized_text))]
+fn sized_text(alloc: Global, form: Form, config: &Config) -> Result<String, AllocError>
+    ensures { IfOk result (λ text. string_bytes text ≡ sized_text form (sizes_of config.now)) }
 {
     let digit = form_digit(form);
     let servers = config.servers;
@@ -70,6 +79,23 @@ pub fn head(alloc: Global, form: Form, config: &Config) -> Result<String, AllocE
     format!(in alloc;
         "chunkkeep {digit} --servers {servers} --racks {racks} --replicas {replicas} --chunk {chunk} --block {block}"
     )
+}
+
+/// The first line of a log, without its end: of the log of a store of these sizes that has this name, or has none.
+#[tactic(auto, unfolding(crate::specs::Head::head_text))]
+pub fn head(
+    alloc: Global,
+    form: Form,
+    config: &Config,
+    name: Option<LogName>,
+) -> Result<String, AllocError>
+    ensures { IfOk result (λ text. string_bytes text ≡ head_text form (sizes_of config.now) (bytes_of name)) }
+{
+    let text = sized_text(alloc, form, config)?;
+    match name {
+        Some(name) => format!(in alloc; "{text} name {name}"),
+        None => Ok(text),
+    }
 }
 
 /// The number that decimal digits write, where it has 64 bits.
@@ -164,6 +190,42 @@ fn sizes(words: &[&str]) -> Option<Config>
     )
 }
 
+/// What the words of a first line say, but for its form.
+#[derive(Clone, Copy)]
+struct Parts {
+    config: Config,
+    name: Option<LogName>,
+}
+
+/// These sizes, and the name that the words after them tell, if there are any.
+fn named_parts(config: Config, words: &[&str]) -> Option<Parts>
+    ensures { PartsAs result (named_parts (sizes_of config) (map (λ w. w.now) words.now)) }
+{
+    if words.is_empty() {
+        return Some(Parts { config, name: None });
+    }
+    match name_in(words) {
+        Some(name) => Some(Parts {
+            config,
+            name: Some(name),
+        }),
+        None => None,
+    }
+}
+
+/// The sizes and the name that the words of a first line tell.
+fn parts_of(words: &[&str]) -> Option<Parts>
+    ensures { PartsAs result (words_parts (map (λ w. w.now) words.now)) }
+{
+    if words.len() < SIZE_WORDS {
+        return None;
+    }
+    match sizes(&words[..SIZE_WORDS]) {
+        Some(config) => named_parts(config, &words[SIZE_WORDS..]),
+        None => None,
+    }
+}
+
 /// The words of a text, which single spaces separate.
 fn words_of<'a>(alloc: Global, text: &'a str) -> Result<Vec<&'a str>, AllocError>
     ensures { IfOk result (λ v. map (λ w. w.now) v.items ≡ slice_split (λ b. b == 32) text.entry.now) }
@@ -181,16 +243,17 @@ fn fault_of(words: &[&str]) -> HeadFault
     }
 }
 
-/// Whether a text is the first line of the log of a store of these sizes.
-fn is_head(alloc: Global, form: Form, config: &Config, text: &str) -> Result<bool, AllocError>
-    ensures { IfOk result (λ is. (is ≡ true → text.now ≡ head_text form (sizes_of config.now)) × (is ≡ false → text.now ≢ head_text form (sizes_of config.now))) }
+/// Whether a text is the first line of a log of this form that has these parts.
+fn is_head(alloc: Global, form: Form, parts: Parts, text: &str) -> Result<bool, AllocError>
+    ensures { IfOk result (λ is. (is ≡ true → text.now ≡ head_text form (sizes_of parts.config) (bytes_of parts.name))
+        × (is ≡ false → text.now ≢ head_text form (sizes_of parts.config) (bytes_of parts.name))) }
 {
-    let again = head(alloc, form, config)?;
+    let again = head(alloc, form, &parts.config, parts.name)?;
     Ok(again.as_str() == text)
 }
 
-/// The form and the sizes of the store of whose log this is the first line, without its end. A line is taken exactly as [`head`] writes
-/// it: with no number written otherwise, no space more, and no size of which there is no store.
+/// What the first line of a log says, without its end. A line is taken exactly as [`head`] writes it: with no number written otherwise,
+/// no space more, no upper case in the name, and no size of which there is no store.
 pub fn read_head(alloc: Global, line: &[u8]) -> Result<HeadLine, HeadFault>
     ensures { Reads result line.now }
 {
@@ -198,19 +261,22 @@ pub fn read_head(alloc: Global, line: &[u8]) -> Result<HeadLine, HeadFault>
         return Err(HeadFault::Other);
     };
     let words = words_of(alloc, text)?;
-    let Some(config) = sizes(&words) else {
+    let Some(parts) = parts_of(&words) else {
         return Err(fault_of(&words));
     };
-    if is_head(alloc, Form::Two, &config, text)? {
+    let Parts { config, name } = parts;
+    if is_head(alloc, Form::Two, parts, text)? {
         return Ok(HeadLine {
             form: Form::Two,
             config,
+            name,
         });
     }
-    if is_head(alloc, Form::One, &config, text)? {
+    if is_head(alloc, Form::One, parts, text)? {
         return Ok(HeadLine {
             form: Form::One,
             config,
+            name,
         });
     }
     Err(HeadFault::Other)
