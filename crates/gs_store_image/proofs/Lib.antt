@@ -1,3 +1,5 @@
+pub mod Belonging
 pub mod Tables
 pub mod Outcomes
-pub mod Unsealed
+pub mod Seals
+pub mod Replicas

@@ -1,3 +1,4 @@
+pub mod Belonging
 pub mod Encoding
 pub mod Writable
 pub mod Reading

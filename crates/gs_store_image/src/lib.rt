@@ -1,10 +1,13 @@
-//! A server's store as bytes, for the image of a kept store: a replica that isn't sealed, as it stands. What is read is what was
-//! written, and nothing else is read.
+//! A server's store as bytes, for the image of a kept store: its replicas, as they stand and with their seals. What is read is what
+//! was written, and nothing else is read.
 #![tactic(auto)]
 
 mod done;
+mod first;
+mod images;
 pub mod promises;
 mod replica;
+mod seal;
 mod table;
 
-pub use replica::{put_unsealed, read_unsealed};
+pub use replica::{put_replica, read_replica};

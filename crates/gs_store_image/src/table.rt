@@ -8,7 +8,7 @@ ghost use Rattle.gs_store_image.specs.Reading.{rises, table_at};
 
 use crate::done::DoneField;
 use gs_base::ClientId;
-use gs_fields::{Cursor, Fault, put_long_list, read_long_list};
+use gs_fields::{Cursor, Fault, Field, put_long_list, read_long_list};
 use gs_replica::DoneTable;
 use std::alloc::{AllocError, Global};
 
@@ -24,18 +24,18 @@ fn entries_of(alloc: Global, table: &DoneTable) -> Result<Vec<(u32, DoneField)>,
 }
 
 /// Whether each client is below the next.
-fn rises(entries: &[(u32, DoneField)]) -> bool
-    ensures { result ≡ rises (map (λ e. (e.0, e.1.done)) entries.now) }
+pub(crate) fn rises<F: Field>(entries: &[(u32, F)]) -> bool
+    ensures { result ≡ rises (map (λ e. (e.0, F.plain e.1)) entries.now) }
 {
     let Some((first, rest)) = entries.split_first() else {
         return true;
     };
-    let mut last = first;
+    let mut last = first.0;
     for entry in rest {
-        if last.0 >= entry.0 {
+        if last >= entry.0 {
             return false;
         }
-        last = entry;
+        last = entry.0;
     }
     true
 }

@@ -6,7 +6,7 @@ use Rattle.gs_fields.proofs.Steps.{puts_two}
 use Rattle.gs_replica.specs.Parts.{stands_as}
 use Rattle.gs_store_image.specs.Encoding.{counted}
 use Rattle.gs_store_image.specs.Writable.{AreCounted}
-use Rattle.gs_store_image.proofs.replica.put_unsealed.Goals as goal
+use Rattle.gs_store_image.proofs.replica.put_parts.Goals as goal
 
 pub returns : goal.returns
 returns c =

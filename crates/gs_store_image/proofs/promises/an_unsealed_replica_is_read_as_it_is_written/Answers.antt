@@ -1,8 +1,0 @@
-use Rattle.gs_store_image.proofs.Unsealed.{reads_unsealed, held_are}
-use Rattle.gs_store_image.proofs.promises.an_unsealed_replica_is_read_as_it_is_written.Goals as goal
-
-pub returns-clause-reads : goal.returns-clause-reads
-returns-clause-reads c = reads_unsealed
-
-pub returns-clause-held : goal.returns-clause-held
-returns-clause-held c = held_are
