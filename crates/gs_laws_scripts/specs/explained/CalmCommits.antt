@@ -1,4 +1,4 @@
--- What a script is answered right after a prepare or a rollback that is accepted, while its lines look, are about nodes, or change the tree and are answered `ok`.
+-- What a script is answered right after a prepare or a rollback that is accepted, while its lines look, are about nodes, or change the tree, and of these changes each answer tells what came of it.
 use Rattle.std.proofs.Common.{inl, inr}
 use Rattle.std.specs.Prelude.{[], ◌++◌, ◌∷◌, ◌≡◌, ◌⊎◌, List, Option, Some, codes, decimal, length, refl, true, ℕ}
 use Rattle.std.specs.Char.{encode_utf8}
@@ -12,7 +12,7 @@ use Rattle.gs_shell_grammar.specs.Grammar as lines
 use Rattle.gs_shell_grammar.specs.declared.command.Upgrade.TheVariants as upgrades
 use Rattle.gs_shell_script.specs.Run.{lines_of}
 use Rattle.gs_shell_script.specs.declared.RunFault.TheVariants as fault
-use Rattle.gs_laws_scripts.specs.explained.Changes.{AreCalmLines}
+use Rattle.gs_laws_scripts.specs.explained.Changes.{AreCalmLines, a_refusal_is_sure, an_answer_is_sure}
 use Rattle.gs_laws_scripts.specs.explained.Commits.{AreExplainedFrom}
 use Rattle.gs_laws_scripts.specs.explained.Standing.{phase_after}
 use Rattle.gs_laws_scripts.specs.lists.Lines.{commits_prepare, commits_rollback}
@@ -59,24 +59,24 @@ CalmUntilAWriteFails D = (seen : D → List ℕ) (failures : D → ℕ) (config 
     → standing (seen disks.0) (seen disks.1) ≡ fresh
     → CalmLinesAfter config.chunk config.block s.fails.lines s.fails.written.texts × CalmLinesAfter config.chunk config.block (s.fails.lines ++ s.fails.line ∷ []) (s.fails.written.texts ++ s.fails.text ∷ [])
 
--- ---- Worked: after a prepare a directory is made, and moved
+-- ---- Worked: after a prepare a directory is made, made again, and moved
 abbrev some_lines : List (List ℕ)
-some_lines = codes "append /f 00" ∷ codes "rollingUpgrade prepare" ∷ codes "mkdir /d" ∷ codes "mv /d /e" ∷ codes "ls /" ∷ codes "rm /f" ∷ []
+some_lines = codes "append /f 00" ∷ codes "rollingUpgrade prepare" ∷ codes "mkdir /d" ∷ codes "mkdir /d" ∷ codes "mv /d /e" ∷ codes "ls /" ∷ codes "rm /f" ∷ []
 
 abbrev some_texts : List ℕ → List ℕ → List (List ℕ)
-some_texts had said = had ∷ codes "ok 1" ∷ codes "ok" ∷ codes "ok" ∷ codes "ok e/ f" ∷ said ∷ []
+some_texts had said = had ∷ codes "ok 1" ∷ codes "ok" ∷ codes "refused 4 Exists" ∷ codes "ok" ∷ codes "ok e/ f" ∷ said ∷ []
 
 it_is_such_a_script : (had said : List ℕ) → HasCalmLines some_lines (some_texts had said)
 unfolding one_word two_words three_words upgrade_line number_line lose_line is_utf8 chars encode_utf8 digits
 it_is_such_a_script had said = record {
   before = codes "append /f 00" ∷ [];
   commit = codes "rollingUpgrade prepare";
-  calm = codes "mkdir /d" ∷ codes "mv /d /e" ∷ codes "ls /" ∷ [];
+  calm = codes "mkdir /d" ∷ codes "mkdir /d" ∷ codes "mv /d /e" ∷ codes "ls /" ∷ [];
   later = codes "rm /f" ∷ [];
   lines_are = refl;
   texts_before = had ∷ [];
   epoch = 1;
-  texts_calm = codes "ok" ∷ codes "ok" ∷ codes "ok e/ f" ∷ [];
+  texts_calm = codes "ok" ∷ codes "refused 4 Exists" ∷ codes "ok" ∷ codes "ok e/ f" ∷ [];
   texts_later = said ∷ [];
   texts_are = refl;
   long_before = refl;
@@ -84,5 +84,5 @@ it_is_such_a_script had said = record {
   by = lines.RollingUpgrade upgrades.Prepare;
   commits = inl refl;
   asks = refl;
-  are = (inr (refl, refl), (inr (refl, refl), (inl (refl, λ stat. absurd (cc)), tt)));
+  are = (inr (refl, an_answer_is_sure), (inr (refl, a_refusal_is_sure), (inr (refl, an_answer_is_sure), (inl (refl, λ stat. absurd (cc)), tt))));
 }

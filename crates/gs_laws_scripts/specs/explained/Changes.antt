@@ -2,12 +2,16 @@
 use Rattle.std.specs.Prelude.{[], ◌∷◌, ◌≡◌, ◌⊎◌, Bool, Err, List, Ok, Option, Result, Some, codes, false, refl, true, ℕ}
 use Rattle.std.proofs.Common.{inl, inr}
 use Rattle.std.specs.Char.{encode_utf8}
+use Rattle.std.specs.Fmt.{digits}
 use Rattle.std.specs.Str.{chars, is_utf8}
 use Rattle.gs_base.specs.declared.config.Config.{Config}
 use Rattle.gs_base.specs.declared.numbers.Moment.{Moment}
 use Rattle.gs_base.specs.declared.numbers.ReqId.{ReqId}
+use Rattle.gs_base.specs.Refusals.{refusal_text}
 use Rattle.gs_base.specs.declared.refusal.Refusal.{Refusal}
-use Rattle.gs_client.specs.declared.link.Reply.TheVariants as replies
+use Rattle.gs_base.specs.declared.refusal.Refusal.TheVariants as refusals
+use Rattle.gs_client.specs.Replies.{changed}
+use Rattle.gs_client.specs.declared.link.Reply.{Reply}
 use Rattle.gs_laws_moves.specs.answers.Changes.{Changes, edit_for}
 use Rattle.gs_laws_world.specs.steady.Asking.{MayBeAsked}
 use Rattle.gs_master_record.specs.Plain.{PlainEdit}
@@ -23,11 +27,10 @@ use Rattle.gs_shell_grammar.specs.Grammar.{Request, one_word, three_words, two_w
 use Rattle.gs_shell_grammar.specs.Grammar as lines
 use Rattle.gs_shell_script.specs.Run.{Runs}
 use Rattle.gs_laws_scripts.specs.explained.Asking.{Replies}
-use Rattle.gs_laws_scripts.specs.explained.Lines.{AsksNow, AsksTree, Explains, told}
+use Rattle.gs_laws_scripts.specs.explained.Lines.{Asks, AsksNow, Explains, overtaken}
 use Rattle.gs_laws_scripts.specs.explained.Looked.{LooksUp}
 use Rattle.gs_laws_scripts.specs.explained.Machine.{Machine}
 use Rattle.gs_laws_scripts.specs.explained.Standing.{IsStillLine, ShowsNames, Stands}
-use Rattle.gs_laws_scripts.specs.lists.Scripts.{IsAccepted}
 use Rattle.gs_laws_scripts.specs.plain.Machines.{asked_in}
 
 -- An accepted change is done as the machine does it, and the machine shows what the master has then. A refused one is refused as the machine refuses it, or by the store, and the machine is as it was.
@@ -42,10 +45,15 @@ abbrev pub ChangesAreTold : Type 0
 ChangesAreTold = (config : Config) (s : State) (req : ReqId) (moment : Moment) (m : Machine) (call : Call) (edit : PlainEdit) (result : Result Said Refusal) → ShowsNames s.durable m → edit_for call ≡ Some edit → Replies config s req moment call result →
     ((said : Said) → result ≡ Ok said → Changes s req edit (new_call config s req moment call)) → IsChangeTold (new_call config s req moment call).after.durable call m result
 
--- Such a change that a desk carries for its client, and that is accepted, is explained from each machine for which the desk stands, and after it the desk stands for the machine to which it leads.
+-- What came of a change is known: nobody is unsure of it, and its request isn't told to be an old one.
+pub record IsOver (result : Result Said Refusal) : Type 0 where
+  pub sure : result ≡ Err refusals.Unsure → ⊥
+  pub new : result ≡ Err refusals.Old → ⊥
+
+-- Such a change that a desk carries for its client, and that is over, is done as the machine does it, or the store refuses it. After it the desk stands for the machine, with its late calls overtaken where it is accepted.
 abbrev pub ChangesAreExplainedThere : Type 0 → Type 0
-ChangesAreExplainedThere D = (seen : D → List ℕ) (failures : D → ℕ) (config : Config) (size : ℕ) (old new : Desk D) (m : Machine) (call : Call) (edit : PlainEdit) (said : Said) → Stands seen config old m → edit_for call ≡ Some edit → MayBeAsked (requests.Call call) →
-    LooksUp seen failures old call (replies.Answer said) new → (next : Machine) × AsksTree size (Ok call) m (Ok (told said)) next × Stands seen config new next
+ChangesAreExplainedThere D = (seen : D → List ℕ) (failures : D → ℕ) (config : Config) (size : ℕ) (old new : Desk D) (m : Machine) (call : Call) (edit : PlainEdit) (reply : Reply) → Stands seen config old m → edit_for call ≡ Some edit → MayBeAsked (requests.Call call) →
+    LooksUp seen failures old call reply new → IsOver (changed reply) → (mid : Machine) × Asks size call m (changed reply) mid × Stands seen config new (overtaken call (changed reply, mid))
 
 -- ---- lines
 
@@ -57,9 +65,15 @@ is_change_line (Some (lines.Mv p q)) = true
 is_change_line (Some (lines.Undelete p)) = true
 is_change_line asked = false
 
--- such a line that is answered `ok`, or one that leaves what stands
+-- The answer tells what came of the line: it isn't that the request is an old one (19), that nobody is sure (29), or that memory is wanting (33).
+pub record IsSure (text : List ℕ) : Type 0 where
+  pub new : text ≡ refusal_text refusals.Old → ⊥
+  pub sure : text ≡ refusal_text refusals.Unsure → ⊥
+  pub told : text ≡ refusal_text refusals.Memory → ⊥
+
+-- such a line, accepted or refused, whose answer tells what came of it; or one that leaves what stands
 abbrev pub IsCalmLine : List ℕ → List ℕ → Type 0
-IsCalmLine whole text = IsStillLine whole text ⊎ ((is_change_line (asked_in whole) ≡ true) × IsAccepted text)
+IsCalmLine whole text = IsStillLine whole text ⊎ ((is_change_line (asked_in whole) ≡ true) × IsSure text)
 
 -- all lines, with their answers
 abbrev pub AreCalmLines : List (List ℕ) → List (List ℕ) → Type 0
@@ -71,7 +85,29 @@ abbrev pub CalmLinesAreExplained : Type 0 → Type 0
 CalmLinesAreExplained D = (seen : D → List ℕ) (failures : D → ℕ) (config : Config) (size block : ℕ) (old new : Desk D) (all texts : List (List ℕ)) (m : Machine) → Stands seen config old m → AreCalmLines all texts →
     Runs (AnswersText seen failures) old all texts new → (end : Machine) × Runs (Explains size block) m all texts end × Stands seen config new end
 
--- ---- Worked
-some_lines_are_such : AreCalmLines (codes "mkdir /d" ∷ codes "ls /" ∷ codes "mv /d /e" ∷ []) (codes "ok" ∷ codes "ok d/" ∷ codes "ok" ∷ [])
+-- ---- Worked: a directory is made, and made again; it is moved, and a move of what isn't there is refused
+pub an_answer_is_sure : IsSure (codes "ok")
+unfolding digits
+an_answer_is_sure = record { new = λ is. absurd (cc); sure = λ is. absurd (cc); told = λ is. absurd (cc) }
+
+pub a_refusal_is_sure : IsSure (codes "refused 4 Exists")
+unfolding digits
+a_refusal_is_sure = record { new = λ is. absurd (cc); sure = λ is. absurd (cc); told = λ is. absurd (cc) }
+
+what_is_not_there_is_sure : IsSure (codes "refused 3 NotFound")
+unfolding digits
+what_is_not_there_is_sure = record { new = λ is. absurd (cc); sure = λ is. absurd (cc); told = λ is. absurd (cc) }
+
+nobody_is_sure : IsSure (codes "refused 29 Unsure") → ⊥
+unfolding digits
+nobody_is_sure text = text.sure refl
+
+abbrev some_lines : List (List ℕ)
+some_lines = codes "mkdir /d" ∷ codes "mkdir /d" ∷ codes "ls /" ∷ codes "mv /d /e" ∷ codes "mv /d /f" ∷ []
+
+abbrev some_texts : List (List ℕ)
+some_texts = codes "ok" ∷ codes "refused 4 Exists" ∷ codes "ok d/" ∷ codes "ok" ∷ codes "refused 3 NotFound" ∷ []
+
+some_lines_are_such : AreCalmLines some_lines some_texts
 unfolding one_word two_words three_words is_utf8 chars encode_utf8
-some_lines_are_such = (inr (refl, refl), (inl (refl, λ stat. absurd (cc)), (inr (refl, refl), tt)))
+some_lines_are_such = (inr (refl, an_answer_is_sure), (inr (refl, a_refusal_is_sure), (inl (refl, λ stat. absurd (cc)), (inr (refl, an_answer_is_sure), (inr (refl, what_is_not_there_is_sure), tt)))))

@@ -1,32 +1,23 @@
--- A change of the tree that a desk carries and that is accepted is explained, and the desk stands for the machine to which it leads.
-use Rattle.std.proofs.Common.{[], ap, refl, subst, sym, ◌∷◌, ◌∙◌, ◌≡◌, Bool, List, Ok, Result, Some, false, if◌then◌else◌, true, ℕ}
+-- A change of the tree that a desk carries and that is over is explained, and the desk stands for the machine to which it leads.
+use Rattle.std.proofs.Common.{[], ap, refl, subst, sym, ◌≡◌, Bool, List, Ok, Result, Some, false, if◌then◌else◌, true, ℕ}
 use Rattle.std.specs.Prelude.{is_some}
 use Rattle.std.proofs.lemmas.Bool.{false≢true}
-use Rattle.std.specs.FinMap as fin
 use Rattle.gs_base.specs.Told.{IsNumber}
 use Rattle.gs_base.specs.declared.config.Config.{Config}
 use Rattle.gs_base.specs.declared.numbers.Moment.{Moment}
 use Rattle.gs_base.specs.declared.refusal.Refusal.{Refusal}
+use Rattle.gs_client.specs.Replies.{changed}
 use Rattle.gs_client.specs.declared.client.Client.{Client}
+use Rattle.gs_client.specs.declared.link.Reply.{Reply}
 use Rattle.gs_client.specs.declared.link.Reply.TheVariants as replies
-use Rattle.gs_edit.specs.Mapped.{mapped_rows}
-use Rattle.gs_edit.specs.View.{NamesView}
-use Rattle.gs_laws_chunks.proofs.lemmas.answers.Behind.{all_spare}
-use Rattle.gs_laws_chunks.proofs.lemmas.answers.Changed.{changes_leave_still, changes_stay_calm}
-use Rattle.gs_laws_chunks.proofs.lemmas.answers.Replied.{run_replied}
-use Rattle.gs_laws_chunks.proofs.lemmas.answers.Served.{stays_served}
-use Rattle.gs_laws_chunks.proofs.lemmas.answers.Sparing.{AllSpare, asked_spared, lasts_spared}
-use Rattle.gs_laws_chunks.proofs.lemmas.calls.Arming.{unarmed_alone}
-use Rattle.gs_laws_chunks.specs.answers.Behind.{asks_call}
-use Rattle.gs_laws_chunks.specs.answers.Changed.{HadItsTurn, IsChanged}
+use Rattle.gs_laws_chunks.proofs.lemmas.answers.Changed.{changes_leave_still}
+use Rattle.gs_laws_chunks.specs.answers.Changed.{IsChanged}
 use Rattle.gs_laws_chunks.specs.desks.Reached.{history}
 use Rattle.gs_laws_looks.specs.carrying.Carried.{IsCarried}
 use Rattle.gs_laws_moves.specs.answers.Changes.{edit_for}
-use Rattle.gs_laws_world.proofs.lemmas.steady.Keeping.{run_keeps}
 use Rattle.gs_laws_world.specs.steady.Asking.{MayBeAsked}
 use Rattle.gs_laws_world.specs.steady.Unarmed.{unarmed}
 use Rattle.gs_master_record.specs.Plain.{PlainEdit}
-use Rattle.gs_master_spec.specs.Calls.{told_phase}
 use Rattle.gs_master_spec.specs.Durable.{Durable}
 use Rattle.gs_master_spec.specs.Handling.{new_call}
 use Rattle.gs_msg.specs.declared.answer.Answer.{Answer as Said}
@@ -37,18 +28,17 @@ use Rattle.gs_msg.specs.declared.event.Request.TheVariants as requests
 use Rattle.gs_shell_desk.specs.Ways.{way_of}
 use Rattle.gs_shell_desk.specs.declared.desk.Desk.{Desk}
 use Rattle.gs_shell_desk.specs.declared.wire.Wire.{Wire}
-use Rattle.gs_world.proofs.Staying.{run_same}
 use Rattle.gs_world.specs.Histories.{History}
-use Rattle.gs_world.specs.Runs.{RunsTo, Step, Takes}
+use Rattle.gs_laws_scripts.proofs.lemmas.explained.Behind.{IsTaken, shows_then, stands_behind}
 use Rattle.gs_laws_scripts.proofs.lemmas.explained.Changes.{changes_are_told}
-use Rattle.gs_laws_scripts.proofs.lemmas.explained.Listed.{undisturbed_on}
+use Rattle.gs_laws_scripts.proofs.lemmas.explained.Refusing.{no_server_replies, refusal_explained}
 use Rattle.gs_laws_scripts.proofs.lemmas.lists.Lines.{answered_on}
 use Rattle.gs_laws_scripts.proofs.lemmas.reads.Clients.{still_mine}
-use Rattle.gs_laws_scripts.specs.explained.Changes.{ChangesAreExplainedThere, IsChangeTold}
-use Rattle.gs_laws_scripts.specs.explained.Lines.{AsksTree, overtaken, told}
+use Rattle.gs_laws_scripts.specs.explained.Changes.{ChangesAreExplainedThere, IsChangeTold, IsOver}
+use Rattle.gs_laws_scripts.specs.explained.Lines.{Asks, overtaken}
 use Rattle.gs_laws_scripts.specs.explained.Looked.{LooksUp}
 use Rattle.gs_laws_scripts.specs.explained.Machine.{Machine, is_remembered, overtaking}
-use Rattle.gs_laws_scripts.specs.explained.Standing.{IsUndisturbed, ShowsNames, Stands, the_client}
+use Rattle.gs_laws_scripts.specs.explained.Standing.{ShowsNames, Stands, the_client}
 
 -- ---- late calls that it overtakes: the machine shows what it did
 
@@ -67,83 +57,53 @@ overtaking_shows d call said m shows = by_test (is_remembered call)
     by_test true = record { text = shows.text; tree = shows.tree; epoch = shows.epoch; phase = shows.phase }
     by_test false = shows
 
-module _ {D : Type 0} (seen : D → List ℕ) (failures : D → ℕ) (config : Config) (size : ℕ) (old new : Desk D) (m : Machine) (call : Call) (edit : PlainEdit) (said : Said) (st : Stands seen config old m) (is : edit_for call ≡ Some edit) (may : MayBeAsked (requests.Call call))
-    (carried : LooksUp seen failures old call (replies.Answer said) new) where
+module _ {D : Type 0} (seen : D → List ℕ) (failures : D → ℕ) (config : Config) (size : ℕ) (old new : Desk D) (m : Machine) (call : Call) (edit : PlainEdit) (st : Stands seen config old m) (is : edit_for call ≡ Some edit) (may : MayBeAsked (requests.Call call)) where
   abbrev at : Desk D → Client × Wire D
   at d = (d.caller.client, d.wire)
 
   abbrev before : History D
   before = history st.sent (way_of old.wire)
 
-  done : IsCarried seen failures the_client (way_of old.wire) st.sent call said (way_of new.wire)
-  done = subst (λ k. IsCarried seen failures k (way_of old.wire) st.sent call said (way_of new.wire)) st.ours.0 (answered_on seen failures st.sent (at old) (at new) call said st.covers st.moment may carried)
+  -- ---- where it is accepted
 
-  changed : IsChanged st.durable edit the_client st.number done.has.req call said done.mid
-  changed = changes_leave_still seen failures unarmed st.durable the_client st.number before done.mid call edit said is st.rests.asked st.rests.types st.rests.lasts st.rests.still done.has
+  module _ (said : Said) (carried : LooksUp seen failures old call (replies.Answer said) new) where
+    done : IsCarried seen failures the_client (way_of old.wire) st.sent call said (way_of new.wire)
+    done = subst (λ k. IsCarried seen failures k (way_of old.wire) st.sent call said (way_of new.wire)) st.ours.0 (answered_on seen failures st.sent (at old) (at new) call said st.covers st.moment may carried)
 
-  abbrev turn : HadItsTurn st.durable the_client st.number done.has.req call (Ok said)
-  turn = changed.turn
+    abbrev taken : IsTaken seen failures config old new m st call done.mid
+    taken = record {
+      since = record { moment = done.has.moment; req = done.has.req; own = done.has.own; asked = done.has.asked; asks = done.has.asks; steps = done.has.steps; runs = done.has.runs; within = done.has.within; looking = done.has.looking };
+      after = done.after;
+      takes = done.takes;
+      covers = done.covers;
+      moment = subst (λ (moment : Moment). IsNumber moment.0) (sym done.moment) st.moment;
+      ours = still_mine seen failures config (at old) (at new) (requests.Call call) (replies.Answer said) st.ours carried;
+    }
 
-  abbrev e : Durable
-  e = (new_call turn.config turn.state done.has.req turn.moment call).after.durable
+    changed_so : IsChanged st.durable edit the_client st.number done.has.req call said done.mid
+    changed_so = changes_leave_still seen failures unarmed st.durable the_client st.number before done.mid call edit said is st.rests.asked st.rests.types st.rests.lasts st.rests.still done.has
 
-  -- ---- what stands after it
+    abbrev e : Durable
+    e = (new_call changed_so.turn.config changed_so.turn.state done.has.req changed_so.turn.moment call).after.durable
 
-  abbrev steps : List Step
-  steps = asks_call done.has.moment done.has.req call ∷ done.has.steps
+    is_told : IsChangeTold e call m (Ok said)
+    is_told =
+        changes_are_told changed_so.turn.config changed_so.turn.state done.has.req changed_so.turn.moment m call edit (Ok said) (shows_then seen failures config old new m st changed_so.turn.state changed_so.turn.stood) is changed_so.turn.says (λ other same. changed_so.changes)
 
-  runs : RunsTo seen failures unarmed steps before done.mid
-  runs = (done.has.asked, (Ok tt, done.has.asks.happens), done.has.runs)
+    shows : ShowsNames e (overtaken call (Ok said, is_told.0))
+    shows = subst (ShowsNames e) (sym (overtaken_is call (ap is_some is) (Ok said, is_told.0))) (overtaking_shows e call said is_told.0 is_told.2)
 
-  spare : AllSpare steps
-  spare = (refl, all_spare the_client done.has.steps done.has.looking)
+    answer_explained : (mid : Machine) × Asks size call m (Ok said) mid × Stands seen config new (overtaken call (Ok said, mid))
+    answer_explained = (is_told.0, ([], is_told.1), stands_behind seen failures config old new m st call edit is done.mid taken e changed_so.still (overtaken call (Ok said, is_told.0)) shows)
 
-  rests_mid : IsUndisturbed seen e done.has.req.number done.mid
-  rests_mid = (let u = st.rests in record {
-    still = changed.still;
-    asked = asked_spared seen failures unarmed steps before done.mid runs spare done.has.within u.types u.lasts u.asked;
-    types = run_keeps seen failures unarmed steps before done.mid runs done.has.within u.types;
-    lasts = lasts_spared seen failures unarmed steps before done.mid runs spare done.has.within u.types u.lasts;
-    served = stays_served seen failures unarmed (unarmed_alone seen failures) steps before done.mid runs done.has.within u.types u.lasts u.asked u.served;
-    replied = run_replied seen failures unarmed steps before done.mid runs u.replied;
-    calm = changes_stay_calm seen failures unarmed st.durable the_client st.number before done.has.asked done.mid done.has.moment done.has.req call edit done.has.steps is u.asked u.types u.lasts u.still u.calm done.has.own done.has.asks done.has.runs done.has.within done.has.looking;
-    one = (run_same seen failures unarmed steps before done.mid runs).clients ∙ u.one;
-  })
+  -- ---- whatever it is told, if that is over
 
-  rests : IsUndisturbed seen e done.has.req.number (history done.after (way_of new.wire))
-  rests = undisturbed_on seen failures e done.has.req.number (Takes the_client ∷ []) done.mid (history done.after (way_of new.wire)) done.takes (tt, tt) ((refl, tt), tt) rests_mid
-
-  stands_for : (next : Machine) → ShowsNames e next → Stands seen config new next
-  stands_for next shows = record {
-    sent = done.after;
-    covers = done.covers;
-    moment = subst (λ (moment : Moment). IsNumber moment.0) (sym done.moment) st.moment;
-    ours = still_mine seen failures config (at old) (at new) (requests.Call call) (replies.Answer said) st.ours carried;
-    durable = e;
-    number = done.has.req.number;
-    rests = rests;
-    shows = shows;
-  }
-
-  -- ---- what the machine does
-
-  shows_then : ShowsNames turn.state.durable m
-  shows_then = record {
-    text = st.shows.text;
-    tree = st.shows.tree ∙ ap (λ (names : NamesView). mapped_rows st.shows.text (fin.entries names.tree)) (sym turn.stood.names);
-    epoch = st.shows.epoch ∙ sym turn.stood.epoch;
-    phase = st.shows.phase ∙ ap (told_phase false) (sym turn.stood.phase);
-  }
-
-  is_told : IsChangeTold e call m (Ok said)
-  is_told = changes_are_told turn.config turn.state done.has.req turn.moment m call edit (Ok said) shows_then is turn.says (λ other same. changed.changes)
-
-  explained : (next : Machine) × AsksTree size (Ok call) m (Ok (told said)) next × Stands seen config new next
-  explained = (
-    overtaken call (Ok said, is_told.0),
-    (Ok said, is_told.0, ([], is_told.1), refl, refl),
-    stands_for (overtaken call (Ok said, is_told.0)) (subst (ShowsNames e) (sym (overtaken_is call (ap is_some is) (Ok said, is_told.0))) (overtaking_shows e call said is_told.0 is_told.2)),
-  )
+  explained : (reply : Reply) → LooksUp seen failures old call reply new → IsOver (changed reply) → (mid : Machine) × Asks size call m (changed reply) mid × Stands seen config new (overtaken call (changed reply, mid))
+  explained (replies.Answer said) carried over = answer_explained said carried
+  explained (replies.Refused refusal) carried over = refusal_explained seen failures config size old new m call edit st is may refusal over carried
+  explained replies.Lost carried over = absurd (over.sure refl)
+  explained (replies.Given given) carried over = absurd (no_server_replies seen failures config size old new m call edit st is may (replies.Given given) tt carried)
+  explained (replies.Outcome outcome) carried over = absurd (no_server_replies seen failures config size old new m call edit st is may (replies.Outcome outcome) tt carried)
 
 pub changes_are_explained_there : {D : Type 0} → ChangesAreExplainedThere D
-changes_are_explained_there seen failures config size old new m call edit said st is may carried = explained seen failures config size old new m call edit said st is may carried
+changes_are_explained_there seen failures config size old new m call edit reply st is may carried over = explained seen failures config size old new m call edit st is may reply carried over

@@ -1,26 +1,17 @@
 -- Lines that leave what stands are explained in a script, right after a prepare or a rollback that is accepted.
-use Rattle.std.proofs.Common.{[], ap, inl, inr, subst, ◌++◌, ◌∷◌, ◌∙◌, ◌≡◌, ◌⊎◌, List, Option, Result, true, ℕ}
+use Rattle.std.proofs.Common.{[], ap, inl, inr, subst, ◌++◌, ◌∷◌, ◌∙◌, ◌≡◌, ◌⊎◌, List, true, ℕ}
 use Rattle.std.specs.Prelude.{codes, decimal}
 use Rattle.gs_base.specs.declared.config.Config.{Config}
-use Rattle.gs_journal.specs.Memory.{bytes_of, times_failed}
 use Rattle.gs_journal.specs.Records.{fresh, standing}
-use Rattle.gs_nodes.specs.NewDisks.{OverEmpty}
-use Rattle.gs_shell.proofs.Answered.{answers}
-use Rattle.gs_shell.specs.Answering.{Answers}
-use Rattle.gs_shell.specs.Telling.{Tells}
-use Rattle.gs_shell.specs.Watching.{both_watched, failures_of, seen_of}
-use Rattle.gs_shell.specs.declared.trouble.Trouble.{Trouble}
 use Rattle.gs_shell_desk.specs.Starting.{Starts}
 use Rattle.gs_shell_desk.specs.declared.desk.Desk.{Desk}
 use Rattle.gs_shell_grammar.specs.Grammar.{Request}
 use Rattle.gs_shell_script.specs.Run.{lines_of}
-use Rattle.gs_shell_script.specs.declared.RunFault.{RunFault}
 use Rattle.gs_world.proofs.Reaching.{HaveSizes}
 use Rattle.gs_laws_chunks.proofs.lemmas.desks.Lines.{start_reaches}
 use Rattle.gs_laws_chunks.specs.desks.Within.{IsReachedWithin}
 use Rattle.gs_laws_scripts.proofs.lemmas.explained.Committed.{commits_stand}
 use Rattle.gs_laws_scripts.proofs.lemmas.explained.Still.{lines_go}
-use Rattle.gs_laws_scripts.proofs.lemmas.lists.Listing.{empty_disks}
 use Rattle.gs_laws_scripts.proofs.lemmas.lists.Scripts.{Epoch_at, Line_answered, Lines_run, one_more, prepared, reached, rolled, split}
 use Rattle.gs_laws_scripts.proofs.lemmas.reads.Clients.{lines_mine}
 use Rattle.gs_laws_scripts.specs.answers.Meeting.{IsClientOf}
@@ -72,13 +63,3 @@ module _ (sizes : HaveSizes) {D : Type 0} where
     from_start sizes seen failures config disks config.chunk config.block empty s.begun s.ended s.starts (s.fails.lines ++ s.fails.line ∷ []) (s.fails.written.texts ++ s.fails.text ∷ [])
         (one_more seen failures s.fails.lines s.fails.written.texts s.fails.line s.fails.text s.begun s.fails.before s.ended s.fails.written.runs s.fails.answers),
   )
-
--- ---- a run of the shell
-
-pub run_after_a_commit : HaveSizes → (config : Config) (trouble : Trouble) (r : Result (Unit {0}) RunFault) (before left old new : Option (List ℕ)) → OverEmpty (λ disks. Tells bytes_of times_failed config disks trouble r before left old new)
-    → Answers (StillLinesAfter config.chunk config.block) r before left old new
-run_after_a_commit sizes config trouble r before left old new (disks, empty, told) =
-    answers bytes_of times_failed config disks trouble (StillLinesAfter config.chunk config.block)
-    (λ begun ended starts it input lines more texts parts runs.
-    from_start sizes (seen_of bytes_of) (failures_of times_failed) config (both_watched disks) config.chunk config.block (empty_disks disks empty) begun ended starts lines texts runs)
-    left old new r before told

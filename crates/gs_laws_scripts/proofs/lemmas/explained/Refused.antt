@@ -87,13 +87,13 @@ read_is_shallow (c ∷ rest) p is = by_slash (c == 47) is
 -- ---- a request that isn't taken
 
 -- the one client
-one_there : (clients : List Node) → length clients ≡ 1 → (n : Node) × (client_in clients the_client ≡ Some n)
+pub one_there : (clients : List Node) → length clients ≡ 1 → (n : Node) × (client_in clients the_client ≡ Some n)
 one_there [] one = absurd (omega arith)
 one_there (n ∷ clients) one = (n, refl)
 
 -- it is refused by the store: for want of memory, or since its number was used
 module _ {D : Type 0} (seen : D → List ℕ) (failures : D → ℕ) where
-  not_taken : (old new : History D) (moment : Moment) (req : ReqId) (request : Request) (refusal : Refusal) → req.client ≡ the_client → length old.nodes.clients ≡ 1 → Happens seen failures unarmed (asks_at moment req request) old (Err refusal) new → IsOfStore refusal
+  pub not_taken : (old new : History D) (moment : Moment) (req : ReqId) (request : Request) (refusal : Refusal) → req.client ≡ the_client → length old.nodes.clients ≡ 1 → Happens seen failures unarmed (asks_at moment req request) old (Err refusal) new → IsOfStore refusal
   not_taken old new moment req request refusal own one h = by_at h.at.1
     where
       never : {e : Refusal} → ◌≡◌ {A = Result (Unit {0}) Refusal} (Err e) (Ok tt) → ⊥
@@ -129,12 +129,12 @@ module _ {D : Type 0} (seen : D → List ℕ) (failures : D → ℕ) where
   is_delivery (happenings.Damage server handle block) moment delivers = absurd delivers
   is_delivery (happenings.FailDisk disk call) moment delivers = absurd delivers
 
-  all_look : (steps : List Step) → AllByRecursion Delivers steps → AllByRecursion (IsLooking the_client) steps
+  pub all_look : (steps : List Step) → AllByRecursion Delivers steps → AllByRecursion (IsLooking the_client) steps
   all_look [] all = tt
   all_look (Comes event ∷ steps) all = (is_delivery event.happening event.moment all.0, all_look steps all.1)
   all_look (Takes client ∷ steps) all = absurd all.0
 
-  has_found : (o : Option Reply) (reply : Reply) → reply ≡ unwrap_or o replies.Lost → (reply ≡ replies.Lost) ⊎ (o ≡ Some reply)
+  pub has_found : (o : Option Reply) (reply : Reply) → reply ≡ unwrap_or o replies.Lost → (reply ≡ replies.Lost) ⊎ (o ≡ Some reply)
   has_found None reply is = inl is
   has_found (Some found) reply is = inr (ap Some (sym is))
 

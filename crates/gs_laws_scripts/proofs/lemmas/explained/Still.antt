@@ -204,7 +204,7 @@ module _ {D : Type 0} (seen : D → List ℕ) (failures : D → ℕ) where
     look_told_there call reply look once may carried = look_told seen failures config st.durable st.number st.sent (at old) (at new) call reply look once may st.ours st.covers st.moment st.rests carried
 
     -- nothing happens
-    stands_still : at new ≡ at old → Stands seen config new m
+    pub stands_still : at new ≡ at old → Stands seen config new m
     stands_still same = stands_on st.sent (subst (λ (s : Client × Wire D). Covers st.sent (way_of s.1)) (sym same) st.covers) (subst (λ (s : Client × Wire D). IsNumber s.1.moment.0) (sym same) st.moment)
         (subst (λ (s : Client × Wire D). IsClientOf config s.0) (sym same) st.ours) (none_looked (history st.sent (way_of old.wire)) (history st.sent (way_of new.wire)) (ap (λ (s : Client × Wire D). history st.sent (way_of s.1)) same)) m st.shows
 
