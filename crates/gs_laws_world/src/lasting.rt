@@ -24,5 +24,5 @@ pub fn a_restart_opens_what_stood<D>()
 /// sizes, the masters are the same but for the disks themselves, and send the same messages. So a copy of both disks is opened as what it was copied of.
 /// An opening may always be refused for want of memory, or where a disk fails in it.
 pub fn disks_of_the_same_bytes_are_opened_alike<D, E>()
-    ensures alike { OpeningsAreAlike D E }
+    ensures { OpeningsAreAlike D E }
 {}
