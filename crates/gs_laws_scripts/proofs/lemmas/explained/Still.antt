@@ -33,7 +33,6 @@ use Rattle.gs_master_spec.specs.Handling.{new_call}
 use Rattle.gs_msg.specs.declared.answer.Answer.{Answer as Said}
 use Rattle.gs_msg.specs.declared.answer.Answer.TheVariants as says
 use Rattle.gs_msg.specs.declared.answer.Phase.{Phase}
-use Rattle.gs_msg.specs.declared.answer.Phase.TheVariants as phases
 use Rattle.gs_msg.specs.declared.answer.Status.TheVariants as statuses
 use Rattle.gs_msg.specs.declared.call.Call.{Call}
 use Rattle.gs_msg.specs.declared.call.Call.TheVariants as calls
@@ -75,7 +74,6 @@ use Rattle.gs_laws_scripts.specs.answers.Meeting.{IsClientOf}
 use Rattle.gs_laws_scripts.specs.explained.Lines.{AsksOne, AsksTree, Explains, IsNoLook, Leads, OnPath, Stats}
 use Rattle.gs_laws_scripts.specs.explained.Machine.{Machine, is_rolling}
 use Rattle.gs_laws_scripts.specs.explained.Standing.{AreStillLines, IsStillLine, ShowsNames, Stands, StillLinesAreExplained, TellsDirectory, TellsEmpty, is_stat, is_still_line, the_client}
-use Rattle.gs_laws_scripts.specs.plain.Machines.{asked_in}
 use Rattle.gs_laws_scripts.specs.plain.Machines as plainly
 
 -- ---- a list as a dialogue
