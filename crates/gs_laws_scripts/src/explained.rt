@@ -48,7 +48,7 @@ pub fn scripts_of_the_tree_are_explained<D>()
     ensures write_fails { (seen : D → List ℕ) (failures : D → ℕ) (config : Config) (disks : D × D) → AreExplainedUntilAWriteFails seen failures config disks }
 {}
 
-/// While nothing is asked that changes something the machine explains what a desk answers, and it stands for the machine after each line: to `ls`, `rollingUpgrade query`, `at`, `hold`, `beat`, `lose`, `damage`, `deliver`, `restart` of a server, to lines that are none, and to `stat` where it is answered `ok dir`.
+/// While nothing is asked that changes something the machine explains what a desk answers, and it stands for the machine after each line: to `ls`, `rollingUpgrade query`, `at`, `hold`, `beat`, `lose`, `damage`, `deliver`, `restart` of a server, to lines that are none, and to `stat` where it is answered `ok dir`, or `ok file 0` as a file without chunks is.
 /// The store may have any files with any bytes, led chunks, held messages, lost and damaged replicas, and disks that fail. A list and a query are what the machine tells, refusals too; or the store refuses them, or nobody is sure (29).
 fn still_lines_are_explained<D>()
     ensures { StillLinesAreExplained D }
@@ -62,7 +62,7 @@ fn a_desk_stands_after_a_commit<D>()
     configurations_have_sizes();
 }
 
-/// Right after a prepare or a rollback that is answered by an epoch, one machine explains what a script is answered: as long as its lines are `ls`, `rollingUpgrade query`, `at`, `hold`, `beat`, `lose`, `damage`, `deliver` and `restart` of a server, `stat` that is answered `ok dir`, or bad. Lists and queries may be refused.
+/// Right after a prepare or a rollback that is answered by an epoch, one machine explains what a script is answered: as long as its lines are `ls`, `rollingUpgrade query`, `at`, `hold`, `beat`, `lose`, `damage`, `deliver` and `restart` of a server, `stat` that is answered `ok dir` or `ok file 0`, or bad. Lists and queries may be refused.
 /// The machine is in that epoch, with an upgrade after a prepare and without one after a rollback. So all queries of these lines tell that, and all lists are of the same names. Whatever lines come before, with held messages, lost and damaged replicas, and disks that fail: of what they left nothing is known but the names.
 pub fn lines_after_a_commit_are_explained<D>()
     ensures ended { ScriptsAfterACommit D }
@@ -95,13 +95,13 @@ fn changes_are_told<D>()
     ensures there { ChangesAreExplainedThere D }
 {}
 
-/// So lines that change the tree are explained too, where a desk stands for a machine: `mkdir`, `create`, `mv` and `undelete`, whether they are answered `ok` or refused, as long as no such answer is `refused 19 Old`, `refused 29 Unsure` or `refused 33 Memory`. Among them may come the lines that leave what stands. After each line the desk stands for the machine to which it leads.
+/// So lines that change the tree are explained too, where a desk stands for a machine: `mkdir`, `create`, `mv` and `undelete`, whether they are answered `ok` or refused, as long as no such answer is `refused 19 Old`, `refused 29 Unsure` or `refused 33 Memory`. Among them may come the lines that leave what stands, and lines about a path that is none (`stat`, `read`, `digest`, `write`, `append`, `rm` and `snapshot`), whatever these are answered. After each line the desk stands for the machine to which it leads.
 /// The store may have any files with any bytes, led chunks, held messages, lost and damaged replicas, and disks that fail.
 fn calm_lines_are_explained<D>()
     ensures { CalmLinesAreExplained D }
 {}
 
-/// Right after a prepare or a rollback that is answered by an epoch, one machine explains what a script is answered also where its lines change the tree: as long as each is one of those that leave what stands, or a `mkdir`, `create`, `mv` or `undelete` that isn't answered by 19 (`Old`), 29 (`Unsure`) or 33 (`Memory`).
+/// Right after a prepare or a rollback that is answered by an epoch, one machine explains what a script is answered also where its lines change the tree: as long as each is one of those that leave what stands, a `mkdir`, `create`, `mv` or `undelete` that isn't answered by 19 (`Old`), 29 (`Unsure`) or 33 (`Memory`), or a line about a path that is none.
 /// The machine is in that epoch, with an upgrade after a prepare and without one after a rollback. So all lists of these lines are of the names that these changes make, one after the other, and each refusal is the plain tree's or the store's. Whatever lines come before, with held messages, lost and damaged replicas, and disks that fail.
 pub fn calm_lines_after_a_commit_are_explained<D>()
     ensures ended { CalmAfterACommit D }

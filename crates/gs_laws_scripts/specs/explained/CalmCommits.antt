@@ -1,4 +1,4 @@
--- What a script is answered right after a prepare or a rollback that is accepted, while its lines look, are about nodes, or change the tree, and of these changes each answer tells what came of it.
+-- What a script is answered right after a prepare or a rollback that is accepted, while its lines look, are about nodes or about no path, or change the tree, and of these changes each answer tells what came of it.
 use Rattle.std.proofs.Common.{inl, inr}
 use Rattle.std.specs.Prelude.{[], ◌++◌, ◌∷◌, ◌≡◌, ◌⊎◌, List, Option, Some, codes, decimal, length, refl, true, ℕ}
 use Rattle.std.specs.Char.{encode_utf8}
@@ -84,5 +84,5 @@ it_is_such_a_script had said = record {
   by = lines.RollingUpgrade upgrades.Prepare;
   commits = inl refl;
   asks = refl;
-  are = (inr (refl, an_answer_is_sure), (inr (refl, a_refusal_is_sure), (inr (refl, an_answer_is_sure), (inl (refl, λ stat. absurd (cc)), tt))));
+  are = (inr (inl (refl, an_answer_is_sure)), (inr (inl (refl, a_refusal_is_sure)), (inr (inl (refl, an_answer_is_sure)), (inl (refl, λ stat. absurd (cc)), tt))));
 }

@@ -1,5 +1,5 @@
 -- What the master answers to a change of the tree that is new to it, and what it leaves, where a machine shows what it stands on: refusals too. And how lines are explained that ask for such changes.
-use Rattle.std.specs.Prelude.{[], ◌∷◌, ◌≡◌, ◌⊎◌, Bool, Err, List, Ok, Option, Result, Some, codes, false, refl, true, ℕ}
+use Rattle.std.specs.Prelude.{[], ◌∷◌, ◌≡◌, ◌⊎◌, ◌||◌, Bool, Err, List, Ok, Option, Result, Some, codes, false, is_ok, not, refl, true, ℕ}
 use Rattle.std.proofs.Common.{inl, inr}
 use Rattle.std.specs.Char.{encode_utf8}
 use Rattle.std.specs.Fmt.{digits}
@@ -21,6 +21,7 @@ use Rattle.gs_master_spec.specs.State.{State}
 use Rattle.gs_msg.specs.declared.answer.Answer.{Answer as Said}
 use Rattle.gs_msg.specs.declared.call.Call.{Call}
 use Rattle.gs_msg.specs.declared.event.Request.TheVariants as requests
+use Rattle.gs_path.specs.Rules.{parse, parse_hidden}
 use Rattle.gs_shell_desk.specs.Answering.{AnswersText}
 use Rattle.gs_shell_desk.specs.declared.desk.Desk.{Desk}
 use Rattle.gs_shell_grammar.specs.Grammar.{Request, one_word, three_words, two_words}
@@ -71,9 +72,20 @@ pub record IsSure (text : List ℕ) : Type 0 where
   pub sure : text ≡ refusal_text refusals.Unsure → ⊥
   pub told : text ≡ refusal_text refusals.Memory → ⊥
 
--- such a line, accepted or refused, whose answer tells what came of it; or one that leaves what stands
+-- a line about a path, or about two, of which one is none: nothing is asked for it
+abbrev pub names_no_path : Option Request → Bool
+names_no_path (Some (lines.Stat p)) = not (is_ok (parse_hidden p))
+names_no_path (Some (lines.Read p offset many)) = not (is_ok (parse_hidden p))
+names_no_path (Some (lines.Digest p chunk block)) = not (is_ok (parse_hidden p))
+names_no_path (Some (lines.Write p offset bytes)) = not (is_ok (parse p))
+names_no_path (Some (lines.Append p bytes)) = not (is_ok (parse p))
+names_no_path (Some (lines.Rm p recursive)) = not (is_ok (parse p))
+names_no_path (Some (lines.Snapshot p q)) = not (is_ok (parse p)) || not (is_ok (parse q))
+names_no_path asked = false
+
+-- One that leaves what stands; or a line that asks for a change, accepted or refused, whose answer tells what came of it; or a line about a path that is none, whatever it is answered.
 abbrev pub IsCalmLine : List ℕ → List ℕ → Type 0
-IsCalmLine whole text = IsStillLine whole text ⊎ ((is_change_line (asked_in whole) ≡ true) × IsSure text)
+IsCalmLine whole text = IsStillLine whole text ⊎ (((is_change_line (asked_in whole) ≡ true) × IsSure text) ⊎ (names_no_path (asked_in whole) ≡ true))
 
 -- all lines, with their answers
 abbrev pub AreCalmLines : List (List ℕ) → List (List ℕ) → Type 0
@@ -85,7 +97,7 @@ abbrev pub CalmLinesAreExplained : Type 0 → Type 0
 CalmLinesAreExplained D = (seen : D → List ℕ) (failures : D → ℕ) (config : Config) (size block : ℕ) (old new : Desk D) (all texts : List (List ℕ)) (m : Machine) → Stands seen config old m → AreCalmLines all texts →
     Runs (AnswersText seen failures) old all texts new → (end : Machine) × Runs (Explains size block) m all texts end × Stands seen config new end
 
--- ---- Worked: a directory is made, and made again; it is moved, and a move of what isn't there is refused
+-- ---- Worked: a directory is made, and made again; it is moved, and a move of what isn't there is refused; so is a look at what is no path
 pub an_answer_is_sure : IsSure (codes "ok")
 unfolding digits
 an_answer_is_sure = record { new = λ is. absurd (cc); sure = λ is. absurd (cc); told = λ is. absurd (cc) }
@@ -103,11 +115,12 @@ unfolding digits
 nobody_is_sure text = text.sure refl
 
 abbrev some_lines : List (List ℕ)
-some_lines = codes "mkdir /d" ∷ codes "mkdir /d" ∷ codes "ls /" ∷ codes "mv /d /e" ∷ codes "mv /d /f" ∷ []
+some_lines = codes "mkdir /d" ∷ codes "mkdir /d" ∷ codes "ls /" ∷ codes "mv /d /e" ∷ codes "mv /d /f" ∷ codes "stat f" ∷ []
 
 abbrev some_texts : List (List ℕ)
-some_texts = codes "ok" ∷ codes "refused 4 Exists" ∷ codes "ok d/" ∷ codes "ok" ∷ codes "refused 3 NotFound" ∷ []
+some_texts = codes "ok" ∷ codes "refused 4 Exists" ∷ codes "ok d/" ∷ codes "ok" ∷ codes "refused 3 NotFound" ∷ codes "refused 1 BadPath" ∷ []
 
 some_lines_are_such : AreCalmLines some_lines some_texts
 unfolding one_word two_words three_words is_utf8 chars encode_utf8
-some_lines_are_such = (inr (refl, an_answer_is_sure), (inr (refl, a_refusal_is_sure), (inl (refl, λ stat. absurd (cc)), (inr (refl, an_answer_is_sure), (inr (refl, what_is_not_there_is_sure), tt)))))
+some_lines_are_such =
+    (inr (inl (refl, an_answer_is_sure)), (inr (inl (refl, a_refusal_is_sure)), (inl (refl, λ stat. absurd (cc)), (inr (inl (refl, an_answer_is_sure)), (inr (inl (refl, what_is_not_there_is_sure)), (inr (inr refl), tt))))))

@@ -3,6 +3,7 @@ use Rattle.std.proofs.Common.{inl, inr}
 use Rattle.std.specs.Prelude.{[], ◌∷◌, ◌≡◌, ◌⊎◌, Bool, List, None, Ok, Option, Some, codes, false, length, refl, true, ℕ}
 use Rattle.std.specs.Char.{encode_utf8}
 use Rattle.std.specs.FinMap as fin
+use Rattle.std.specs.Fmt.{digits}
 use Rattle.std.specs.Str.{chars, is_utf8}
 use Rattle.gs_base.specs.Told.{IsNumber}
 use Rattle.gs_base.specs.declared.config.Config.{Config}
@@ -103,9 +104,13 @@ is_still_line asked = false
 abbrev pub TellsDirectory : List ℕ → Type 0
 TellsDirectory text = text ≡ answer_text (Ok (answers.Stat stats.Directory))
 
--- such a line with its answer: each `stat` is told of a directory
+-- it tells of a file that has no chunk
+abbrev pub TellsEmpty : List ℕ → Type 0
+TellsEmpty text = text ≡ answer_text (Ok (answers.Stat (stats.File 0 [])))
+
+-- such a line with its answer: each `stat` is told of a directory, or of a file without chunks
 abbrev pub IsStillLine : List ℕ → List ℕ → Type 0
-IsStillLine whole text = (is_still_line (asked_in whole) ≡ true) × (is_stat (asked_in whole) ≡ true → TellsDirectory text)
+IsStillLine whole text = (is_still_line (asked_in whole) ≡ true) × (is_stat (asked_in whole) ≡ true → TellsDirectory text ⊎ TellsEmpty text)
 
 -- all lines, with their answers
 abbrev pub AreStillLines : List (List ℕ) → List (List ℕ) → Type 0
@@ -136,14 +141,14 @@ a_change_is_none = refl
 
 -- lines that are such, with their answers
 abbrev some_lines : List (List ℕ)
-some_lines = codes "ls /" ∷ codes "stat /photos" ∷ codes "rollingUpgrade query" ∷ codes "lose 1 2" ∷ codes "at 7" ∷ codes "beat 1" ∷ codes "ls /x" ∷ codes "frob" ∷ []
+some_lines = codes "ls /" ∷ codes "stat /photos" ∷ codes "stat /notes" ∷ codes "rollingUpgrade query" ∷ codes "lose 1 2" ∷ codes "at 7" ∷ codes "beat 1" ∷ codes "ls /x" ∷ codes "frob" ∷ []
 
 abbrev some_texts : List (List ℕ)
-some_texts = codes "ok notes photos/" ∷ codes "ok dir" ∷ codes "ok upgrade 1" ∷ codes "ok" ∷ codes "ok" ∷ codes "ok 0" ∷ codes "refused 3 NotFound" ∷ codes "refused 34 BadLine" ∷ []
+some_texts = codes "ok notes photos/" ∷ codes "ok dir" ∷ codes "ok file 0" ∷ codes "ok upgrade 1" ∷ codes "ok" ∷ codes "ok" ∷ codes "ok 0" ∷ codes "refused 3 NotFound" ∷ codes "refused 34 BadLine" ∷ []
 
 they_are_such : AreStillLines some_lines some_texts
-unfolding one_word two_words three_words upgrade_line number_line lose_line is_utf8 chars encode_utf8
+unfolding one_word two_words three_words upgrade_line number_line lose_line is_utf8 chars encode_utf8 digits
 they_are_such = (
   (refl, (λ stat. absurd (cc))),
-  ((refl, (λ stat. refl)), ((refl, (λ stat. absurd (cc))), ((refl, (λ stat. absurd (cc))), ((refl, (λ stat. absurd (cc))), ((refl, (λ stat. absurd (cc))), ((refl, (λ stat. absurd (cc))), ((refl, (λ stat. absurd (cc))), tt))))))),
+  ((refl, (λ stat. inl refl)), ((refl, (λ stat. inr refl)), ((refl, (λ stat. absurd (cc))), ((refl, (λ stat. absurd (cc))), ((refl, (λ stat. absurd (cc))), ((refl, (λ stat. absurd (cc))), ((refl, (λ stat. absurd (cc))), ((refl, (λ stat. absurd (cc))), tt)))))))),
 )

@@ -164,6 +164,26 @@ module _ (config : Config) (s : State) (req : ReqId) (moment : Moment) (m : Mach
   pub dir_shown : (p : Path) → is_any_deep (calls.Status p) ≡ false → OneSays req dir (new_call config s req moment (calls.Status p)).sent → (is_rolling m.phase ≡ false) × (at m.plain.tree p ≡ Some Dir)
   dir_shown p not_deep said = dir_by p (refused_before s req (calls.Status p)) (gates_deep (is_failed s.fault) (is_rolled s.durable.phase) s.volatile.is_preparing (is_any_deep (calls.Status p)) (is_locked s req (calls.Status p)) not_deep) said
 
+  -- and one that tells of a file without chunks
+  abbrev empty : Result Said Refusal
+  empty = Ok (says.Status (statuses.File []))
+
+  empty_is : (p : Path) (found : Option (Entry ℕ)) → at m.plain.tree p ≡ mapped_at text found → status s.durable found ≡ empty → at m.plain.tree p ≡ Some (File [])
+  empty_is p None is said = absurd (cc)
+  empty_is p (Some Dir) is said = absurd (cc)
+  empty_is p (Some (File [])) is said = is
+  empty_is p (Some (File (chunk ∷ chunks))) is said = absurd (cc)
+
+  empty_by : (p : Path) (o : Option Refusal) → IsGated (is_rolled s.durable.phase) o → OneSays req empty (called_unless config s req moment (calls.Status p) o).sent → (is_rolling m.phase ≡ false) × (at m.plain.tree p ≡ Some (File []))
+  empty_by p None calm said = (calms calm, empty_is p (fin.get s.durable.names.tree p) (found_so p) (sym (looked_said s req (status s.durable (fin.get s.durable.names.tree p)) empty said)))
+  empty_by p (Some refusal) store said = absurd (never (one_said req (Err refusal) empty said))
+    where
+      never : ◌≡◌ {A = Result Said Refusal} (Ok (says.Status (statuses.File []))) (Err refusal) → ⊥
+      never e = cc
+
+  pub empty_shown : (p : Path) → is_any_deep (calls.Status p) ≡ false → OneSays req empty (new_call config s req moment (calls.Status p)).sent → (is_rolling m.phase ≡ false) × (at m.plain.tree p ≡ Some (File []))
+  empty_shown p not_deep said = empty_by p (refused_before s req (calls.Status p)) (gates_deep (is_failed s.fault) (is_rolled s.durable.phase) s.volatile.is_preparing (is_any_deep (calls.Status p)) (is_locked s req (calls.Status p)) not_deep) said
+
   -- and where a chunk is, if the epoch is the master's too
   module _ (epoch : m.epoch ≡ s.durable.epoch) where
     located : (chunk index : ℕ) (texts : List Text) (view : Option View) → index < length texts → TellsIndex m index texts (location_on chunk s.durable.epoch view)

@@ -1,5 +1,5 @@
 -- Lines that ask for changes of the tree are explained where a desk stands for a machine, if their answers tell what came of them.
-use Rattle.std.proofs.Common.{[], ap, inl, inr, not, refl, subst, sym, ◌&&◌, ◌∷◌, ◌∙◌, ◌≡◌, ◌⊎◌, Bool, Err, List, MatchOption, None, Ok, Option, Result, Some, false, if◌then◌else◌, length, nat_le, true, ℕ}
+use Rattle.std.proofs.Common.{[], ap, inl, inr, not, refl, subst, sym, ◌&&◌, ◌∷◌, ◌∙◌, ◌≡◌, Bool, Err, List, MatchOption, None, Ok, Option, Result, Some, false, if◌then◌else◌, length, nat_le, true, ℕ}
 use Rattle.std.specs.Prelude.{is_some}
 use Rattle.std.proofs.lemmas.Bool.{false≢true}
 use Rattle.gs_base.specs.declared.config.Config.{Config}
@@ -42,12 +42,13 @@ use Rattle.gs_shell_script.specs.Run.{AnswersIfShort, AnswersLine, Runs}
 use Rattle.gs_tree.specs.Edits.{old_name}
 use Rattle.gs_tree.specs.Find.{Rows}
 use Rattle.gs_laws_scripts.proofs.lemmas.explained.Changing.{changes_are_explained_there}
+use Rattle.gs_laws_scripts.proofs.lemmas.explained.NoPaths.{no_path_goes}
 use Rattle.gs_laws_scripts.proofs.lemmas.explained.Still.{line_goes, stands_still}
 use Rattle.gs_laws_scripts.proofs.lemmas.lists.Lines.{Carries_at}
-use Rattle.gs_laws_scripts.specs.explained.Changes.{AreCalmLines, CalmLinesAreExplained, IsOver, IsSure, is_change_line}
+use Rattle.gs_laws_scripts.specs.explained.Changes.{AreCalmLines, CalmLinesAreExplained, IsCalmLine, IsOver, IsSure, is_change_line}
 use Rattle.gs_laws_scripts.specs.explained.Lines.{Asks, AsksTree, Explains, IsSaid, Leads, LeadsBy, overtaken, told}
 use Rattle.gs_laws_scripts.specs.explained.Machine.{Machine, Text, called, is_preparing, is_rolling, paid_now, taken, tree_called}
-use Rattle.gs_laws_scripts.specs.explained.Standing.{IsStillLine, Stands}
+use Rattle.gs_laws_scripts.specs.explained.Standing.{Stands}
 use Rattle.gs_laws_scripts.specs.plain.Machines.{asked_in, call_of}
 use Rattle.gs_laws_scripts.specs.plain.Machines as plainly
 
@@ -307,9 +308,10 @@ module _ {D : Type 0} (seen : D → List ℕ) (failures : D → ℕ) (config : C
   change_line_goes whole text is sure (inl none) = absurd (sure.told none.0)
   change_line_goes whole text is sure (inr a) = (let found = whole_line (content whole) text (nat_le (length (content whole)) longest_line) is sure a in (found.0, inr found.1, found.2))
 
-  calm_line_goes : (whole text : List ℕ) → IsStillLine whole text ⊎ ((is_change_line (asked_in whole) ≡ true) × IsSure text) → AnswersLine (AnswersText seen failures) old whole text new → LineGoes whole text
+  calm_line_goes : (whole text : List ℕ) → IsCalmLine whole text → AnswersLine (AnswersText seen failures) old whole text new → LineGoes whole text
   calm_line_goes whole text (inl still) a = line_goes seen failures config size block old new m st whole text still a
-  calm_line_goes whole text (inr change) a = change_line_goes whole text change.0 change.1 a
+  calm_line_goes whole text (inr (inl change)) a = change_line_goes whole text change.0 change.1 a
+  calm_line_goes whole text (inr (inr none)) a = no_path_goes seen failures config size block old new m st whole text none a
 
 -- ---- many of them
 

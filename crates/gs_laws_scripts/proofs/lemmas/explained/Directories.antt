@@ -1,5 +1,5 @@
 -- A status that is told of a directory: as a dialogue, and as the machine has it.
-use Rattle.std.proofs.Common.{ap, arith, inl, inr, refl, subst, sym, ◌∙◌, ◌≡◌, ◌⊎◌, Err, List, None, Ok, Option, Result, Some, false, ℕ}
+use Rattle.std.proofs.Common.{ap, arith, inl, inr, refl, subst, sym, ◌∙◌, ◌≡◌, Err, List, None, Ok, Option, Result, Some, false, ℕ}
 use Rattle.std.specs.Prelude.{[], get_or, take}
 use Rattle.gs_base.specs.declared.refusal.Refusal.{Refusal}
 use Rattle.gs_base.specs.declared.refusal.Refusal.TheVariants as refusals

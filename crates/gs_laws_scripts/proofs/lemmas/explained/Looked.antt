@@ -1,5 +1,5 @@
 -- What a client's look-ups of files are told where a desk stands for a machine.
-use Rattle.std.proofs.Common.{ap, inl, inr, refl, subst, sym, ◌∙◌, ◌≡◌, ◌⊎◌, Err, List, Result, Some, false, true, ℕ}
+use Rattle.std.proofs.Common.{ap, inl, inr, refl, subst, sym, ◌∙◌, ◌≡◌, Err, List, Some, false, true, ℕ}
 use Rattle.std.specs.FinMap as fin
 use Rattle.gs_base.specs.declared.config.Config.{Config}
 use Rattle.gs_base.specs.declared.refusal.Refusal.{Refusal}
@@ -13,7 +13,6 @@ use Rattle.gs_laws_world.specs.steady.Asking.{MayBeAsked}
 use Rattle.gs_master_spec.specs.Calls.{is_any_deep}
 use Rattle.gs_master_spec.specs.Durable.{is_rolling as is_rolled}
 use Rattle.gs_master_spec.specs.State.{State}
-use Rattle.gs_msg.specs.declared.answer.Answer.{Answer as Said}
 use Rattle.gs_msg.specs.declared.call.Call.{Call}
 use Rattle.gs_msg.specs.declared.call.Call.TheVariants as calls
 use Rattle.gs_msg.specs.declared.event.Request.TheVariants as requests
@@ -25,7 +24,7 @@ use Rattle.gs_laws_scripts.proofs.lemmas.explained.Asked.{place_shown, status_sh
 use Rattle.gs_laws_scripts.proofs.lemmas.explained.Listed.{rolls_so}
 use Rattle.gs_laws_scripts.proofs.lemmas.explained.Still.{look_stands, look_told_there}
 use Rattle.gs_laws_scripts.proofs.lemmas.explained.Turns.{IsToldOf}
-use Rattle.gs_laws_scripts.specs.explained.Asking.{AreShort, TellsIndex}
+use Rattle.gs_laws_scripts.specs.explained.Asking.{AreShort}
 use Rattle.gs_laws_scripts.specs.explained.Lines.{IsNoLook}
 use Rattle.gs_laws_scripts.specs.explained.Looked.{LooksUp, PlacesAreToldThere, StatusesAreToldThere, TellsIndexOr}
 use Rattle.gs_laws_scripts.specs.explained.Machine.{Machine, Text, is_rolling}

@@ -25,15 +25,13 @@ use Rattle.gs_laws_chunks.specs.desks.Reached.{Covers, history}
 use Rattle.gs_laws_looks.proofs.lemmas.carrying.Asked.{requests_are_carried}
 use Rattle.gs_laws_looks.specs.carrying.Asked.{Delivers, IsAnswered, WasAskedAndTaken, WasRefused}
 use Rattle.gs_laws_looks.specs.carrying.Exchanged.{HasReply}
-use Rattle.gs_laws_moves.specs.answers.AtOnce.{OneSays, is_answered_at_once}
+use Rattle.gs_laws_moves.specs.answers.AtOnce.{is_answered_at_once}
 use Rattle.gs_laws_moves.specs.answers.Resting.{is_look}
 use Rattle.gs_laws_world.specs.steady.Asking.{MayBeAsked, asks_at}
 use Rattle.gs_laws_world.specs.steady.Saying.{IsStepWithin}
 use Rattle.gs_laws_world.specs.steady.Unarmed.{unarmed}
 use Rattle.gs_master_spec.specs.Calls.{is_any_deep}
 use Rattle.gs_master_spec.specs.Durable.{Durable}
-use Rattle.gs_master_spec.specs.Handling.{new_call}
-use Rattle.gs_master_spec.specs.State.{State}
 use Rattle.gs_msg.specs.declared.call.Call.{Call}
 use Rattle.gs_msg.specs.declared.call.Call.TheVariants as calls
 use Rattle.gs_msg.specs.declared.event.Happening.{Happening}

@@ -33,7 +33,6 @@ use Rattle.gs_master_spec.specs.Handling.{new_call}
 use Rattle.gs_msg.specs.declared.answer.Answer.{Answer as Said}
 use Rattle.gs_msg.specs.declared.answer.Answer.TheVariants as says
 use Rattle.gs_msg.specs.declared.answer.Phase.{Phase}
-use Rattle.gs_msg.specs.declared.answer.Phase.TheVariants as phases
 use Rattle.gs_msg.specs.declared.answer.Status.TheVariants as statuses
 use Rattle.gs_msg.specs.declared.call.Call.{Call}
 use Rattle.gs_msg.specs.declared.call.Call.TheVariants as calls
@@ -57,13 +56,14 @@ use Rattle.gs_shell_grammar.specs.declared.command.Restarted.TheVariants as rest
 use Rattle.gs_shell_grammar.specs.declared.command.Upgrade.TheVariants as upgrades
 use Rattle.gs_shell_line.specs.Line.{content, longest_line}
 use Rattle.gs_shell_script.specs.Run.{AnswersIfShort, AnswersLine, Runs, memory_text}
-use Rattle.gs_tree.specs.Entry.{Dir}
+use Rattle.gs_tree.specs.Entry.{Dir, File}
 use Rattle.gs_tree.specs.Find.{at as at_path}
 use Rattle.gs_world.specs.Histories.{History}
 use Rattle.gs_world.specs.Runs.{Comes as StepComes}
 use Rattle.gs_world.specs.Sent.{Sent}
-use Rattle.gs_laws_scripts.proofs.lemmas.explained.Asked.{dir_shown, list_shown, query_refused}
+use Rattle.gs_laws_scripts.proofs.lemmas.explained.Asked.{dir_shown, empty_shown, list_shown, query_refused}
 use Rattle.gs_laws_scripts.proofs.lemmas.explained.Directories.{directory_goes, directory_leads}
+use Rattle.gs_laws_scripts.proofs.lemmas.explained.Empties.{empty_goes, empty_leads}
 use Rattle.gs_laws_scripts.proofs.lemmas.explained.Listed.{is_calm, is_listed, is_told, list_is, list_off, listed_names, query_is, query_off, rolls_so, undisturbed_on}
 use Rattle.gs_laws_scripts.proofs.lemmas.explained.Passing.{LooksOn, nodes_do}
 use Rattle.gs_laws_scripts.proofs.lemmas.explained.Refused.{look_told, read_is_shallow}
@@ -73,8 +73,7 @@ use Rattle.gs_laws_scripts.proofs.lemmas.reads.Clients.{still_mine}
 use Rattle.gs_laws_scripts.specs.answers.Meeting.{IsClientOf}
 use Rattle.gs_laws_scripts.specs.explained.Lines.{AsksOne, AsksTree, Explains, IsNoLook, Leads, OnPath, Stats}
 use Rattle.gs_laws_scripts.specs.explained.Machine.{Machine, is_rolling}
-use Rattle.gs_laws_scripts.specs.explained.Standing.{AreStillLines, IsStillLine, ShowsNames, Stands, StillLinesAreExplained, TellsDirectory, is_stat, is_still_line, the_client}
-use Rattle.gs_laws_scripts.specs.plain.Machines.{asked_in}
+use Rattle.gs_laws_scripts.specs.explained.Standing.{AreStillLines, IsStillLine, ShowsNames, Stands, StillLinesAreExplained, TellsDirectory, TellsEmpty, is_stat, is_still_line, the_client}
 use Rattle.gs_laws_scripts.specs.plain.Machines as plainly
 
 -- ---- a list as a dialogue
@@ -322,8 +321,8 @@ module _ {D : Type 0} (seen : D → List ℕ) (failures : D → ℕ) where
         dir_shown j.config j.state j.req j.moment m st.shows.text (st.shows.tree ∙ ap (λ (names : NamesView). mapped_rows st.shows.text (fin.entries names.tree)) (sym stood.names))
         (λ calm. ap is_rolling st.shows.phase ∙ rolls_so st.durable.phase ∙ ap is_rolled (sym stood.phase) ∙ calm) path deep (subst (λ r. OneSays j.req r (new_call j.config j.state j.req j.moment (calls.Status path)).sent) is j.says)
 
-    stat_line : (chunk : ℕ) (p : List ℕ) (answer : Result Answer Refusal) (text : List ℕ) → TellsDirectory text → IsText answer text → FollowsDialogue (Carries_at seen failures) (on (parse_hidden p) (stat_call chunk) answers.Stat) (at old) answer (at new) → Goes (lines.Stat p) text
-    stat_line chunk p answer text dir text_is h =
+    directory_line : (chunk : ℕ) (p : List ℕ) (answer : Result Answer Refusal) (text : List ℕ) → TellsDirectory text → IsText answer text → FollowsDialogue (Carries_at seen failures) (on (parse_hidden p) (stat_call chunk) answers.Stat) (at old) answer (at new) → Goes (lines.Stat p) text
+    directory_line chunk p answer text dir text_is h =
         let goes = directory_goes (Carries_at seen failures) text dir chunk (parse_hidden p) (at old) (at new) answer h text_is in
         let d = goes.0 in
         let may : MayBeAsked (requests.Call (calls.Status d.path)) = record { named = tt; met = λ names. tt } in
@@ -335,6 +334,36 @@ module _ {D : Type 0} (seen : D → List ℕ) (failures : D → ℕ) where
           is = text_is;
           stands = look_stands (calls.Status d.path) d.reply refl may d.asks;
         }
+
+    -- ---- a file without chunks
+
+    empty_told : (path : Path) (reply : Reply) → is_any_deep (calls.Status path) ≡ false → looked reply ≡ Ok (says.Status (statuses.File [])) → IsToldOf st.durable (calls.Status path) (looked reply) → (is_rolling m.phase ≡ false) × (at_path m.plain.tree path ≡ Some (File []))
+    empty_told path reply deep is (inl (refusal, refused, off)) = absurd (never (sym refused ∙ is))
+      where
+        never : ◌≡◌ {A = Result Said Refusal} (Err refusal) (Ok (says.Status (statuses.File []))) → ⊥
+        never e = cc
+    empty_told path reply deep is (inr j) =
+        let stood = j.stands.1 in
+        empty_shown j.config j.state j.req j.moment m st.shows.text (st.shows.tree ∙ ap (λ (names : NamesView). mapped_rows st.shows.text (fin.entries names.tree)) (sym stood.names))
+        (λ calm. ap is_rolling st.shows.phase ∙ rolls_so st.durable.phase ∙ ap is_rolled (sym stood.phase) ∙ calm) path deep (subst (λ r. OneSays j.req r (new_call j.config j.state j.req j.moment (calls.Status path)).sent) is j.says)
+
+    empty_line : (chunk : ℕ) (p : List ℕ) (answer : Result Answer Refusal) (text : List ℕ) → TellsEmpty text → IsText answer text → FollowsDialogue (Carries_at seen failures) (on (parse_hidden p) (stat_call chunk) answers.Stat) (at old) answer (at new) → Goes (lines.Stat p) text
+    empty_line chunk p answer text empty text_is h =
+        let goes = empty_goes (Carries_at seen failures) text empty chunk (parse_hidden p) (at old) (at new) answer h text_is in
+        let d = goes.0 in
+        let may : MayBeAsked (requests.Call (calls.Status d.path)) = record { named = tt; met = λ names. tt } in
+        let shown = empty_told d.path d.reply (read_is_shallow p d.path d.parses) d.tells (look_told_there (calls.Status d.path) d.reply refl refl may d.asks) in
+        record {
+          next = m;
+          answer = answer;
+          leads = subst (λ a. OnPath size (parse_hidden p) (Stats size) m a m) (sym goes.1) (empty_leads size m (parse_hidden p) d.path d.parses shown.0 shown.1);
+          is = text_is;
+          stands = look_stands (calls.Status d.path) d.reply refl may d.asks;
+        }
+
+    stat_line : (chunk : ℕ) (p : List ℕ) (answer : Result Answer Refusal) (text : List ℕ) → TellsDirectory text ⊎ TellsEmpty text → IsText answer text → FollowsDialogue (Carries_at seen failures) (on (parse_hidden p) (stat_call chunk) answers.Stat) (at old) answer (at new) → Goes (lines.Stat p) text
+    stat_line chunk p answer text (inl dir) text_is h = directory_line chunk p answer text dir text_is h
+    stat_line chunk p answer text (inr empty) text_is h = empty_line chunk p answer text empty text_is h
 
     -- ---- a line about servers and messages
 
@@ -360,7 +389,7 @@ module _ {D : Type 0} (seen : D → List ℕ) (failures : D → ℕ) where
 
     -- ---- any such line
 
-    request_goes : (request : Request) (answer : Result Answer Refusal) (text : List ℕ) → is_still_line (Some request) ≡ true → IsSpoken request → (is_stat (Some request) ≡ true → TellsDirectory text) → Comes seen failures request old answer new → IsText answer text → Goes request text
+    request_goes : (request : Request) (answer : Result Answer Refusal) (text : List ℕ) → is_still_line (Some request) ≡ true → IsSpoken request → (is_stat (Some request) ≡ true → TellsDirectory text ⊎ TellsEmpty text) → Comes seen failures request old answer new → IsText answer text → Goes request text
     unfolding Comes
     request_goes (lines.Ls p) answer text is spoken stat comes text_is = list_line p answer text text_is (list_goes (Carries_at seen failures) (parse_hidden p) (at old) (at new) answer comes)
     request_goes (lines.At moment) answer text is spoken stat comes text_is = node_line (lines.At moment) answer text (record m { moment = moment }) is spoken text_is (m, ([], refl), is_set moment answer comes, refl) (shows_then moment) comes
@@ -396,7 +425,7 @@ module _ {D : Type 0} (seen : D → List ℕ) (failures : D → ℕ) where
     LineGoes whole text = (next : Machine) × AnswersLine (Explains size block) m whole text next × Stands seen config new next
 
     abbrev Given : Option Request → List ℕ → Type 0
-    Given o text = (is_still_line o ≡ true) × (is_stat o ≡ true → TellsDirectory text)
+    Given o text = (is_still_line o ≡ true) × (is_stat o ≡ true → TellsDirectory text ⊎ TellsEmpty text)
 
     by_request : (line text : List ℕ) (o : Option Request) → line_request line ≡ o → Given o text
         → MatchOption o (IsText (Err refusals.BadLine) text × (new ≡ old)) (λ request. (answer : Result Answer Refusal) × Comes seen failures request old answer new × IsText answer text)
