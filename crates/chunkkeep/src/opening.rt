@@ -1,6 +1,4 @@
-ghost use Rattle.std.specs.Prelude.{◌≡◌, true, false, IfOk, IfErr, OnOk, is_some};
-ghost use Rattle.gs_keep_options.specs.Sizes.{fits};
-ghost use Rattle.chunkkeep.specs.Opening.{DiffersAs, RefusesLine, Says, is_second};
+ghost use Rattle.std.specs.Prelude.{◌≡◌, false, IfOk, is_some};
 
 use crate::drawing::drawn_name;
 use crate::fault::Fault;
@@ -74,37 +72,22 @@ impl Making for Opener {
 
     type Fault = Fault;
 
-    ghost use Rattle.chunkkeep.specs.Opening.{BeginsAt, RefusesAt};
+    ghost Begins = { λ opener head is_second desk. Unit {0} };
 
-    ghost Begins = { λ opener head is_second desk. BeginsAt opener.sizes opener.is_lab head is_second desk };
-
-    ghost Refuses = { λ opener head fault. RefusesAt opener.sizes head fault };
+    ghost Refuses = { λ opener head fault. Unit {0} };
 
     fn make(&self, alloc: Global, line: &[u8]) -> Result<Made<MemoryDesk>, Fault> {
         let head = head_of(alloc, line)?;
         compare(&self.sizes, &head.config)?;
         Ok(Made {
             machine: MemoryDesk::new(alloc, head.config, self.is_lab)?,
-            is_second: is_second(head.form),
+            is_second: head.form == Form::Two,
         })
     }
 }
 
-/// Whether a file of this form has marks.
-fn is_second(form: Form) -> bool
-    ensures { result ≡ is_second form }
-{
-    match form {
-        Form::One => false,
-        Form::Two => true,
-    }
-}
-
 /// Refuses sizes that are asked for and aren't the store's.
-fn compare(sizes: &Sizes, config: &Config) -> Result<(), Fault>
-    ensures fits { OnOk result (fits sizes.now config.now ≡ true) }
-    ensures differs { IfErr result (λ e. DiffersAs e sizes.now config.now) }
-{
+fn compare(sizes: &Sizes, config: &Config) -> Result<(), Fault> {
     match sizes.difference(config) {
         Some(difference) => Err(Fault::Differs {
             name: difference.name,
@@ -114,11 +97,8 @@ fn compare(sizes: &Sizes, config: &Config) -> Result<(), Fault>
     }
 }
 
-/// What a first line says, which has its end.
-fn head_of(alloc: Global, line: &[u8]) -> Result<HeadLine, Fault>
-    ensures says { IfOk result (λ head. Says head line.now) }
-    ensures refused { IfErr result (λ e. RefusesLine e line.now) }
-{
+/// What a first line says.
+fn head_of(alloc: Global, line: &[u8]) -> Result<HeadLine, Fault> {
     match read_head(alloc, content_of(line)) {
         Ok(head) => Ok(head),
         Err(HeadFault::Memory) => Err(Fault::Memory),
