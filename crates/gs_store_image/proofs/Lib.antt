@@ -3,3 +3,8 @@ pub mod Tables
 pub mod Outcomes
 pub mod Seals
 pub mod Replicas
+pub mod Keeping
+pub mod Stores
+pub mod InMemory
+pub mod Kept
+pub mod Options

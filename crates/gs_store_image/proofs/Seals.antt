@@ -1,14 +1,13 @@
 -- A seal is what is seen of it, and it is read as it is written.
-use Rattle.std.proofs.Common.{◌≡◌, ℕ, ◌+◌, ◌-◌, ◌*◌, ◌<◌, ◌≤◌, Bool, min, cond, List, [], ◌∷◌, ◌++◌, append_assoc, length, get_or, map, drop, Option, Some, None, Result, Ok, Err, refl, sym, ap, subst, ◌∙◌, arith}
+use Rattle.std.proofs.Common.{◌≡◌, ℕ, ◌+◌, ◌-◌, ◌*◌, ◌<◌, ◌≤◌, min, List, [], ◌∷◌, ◌++◌, append_assoc, length, get_or, map, drop, Option, Some, None, Result, Ok, Err, refl, sym, ap, subst, ◌∙◌, arith}
 use Rattle.std.specs.Prelude.{is_some}
 use Rattle.std.proofs.lemmas.List.{get_or-drop, length-drop}
 use Rattle.std.proofs.lemmas.List.FromFn.{length-map-range_with_len}
-use Rattle.gs_base.specs.declared.numbers.Stamp.{Stamp}
-use Rattle.gs_block.specs.Stored.{Stored, block_at}
-use Rattle.gs_block.specs.Images.{Images, IsImage, AreFirst, bytes_before, byte_before, block_before, undone, touched}
+use Rattle.gs_block.specs.Stored.{block_at}
+use Rattle.gs_block.specs.Images.{Images, IsImage, AreFirst, bytes_before, byte_before, block_before}
 use Rattle.gs_block.specs.Inside.{image_or}
 use Rattle.gs_block.proofs.Restoring.{block_undone}
-use Rattle.gs_fields.specs.Encoding.{option, seen_option}
+use Rattle.gs_fields.specs.Encoding.{option}
 use Rattle.gs_fields.specs.Laws.{Reads, reads_both, reads_made, reads_option, reads_long_bytes, reads_long_list, reads_bytes, reads_stamp, n64, some_is}
 use Rattle.gs_fields.specs.Reading.{option_at}
 use Rattle.gs_fields.specs.Writable.{IsOption}
@@ -17,12 +16,10 @@ use Rattle.gs_fields.specs.declared.fault.Fault.{Fault}
 use Rattle.gs_fields.specs.declared.fault.Fault.TheVariants as faults
 use Rattle.gs_fields.proofs.Loops.{cut_at}
 use Rattle.gs_replica.specs.declared.seal.Seal.{Seal}
-use Rattle.gs_replica.specs.First.{First}
 use Rattle.gs_replica.specs.Held.{Held}
-use Rattle.gs_replica.specs.Seals.{Sealed}
-use Rattle.gs_replica.specs.View.{seen, seen_in, Belongs, BelongsIn}
+use Rattle.gs_replica.specs.View.{seen, seen_in, BelongsIn}
 use Rattle.gs_store_image.specs.Encoding.{first_images, seal_of, seals_of, images, seal}
-use Rattle.gs_store_image.specs.Writable.{AreImages, AreFirstEntries, IsSeal}
+use Rattle.gs_store_image.specs.Writable.{AreImages, IsSeal}
 use Rattle.gs_store_image.specs.Reading.{images_of, images_at, SealFields, seal_of_fields, seal_at}
 use Rattle.gs_store_image.proofs.Tables.{reads_first}
 

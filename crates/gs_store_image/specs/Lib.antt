@@ -3,3 +3,8 @@ pub mod Encoding
 pub mod Writable
 pub mod Reading
 pub mod Laws
+pub mod Keeping
+pub mod StoreEncoding
+pub mod StoreWritable
+pub mod StoreReading
+pub mod Inside

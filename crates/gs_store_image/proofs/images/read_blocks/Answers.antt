@@ -1,4 +1,3 @@
-use Rattle.std.proofs.Common.{◌≡◌, ◌++◌, ◌∷◌, []}
 use Rattle.std.proofs.lemmas.Result.{err_from_is_err_and}
 use Rattle.gs_fields.specs.Reading.{times, long_bytes_at, option_at}
 use Rattle.gs_fields.proofs.Loops.{goes_on, ends}

@@ -1,4 +1,4 @@
-use Rattle.std.proofs.Common.{◌≡◌, Option, Some, sym, subst}
+use Rattle.std.proofs.Common.{Option, Some, sym, subst}
 use Rattle.gs_fields.specs.Encoding.{option}
 use Rattle.gs_fields.specs.Work.{Puts}
 use Rattle.gs_fields.specs.Writable.{IsOption}
