@@ -32,7 +32,7 @@ use Rattle.gs_master_spec.specs.State.{Log, State, Turn}
 use Rattle.gs_nodes.specs.Happenings.{Reopens, limit}
 use Rattle.gs_nodes.specs.declared.place.MasterPlace.{MasterPlace}
 use Rattle.gs_nodes.specs.declared.place.MasterPlace.TheVariants.{Standing, Closed, Away}
-use Rattle.gs_laws_world.proofs.lemmas.steady.Entries.{same_entries}
+use Rattle.gs_laws_world.proofs.lemmas.lasting.Entries.{same_entries}
 use Rattle.gs_laws_scripts.specs.answers.Meeting.{IsAsWritten, Stands}
 use Rattle.gs_laws_scripts.proofs.lemmas.answers.PlainEnduring.{IsGood}
 use Rattle.gs_laws_scripts.specs.answers.Plain.{begun_again}
@@ -135,6 +135,6 @@ module _ {D : Type 0} (seen : D → List ℕ) (failures : D → ℕ) where
   reopened_cases w m (Err e) place stands good written (u, is, refused, inr (says, quiet, inr (log, bound, kept, inr (inr (entries, are, refuses))))) =
       let told = subst (λ (t : Text). IsToldIn t m.state.durable) (sym good.firm.as_seen.text) good.firm.told in
       let here = subst (λ (t : Text). AreRecordsOf t.0 t.1 entries) told.records are in
-      let same = same_entries told.entries entries told.are_entries here.are_entries here.written in
+      let same = same_entries Two told.entries entries told.are_entries here.are_entries here.written in
       absurd (accepted w.nodes.config entries log m.state.durable u.refusal (ap (replayed start) (sym same) ∙ told.replays)
       (subst (λ (t : Text). recover w.nodes.config t.0 entries log ≡ Err u.refusal) told.records refuses))

@@ -55,7 +55,7 @@ use Rattle.gs_laws_world.specs.steady.Unarmed.{unarmed}
 use Rattle.gs_laws_scripts.proofs.lemmas.answers.PlainEvents.{client_leaves, server_leaves}
 use Rattle.gs_laws_scripts.proofs.lemmas.answers.PlainMeeting.{so_joined}
 use Rattle.gs_laws_scripts.proofs.lemmas.answers.PlainReopens.{opened_state}
-use Rattle.gs_laws_world.proofs.lemmas.steady.Entries.{same_entries}
+use Rattle.gs_laws_world.proofs.lemmas.lasting.Entries.{same_entries}
 use Rattle.gs_laws_scripts.proofs.lemmas.answers.PlainStarts.{new_master}
 
 -- ---- records
@@ -161,7 +161,7 @@ module _ {D : Type 0} (seen : D → List ℕ) (failures : D → ℕ) where
   as_written : (m : MasterOf D) → IsAsSeen seen m.journal → Wrote m → IsAsWritten seen m
   as_written m is w = record {
     counted = λ entries are same.
-        ap records_behind (sym (same_entries w.entries entries w.are_entries are (ap (λ (t : Text). t.1) (sym w.text ∙ same)))) ∙ w.counted;
+        ap records_behind (sym (same_entries Two w.entries entries w.are_entries are (ap (λ (t : Text). t.1) (sym w.text ∙ same)))) ∙ w.counted;
     form = ap is_text w.text ∙ w.form;
     generation =
         let a = seen m.journal.first in
