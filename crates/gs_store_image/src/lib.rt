@@ -12,6 +12,8 @@ mod seal;
 mod slot;
 mod store;
 mod table;
+#[cfg(test)]
+mod tests;
 
 pub use held::{is_replica_held, is_slot_held, is_store_held};
 pub use replica::{put_replica, read_replica};
