@@ -11,6 +11,7 @@ import subprocess
 import sys
 
 import beside
+import building
 
 COUNTED = re.compile(r"^test result: .*?(\d+) passed; (\d+) failed;")
 RUN = ["rt", "try", "--test", "--seconds", "3600"]
@@ -20,6 +21,7 @@ def main():
     passed, failed = 0, 1
     how = {"stdout": subprocess.PIPE, "stderr": subprocess.STDOUT, "text": True, "errors": "replace"}
     with subprocess.Popen(RUN, cwd=beside.placed("gs_trials", ("src",)), **how) as tests:
+        building.end_hint(tests)
         for line in tests.stdout:
             print(line, end="", flush=True)
             found = COUNTED.match(line)
