@@ -141,10 +141,10 @@ impl<K: Key + Drop, V: Drop> Table<K, V> {
         ensures taken { live K.cmp self.new ≡ fin.remove (live K.cmp self.old) key }
         ensures keeps { KeepsRoom K.cmp self.old self.new }
     {
-        if !self.has(key) {
+        let Some(slot) = self.slots.get_mut(&key) else {
             return None;
-        }
-        self.swap(key, None)
+        };
+        slot.take()
     }
 
     /// Takes out what stands at a key, and gives up its room. It takes no memory.

@@ -41,6 +41,10 @@ coded_node =
 abbrev pub silent : ClientId → Node
 silent id = record { id = id; last = 0; waiting = None; reply = None }
 
+-- one that has asked under numbers up to the last, and waits for nothing
+abbrev pub resting : ClientId → ℕ → Node
+resting id last = record (silent id) { last = last }
+
 abbrev pub tell : ReqId → NodeId → Body → Message
 tell req to body = record { from = nodes.Client req.client; to = to; body = body }
 
@@ -132,3 +136,10 @@ a_number_again = refl
 
 some_numbers_are_left_out : asks 7 (requests.Call calls.Query) waits ≡ Ok (record { id = one; last = 7; waiting = Some 7; reply = None }, tell (record { client = one; number = 7 }) nodes.Master (bodies.Call (record { client = one; number = 7 }) calls.Query) ∷ [])
 some_numbers_are_left_out = refl
+
+-- Worked: a client that has asked nothing rests at 0, and one that rests asks above its last number alone.
+it_rests_at_0 : resting one 0 ≡ silent one
+it_rests_at_0 = refl
+
+it_asks_above_its_last : asks 1 (requests.Call calls.Query) (resting one 1) ≡ Err refusals.Old
+it_asks_above_its_last = refl

@@ -64,6 +64,24 @@ impl Client {
         }
     }
 
+    /// A client that has sent this request last, of a store of these sizes: as one that is read back from an image.
+    pub fn resting(alloc: Global, last: ReqId, config: Config) -> Client
+        ensures { result ≡ record { last = last; chunk = config.chunk } }
+    {
+        Client {
+            alloc,
+            last,
+            chunk: config.chunk,
+        }
+    }
+
+    /// The request that was sent last. Number 0 is of none.
+    pub fn last(&self) -> ReqId
+        ensures { result ≡ self.now.last }
+    {
+        self.last
+    }
+
     /// The bytes of a chunk.
     pub(crate) fn chunk(&self) -> u64
         ensures is { result ≡ self.now.chunk }

@@ -1,6 +1,6 @@
 ghost use Rattle.std.specs.Prelude.{◌≡◌, ◌++◌, ◌∷◌, [], OnOk, IfOk, option_copied};
 ghost use Rattle.gs_base.specs.Calls.{Does};
-ghost use Rattle.gs_client.specs.Nodes.{silent, asks, Asks, hears, given_up, tell, with_bytes, pushes, messages_of, takes};
+ghost use Rattle.gs_client.specs.Nodes.{silent, resting, asks, Asks, hears, given_up, tell, with_bytes, pushes, messages_of, takes};
 
 use crate::link::Reply;
 use gs_base::{ClientId, Members, Refusal, ReqId};
@@ -45,6 +45,18 @@ impl ClientNode {
         ClientNode {
             id,
             last: 0,
+            waiting: None,
+            reply: None,
+        }
+    }
+
+    /// One that has asked under numbers up to the last, and waits for nothing: as a client that is read back from an image.
+    pub fn resting(id: ClientId, last: u64) -> ClientNode
+        ensures { result ≡ resting id last }
+    {
+        ClientNode {
+            id,
+            last,
             waiting: None,
             reply: None,
         }

@@ -92,6 +92,23 @@ impl LockTable {
         Ok(table)
     }
 
+    /// The locks of all operations but one, in memory of their own.
+    pub fn copy_without(&self, op: ReqId) -> Result<LockTable, AllocError>
+        ensures { IfOk result (λ table. table ≡ released self.now op) }
+    {
+        let mut table = LockTable::new(self.alloc);
+        for lock in &self.locks {
+            if !is_of(op, lock) {
+                table.push(Lock {
+                    op: lock.op,
+                    path: lock.path.copy(self.alloc)?,
+                    writes: lock.writes,
+                })?;
+            }
+        }
+        Ok(table)
+    }
+
     /// Gives up all locks of an operation. It takes no memory.
     pub fn release(&mut self, op: ReqId)
         ensures { self.new ≡ released self.old op }

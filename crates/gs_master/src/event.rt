@@ -251,6 +251,9 @@ impl Event {
         ensures back { GoesBack self.old self.new }
         ensures others { (self.new.memory ≡ self.old.memory) × (self.new.sent ≡ self.old.sent) × (self.new.said ≡ self.old.said) }
     {
+        if records.is_empty() {
+            return Ok(());
+        }
         for entry in records {
             self.enter(entry, back.take())?;
         }
@@ -265,6 +268,9 @@ impl Event {
         ensures back { GoesBack self.old self.new }
         ensures others { self.new ≡ record self.old { memory = self.new.memory } }
     {
+        if changes.is_empty() {
+            return Ok(());
+        }
         for change in changes {
             self.memory.change(change)?;
         }
@@ -277,6 +283,10 @@ impl Event {
         ensures stays { IfErr result (λ _. self.new.sent.items ≡ self.old.sent.items) }
         ensures others { self.new ≡ record self.old { sent = self.new.sent } }
     {
+        if self.sent.is_empty() {
+            self.sent = messages;
+            return Ok(());
+        }
         let mut messages = messages;
         self.sent.append(&mut messages)?;
         Ok(())

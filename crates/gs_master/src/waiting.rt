@@ -1,12 +1,13 @@
 // Calls that waited: how they go on, and end.
-ghost use Rattle.std.specs.Prelude.{◌≡◌, false, IfOk, not, Ok, Some, true};
+ghost use Rattle.std.specs.Prelude.{[], ◌++◌, ◌∷◌, ◌≡◌, false, IfOk, None, not, Ok, Some, true};
 ghost use Rattle.std.specs.List.{list_all};
 ghost use Rattle.gs_edit.specs.View.{NamesView};
 ghost use Rattle.gs_master.specs.inner.Turns.{ComesWithOthers, GoesBack, IsUnderWay, state_at, EventSteps};
 ghost use Rattle.gs_master_record.specs.Plain.{plain_edit};
 ghost use Rattle.gs_master_state.specs.inner.Plans.{plan_of};
 ghost use Rattle.gs_master_spec.specs.Settling.{all_go_on, all_refused, concerned, copied, copied_tree, ended_by_edit, ended_with, extended, failed, goes_on, if_room_for, is_quiet_at, leased_next, replaced, replaced_if, replicated, requests_of, source_chunks};
-ghost use Rattle.gs_master_spec.specs.State.{all_ended_by, ended_by, turned};
+ghost use Rattle.gs_master_spec.specs.State.{all_ended_by, ended_by, reply_to, turned};
+ghost use Rattle.gs_master_spec.specs.declared.change.Change.TheVariants as changes;
 ghost use Rattle.gs_master_spec.specs.declared.pending.Waiting.TheVariants as waits;
 
 use crate::event::Event;
@@ -15,7 +16,8 @@ use gs_edit::Edit;
 use gs_lease::View;
 use gs_master_guard::rolling::may_begin;
 use gs_master_plan::call::edit_plan;
-use gs_master_plan::view::replace_plan;
+use gs_master_plan::message::reply_to;
+use gs_master_plan::view::{own_request, replace_plan};
 use gs_master_spec::change::Change;
 use gs_master_spec::pending::{Pending, Waiting};
 use gs_master_state::plan::Plan;
@@ -32,6 +34,35 @@ fn requests_of(alloc: Global, pending: &[Pending]) -> Result<Vec<ReqId>, AllocEr
         requests.push(one.req)?;
     }
     Ok(requests)
+}
+
+/// A call whose edit is made is answered, and ends.
+fn ended_plan(
+    alloc: Global,
+    req: ReqId,
+    answer: Answer,
+    before: Vec<Change>,
+) -> Result<Plan, AllocError>
+    ensures { IfOk result (λ plan. plan_of plan ≡ record { records = []; changes = before.items ++ changes.End req ∷ []; sent = reply_to req (Ok answer) ∷ []; said = None }) }
+{
+    let mut changes = before;
+    changes.reserve_exact(1)?;
+    changes.push_reserved(Change::End(req));
+    Ok(Plan {
+        records: Vec::new(alloc),
+        changes,
+        sent: vec![in alloc; reply_to(req, Ok(answer))]?,
+        said: None,
+    })
+}
+
+/// A chunk whose edit is made has its place.
+fn placed_plan(alloc: Global, chunk: Handle) -> Result<Plan, AllocError>
+    ensures { IfOk result (λ plan. plan_of plan ≡ record { records = []; changes = changes.Place chunk ∷ []; sent = []; said = None }) }
+{
+    let mut plan = Plan::nothing(alloc);
+    plan.changes = vec![in alloc; Change::Place(chunk)]?;
+    Ok(plan)
 }
 
 impl Event {
@@ -107,8 +138,8 @@ impl Event {
         }
     }
 
-    /// A call that waited makes its edit, is answered, and ends. Where the edit is refused the call is.
-    pub fn end_by_edit(
+    /// The edit of a call that waited is judged, and made where neither the names nor the journal refuse it. Else the call is refused.
+    fn judge_end(
         &mut self,
         req: ReqId,
         edit: Edit,
@@ -124,6 +155,33 @@ impl Event {
         }
         let plan = edit_plan(self.alloc, req, edit, answer, before)?;
         self.carry_out_for(req, plan)
+    }
+
+    /// A call that waited makes its edit, is answered, and ends. Where the edit is refused the call is. As in `edit_by`, the edit is
+    /// judged where it can't be made.
+    pub fn end_by_edit(
+        &mut self,
+        req: ReqId,
+        edit: Edit,
+        answer: Answer,
+        before: Vec<Change>,
+    ) -> Result<(), Refusal>
+        requires { IsUnderWay self.old }
+        ensures steps { EventSteps (ended_by_edit (state_at self.old) req (plain_edit edit) answer before.items) self.old result self.new }
+        ensures back { GoesBack self.old self.new }
+    {
+        match self.enter_edit(req, edit) {
+            Ok(None) => {
+                let plan = ended_plan(self.alloc, req, answer, before)?;
+                self.carry_out(plan)
+            }
+            Ok(Some(edit)) => self.judge_end(req, edit, answer, before),
+            Err(refusal) => {
+                drop(answer);
+                drop(before);
+                Err(refusal)
+            }
+        }
     }
 
     /// The chunk of an extend gets its place.
@@ -202,8 +260,9 @@ impl Event {
         self.lease(req, path, index, new)
     }
 
-    /// A copy takes a chunk's place. Then a lease of it is asked for. Where that edit is refused the call is.
-    fn replace(
+    /// The edit by which a copy takes a chunk's place is judged, and made where neither the names nor the journal refuse it. Then a
+    /// lease of the copy is asked for. Else the call is refused.
+    fn judge_replacing(
         &mut self,
         req: ReqId,
         path: Path,
@@ -220,6 +279,30 @@ impl Event {
             return self.end_by(req, refusal);
         }
         self.put_in_place(req, path, index, old, new)
+    }
+
+    /// A copy takes a chunk's place. Then a lease of it is asked for. Where that edit is refused the call is. As in `edit_by`, the
+    /// edit is judged where it can't be made.
+    fn replace(
+        &mut self,
+        req: ReqId,
+        path: Path,
+        index: u64,
+        old: Handle,
+        new: Handle,
+    ) -> Result<(), Refusal>
+        requires { IsUnderWay self.old }
+        ensures steps { EventSteps (replaced (state_at self.old) req path index old new) self.old result self.new }
+        ensures back { GoesBack self.old self.new }
+    {
+        let edit = Edit::Cow(path.copy(self.alloc)?, index as usize, old, new);
+        if let Some(edit) = self.enter_edit(own_request(), edit)? {
+            drop(edit);
+            return self.judge_replacing(req, path, index, old, new);
+        }
+        let plan = placed_plan(self.alloc, new)?;
+        self.carry_out(plan)?;
+        self.lease(req, path, index, new)
     }
 
     /// Whether the file that was noted last holds up the snapshot of a source still.

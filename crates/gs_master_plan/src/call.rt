@@ -22,7 +22,7 @@ use gs_master_record::{Entry, Phase};
 use gs_master_spec::change::Change;
 use gs_master_state::file::is_visible;
 use gs_master_state::log::Log;
-use gs_master_state::plan::Plan;
+use gs_master_state::plan::{Plan, push_change};
 use gs_msg::{Answer, Call, Message};
 use gs_path::Path;
 use std::alloc::{AllocError, Global};
@@ -320,7 +320,7 @@ pub fn edit_plan(
 {
     let record = Entry::Edit { by: req, edit };
     let mut changes = before;
-    changes.push(Change::End(req))?;
+    push_change(&mut changes, Change::End(req))?;
     Ok(Plan {
         records: vec![in alloc; record]?,
         changes,
@@ -343,7 +343,7 @@ impl<'a> Standing<'a> {
         let mut changes = before;
         if self.is_later(req) {
             let kept = Ok(answer.copy(self.recorded.alloc)?);
-            changes.push(kept_in_memory(req, kept))?;
+            push_change(&mut changes, kept_in_memory(req, kept))?;
         }
         Ok(changes)
     }
@@ -367,7 +367,7 @@ impl<'a> Standing<'a> {
     {
         let alloc = self.recorded.alloc;
         let mut changes = self.and_answer(Vec::new(alloc), req, &answer)?;
-        changes.push(Change::End(req))?;
+        push_change(&mut changes, Change::End(req))?;
         Ok(Plan {
             records: Vec::new(alloc),
             changes,

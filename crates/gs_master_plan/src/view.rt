@@ -29,7 +29,7 @@ use gs_master_record::Entry;
 use gs_master_spec::asking::Asking;
 use gs_master_spec::change::Change;
 use gs_master_spec::pending::{Pending, Waiting};
-use gs_master_state::plan::Plan;
+use gs_master_state::plan::{Plan, push_change};
 use gs_msg::{Body, Chunk, Message};
 use gs_path::Path;
 use std::alloc::{AllocError, Global};
@@ -38,18 +38,14 @@ use std::alloc::{AllocError, Global};
 fn proposed(alloc: Global, handle: Handle, version: u64) -> Result<Vec<Entry>, AllocError>
     ensures { IfOk result (λ records. map plain records.items ≡ entries.Propose handle version ∷ []) }
 {
-    let mut records = Vec::new(alloc);
-    records.push(Entry::Propose { handle, version })?;
-    Ok(records)
+    Ok(vec![in alloc; Entry::Propose { handle, version }]?)
 }
 
 /// A chunk is asked for.
 fn asked(alloc: Global, chunk: Handle, asking: &Asking) -> Result<Vec<Change>, AllocError>
     ensures { IfOk result (λ changed. changed.items ≡ changes.Ask chunk asking.now ∷ []) }
 {
-    let mut changes = Vec::new(alloc);
-    changes.push(Change::Ask(chunk, *asking))?;
-    Ok(changes)
+    Ok(vec![in alloc; Change::Ask(chunk, *asking)]?)
 }
 
 /// A chunk is new, and is asked for.
@@ -182,7 +178,7 @@ pub fn begin_pending(alloc: Global, req: ReqId, waits: Waiting) -> Result<Plan, 
     ensures { IfOk result (λ plan. plan_of plan ≡ begin_pending req waits) }
 {
     let mut plan = Plan::nothing(alloc);
-    plan.changes.push(Change::Begin(Pending { req, waits }))?;
+    push_change(&mut plan.changes, Change::Begin(Pending { req, waits }))?;
     Ok(plan)
 }
 
@@ -227,7 +223,7 @@ pub fn ask_plan(alloc: Global, chunk: Handle, asking: Asking) -> Result<Plan, Al
     ensures { IfOk result (λ plan. plan_of plan ≡ ask_plan chunk asking) }
 {
     let mut plan = Plan::nothing(alloc);
-    plan.changes.push(Change::Ask(chunk, asking))?;
+    push_change(&mut plan.changes, Change::Ask(chunk, asking))?;
     Ok(plan)
 }
 

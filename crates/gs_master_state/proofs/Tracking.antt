@@ -44,14 +44,14 @@ module _ {K X : Type 0} {R : K → K → Ordering} (o : IsTotalOrder R) (a : fin
   off_removed : (m : fin.FinMap R X) (k q : K) → eq_by_cmp R q k ≡ false → fin.get (fin.remove m k) q ≡ fin.get m q
   off_removed m k q is = fin.get-remove o m k q ∙ ap (λ b. cond b None (fin.get m q)) is
 
-  off_inserted : (m : fin.FinMap R X) (k : K) (x : X) (q : K) → eq_by_cmp R q k ≡ false → fin.get (fin.insert (fin.remove m k) k x) q ≡ fin.get m q
-  off_inserted m k x q is = fin.get-insert o (fin.remove m k) k x q ∙ ap (λ b. cond b (Some x) (fin.get (fin.remove m k) q)) is ∙ off_removed m k q is
+  off_inserted : (m : fin.FinMap R X) (k : K) (x : X) (q : K) → eq_by_cmp R q k ≡ false → fin.get (fin.insert m k x) q ≡ fin.get m q
+  off_inserted m k x q is = fin.get-insert o m k x q ∙ ap (λ b. cond b (Some x) (fin.get m q)) is
 
   pub back_removed : (m : fin.FinMap R X) (k : K) → set_live k (fin.get m k) (fin.remove m k) ≡ m
   back_removed m k = put_there m (fin.remove m k) k (off_removed m k)
 
-  pub back_inserted : (m : fin.FinMap R X) (k : K) (x : X) → set_live k (fin.get m k) (fin.insert (fin.remove m k) k x) ≡ m
-  back_inserted m k x = put_there m (fin.insert (fin.remove m k) k x) k (off_inserted m k x)
+  pub back_inserted : (m : fin.FinMap R X) (k : K) (x : X) → set_live k (fin.get m k) (fin.insert m k x) ≡ m
+  back_inserted m k x = put_there m (fin.insert m k x) k (off_inserted m k x)
 
 pub client_total : IsTotalOrder client_cmp
 client_total = on_total (λ (c : ClientId). c.0) nat_cmp_total
@@ -66,33 +66,25 @@ back_push v (one ∷ touched) slot = ap (λ w. slot_back w one) (back_push v tou
 pub before_push : (calls : Option Calls) (v next : Volatile) (touched : List Slot) (slot : Slot) → slot_back next slot ≡ v → calls_back calls (slots_back next (touched ++ slot ∷ [])) ≡ calls_back calls (slots_back v touched)
 before_push calls v next touched slot back = ap (calls_back calls) (back_push next touched slot ∙ ap (λ w. slots_back w touched) back)
 
-shadowed : {X : Type 0} (b : Bool) (x : X) (y z : Option X) → y ≡ cond b None z → cond b (Some x) y ≡ cond b (Some x) z
-shadowed true x y z is = refl
-shadowed false x y z is = is
-
 pub before_is : (calls : Option Calls) (v v3 : Volatile) (nb : NowAndBefore) (ss reserved items : List Slot) (slot : Slot) → calls_back calls (slots_back v ss) ≡ nb.before → reserved ≡ ss → items ≡ reserved ++ slot ∷ [] →
     slot_back v3 slot ≡ v → calls_back calls (slots_back v3 items) ≡ nb.before
 before_is calls v v3 nb ss reserved items slot before same more back =
     ap (λ xs. calls_back calls (slots_back v3 xs)) (more ∙ ap (λ xs. xs ++ slot ∷ []) same) ∙ before_push calls v v3 ss slot back ∙ before
 
--- a map of what is in memory alone, at one key of which an event takes out what stands, and perhaps puts something
+-- a map of what is in memory alone, at one key of which an event puts something, or takes out what stands
 module _ {K X : Type 0} {R : K → K → Ordering} (o : IsTotalOrder R) (a : fin.IsAntisymmetric R) (of : Volatile → fin.FinMap R X) (with_map : Volatile → fin.FinMap R X → Volatile) where
-  insert_removed : (m : fin.FinMap R X) (k : K) (x : X) → fin.insert (fin.remove m k) k x ≡ fin.insert m k x
-  insert_removed m k x = fin.same_map o a _ _ (λ q.
-      fin.get-insert o (fin.remove m k) k x q ∙ shadowed (eq_by_cmp R q k) x (fin.get (fin.remove m k) q) (fin.get m q) (fin.get-remove o m k q) ∙ sym (fin.get-insert o m k x q))
-
-  pub put_now : (v : Volatile) (nb : NowAndBefore) (l1 l2 : fin.FinMap R X) (k : K) (x : X) (v3 : Volatile) → v ≡ nb.now → l1 ≡ of v → l2 ≡ fin.remove l1 k → v3 ≡ with_map v (fin.insert l2 k x) →
+  pub put_now : (v : Volatile) (nb : NowAndBefore) (l1 l2 : fin.FinMap R X) (k : K) (x : X) (v3 : Volatile) → v ≡ nb.now → l1 ≡ of v → l2 ≡ fin.insert l1 k x → v3 ≡ with_map v l2 →
       v3 ≡ with_map nb.now (fin.insert (of nb.now) k x)
-  put_now v nb l1 l2 k x v3 view same taken is =
-      is ∙ ap (λ l. with_map v (fin.insert l k x)) (taken ∙ ap (λ l. fin.remove l k) same) ∙ ap (with_map v) (insert_removed (of v) k x) ∙ ap (λ w. with_map w (fin.insert (of w) k x)) view
+  put_now v nb l1 l2 k x v3 view same put is =
+      is ∙ ap (with_map v) (put ∙ ap (λ l. fin.insert l k x) same) ∙ ap (λ w. with_map w (fin.insert (of w) k x)) view
 
   pub put_before : (calls : Option Calls) (v v3 : Volatile) (nb : NowAndBefore) (ss reserved items : List Slot) (slot : Slot) (l1 l2 : fin.FinMap R X) (k : K) (x : X) (old : Option X) →
       ((l : fin.FinMap R X) → slot_back (with_map v l) slot ≡ with_map v (set_live k old l)) → with_map v (of v) ≡ v → calls_back calls (slots_back v ss) ≡ nb.before → reserved ≡ ss → items ≡ reserved ++ slot ∷ [] →
-      l1 ≡ of v → l2 ≡ fin.remove l1 k → v3 ≡ with_map v (fin.insert l2 k x) → old ≡ fin.get l1 k → calls_back calls (slots_back v3 items) ≡ nb.before
-  put_before calls v v3 nb ss reserved items slot l1 l2 k x old law whole before same more is_of taken is was =
+      l1 ≡ of v → l2 ≡ fin.insert l1 k x → v3 ≡ with_map v l2 → old ≡ fin.get l1 k → calls_back calls (slots_back v3 items) ≡ nb.before
+  put_before calls v v3 nb ss reserved items slot l1 l2 k x old law whole before same more is_of put is was =
       before_is calls v v3 nb ss reserved items slot before same more
-      (ap (λ w. slot_back w slot) (is ∙ ap (λ l. with_map v (fin.insert l k x)) (taken ∙ ap (λ l. fin.remove l k) is_of)) ∙ law (fin.insert (fin.remove (of v) k) k x)
-      ∙ ap (λ y. with_map v (set_live k y (fin.insert (fin.remove (of v) k) k x))) (was ∙ ap (λ l. fin.get l k) is_of) ∙ ap (with_map v) (back_inserted o a (of v) k x) ∙ whole)
+      (ap (λ w. slot_back w slot) (is ∙ ap (with_map v) (put ∙ ap (λ l. fin.insert l k x) is_of)) ∙ law (fin.insert (of v) k x)
+      ∙ ap (λ y. with_map v (set_live k y (fin.insert (of v) k x))) (was ∙ ap (λ l. fin.get l k) is_of) ∙ ap (with_map v) (back_inserted o a (of v) k x) ∙ whole)
 
   pub take_before : (calls : Option Calls) (v v3 : Volatile) (nb : NowAndBefore) (ss reserved items : List Slot) (slot : Slot) (l1 l2 : fin.FinMap R X) (k : K) (old : Option X) →
       ((l : fin.FinMap R X) → slot_back (with_map v l) slot ≡ with_map v (set_live k old l)) → with_map v (of v) ≡ v → calls_back calls (slots_back v ss) ≡ nb.before → reserved ≡ ss → items ≡ reserved ++ slot ∷ [] →

@@ -1,5 +1,5 @@
 // What is to be done because of a piece of news.
-ghost use Rattle.std.specs.Prelude.{◌≡◌, IfOk};
+ghost use Rattle.std.specs.Prelude.{[], ◌++◌, ◌∷◌, ◌≡◌, IfOk, OnOk};
 ghost use Rattle.gs_master_spec.specs.Beginning.{waits_from_now, waits_on};
 ghost use Rattle.gs_master_state.specs.inner.Plans.{plan_of};
 ghost use Rattle.gs_master_spec.specs.State.{nothing_to_do};
@@ -20,6 +20,15 @@ pub struct Plan {
     pub said: Option<Refusal>,
 }
 
+/// Puts a change behind others. Most plans have no other behind it, so no room is made for more.
+pub fn push_change(changes: &mut Vec<Change>, change: Change) -> Result<(), AllocError>
+    ensures { OnOk result (changes.new.items ≡ changes.old.items ++ change ∷ []) }
+{
+    changes.reserve_exact(1)?;
+    changes.push_reserved(change);
+    Ok(())
+}
+
 impl Plan {
     /// Nothing is to be done.
     pub fn nothing(alloc: Global) -> Plan
@@ -38,7 +47,7 @@ impl Plan {
         ensures { IfOk result (λ plan. plan_of plan ≡ waits_from_now (plan_of self) req waits) }
     {
         let mut plan = self;
-        plan.changes.push(Change::Begin(Pending { req, waits }))?;
+        push_change(&mut plan.changes, Change::Begin(Pending { req, waits }))?;
         Ok(plan)
     }
 
@@ -47,7 +56,7 @@ impl Plan {
         ensures { IfOk result (λ plan. plan_of plan ≡ waits_on (plan_of self) req waits) }
     {
         let mut plan = self;
-        plan.changes.push(Change::Wait(req, waits))?;
+        push_change(&mut plan.changes, Change::Wait(req, waits))?;
         Ok(plan)
     }
 }

@@ -1,5 +1,5 @@
 // What is kept in memory alone while an event lasts, with what takes each change of it back.
-ghost use Rattle.std.specs.Prelude.{◌≡◌, ◌++◌, ◌∷◌, OnOk, fold, is_some, true, false, []};
+ghost use Rattle.std.specs.Prelude.{◌≡◌, ◌++◌, ◌∷◌, IfOk, OnOk, fold, is_some, true, false, []};
 ghost use Rattle.std.specs.FinMap as fin;
 ghost use Rattle.std.specs.Ordering.{nat_cmp};
 ghost use Rattle.gs_base_table.specs.Slots.{HasRoom};
@@ -7,7 +7,7 @@ ghost use Rattle.gs_master_state.specs.inner.Memories.{KeepsRooms, volatile_of};
 ghost use Rattle.gs_master_spec.specs.Replies.{client_cmp};
 ghost use Rattle.gs_master_state.specs.inner.Released.{GivesUpEach, HaveNoFreeRoom, ReleasesEach};
 ghost use Rattle.gs_master_state.specs.inner.Tracked.{HasRoomBack, HaveRoomBack, rooms_before, slot_back, slots_back};
-ghost use Rattle.gs_master_spec.specs.Volatile.{behind_restart, changed, with_restored};
+ghost use Rattle.gs_master_spec.specs.Volatile.{behind_restart, changed, with_restored, without_pending};
 ghost use Rattle.gs_master_spec.specs.declared.change.Change.TheVariants as changes;
 ghost use Rattle.gs_master_state.specs.declared.tracked.Slot.TheVariants as slots;
 
@@ -153,6 +153,32 @@ fn release_all(memory: &mut Memory, chunks: &[Handle])
     }
 }
 
+/// The calls that wait but for one, in memory of their own.
+fn others(alloc: Global, pending: &[Pending], req: ReqId) -> Result<Vec<Pending>, AllocError>
+    ensures { IfOk result (λ others. others.items ≡ without_pending pending.now req) }
+{
+    let mut others = Vec::new(alloc);
+    for one in pending {
+        if one.req != req {
+            others.push(one.copy(alloc)?)?;
+        }
+    }
+    Ok(others)
+}
+
+/// How many items a list that is done with may have room for, to be used again.
+const FEW: usize = 64;
+
+/// Lets the items of a list go. Its room stays for the next event, unless it is more than an event mostly wants.
+fn empty<T: Drop>(items: &mut Vec<T>)
+    ensures { items.new.items ≡ [] }
+{
+    items.clear();
+    if items.capacity() > FEW {
+        items.shrink_to_fit();
+    }
+}
+
 impl Tracked {
     /// As a restart leaves it that takes these chunks out.
     pub fn new(alloc: Global, taken_out: Vec<Handle>) -> Tracked
@@ -199,9 +225,8 @@ impl Tracked {
         self.asked.push(chunk)?;
         self.memory.moving.reserve(chunk)?;
         self.touched.reserve(1)?;
-        let asked = self.memory.moving.take(chunk);
+        let asked = self.memory.moving.replace(chunk, asking);
         self.touched.push_reserved(Slot::Asked(chunk, asked));
-        self.memory.ask(chunk, asking);
         Ok(())
     }
 
@@ -297,12 +322,32 @@ impl Tracked {
         Ok(())
     }
 
+    /// Ends a call where the calls that waited before aren't kept yet: they are kept as they stand, and the others are copied.
+    fn end_first(&mut self, req: ReqId) -> Result<(), AllocError>
+        requires { self.old.keeps_calls ≡ false }
+        ensures now { OnOk result (self.new.now ≡ changed self.old.now (changes.End req)) }
+        ensures before { self.new.before ≡ self.old.before }
+    {
+        let alloc = self.memory.alloc;
+        let pending = others(alloc, &self.memory.pending, req)?;
+        let locks = self.memory.locks.copy_without(req)?;
+        let unplaced = Vec::from_slice(alloc, &self.memory.unplaced)?;
+        self.calls = Some(Calls {
+            pending: mem::replace(&mut self.memory.pending, pending),
+            locks: mem::replace(&mut self.memory.locks, locks),
+            unplaced,
+        });
+        Ok(())
+    }
+
     /// Ends a call, and releases its locks.
     fn end(&mut self, req: ReqId) -> Result<(), AllocError>
         ensures now { OnOk result (self.new.now ≡ changed self.old.now (changes.End req)) }
         ensures before { self.new.before ≡ self.old.before }
     {
-        self.keep_calls()?;
+        if self.calls.is_none() {
+            return self.end_first(req);
+        }
         self.memory.end(req);
         Ok(())
     }
@@ -326,9 +371,8 @@ impl Tracked {
     {
         self.memory.replies.reserve(client)?;
         self.touched.reserve(1)?;
-        let replied = self.memory.replies.take(client);
+        let replied = self.memory.replies.replace(client, reply);
         self.touched.push_reserved(Slot::Replied(client, replied));
-        self.memory.keep(client, reply);
         Ok(())
     }
 
@@ -340,10 +384,9 @@ impl Tracked {
         self.memory.restored.reserve(chunk)?;
         self.touched.reserve(1)?;
         let mut servers = self.memory.restored_on(chunk);
-        let restored = self.memory.restored.take(chunk);
-        self.touched.push_reserved(Slot::Restored(chunk, restored));
         servers.insert(server);
-        self.memory.restored.put(chunk, servers);
+        let restored = self.memory.restored.replace(chunk, servers);
+        self.touched.push_reserved(Slot::Restored(chunk, restored));
         Ok(())
     }
 
@@ -416,9 +459,9 @@ impl Tracked {
         ensures room { ReleasesEach self.old.rooms self.new.rooms self.old.asked }
     {
         self.calls = None;
-        self.touched = Vec::new(self.memory.alloc);
+        empty(&mut self.touched);
         release_all(&mut self.memory, &self.asked);
-        self.asked = Vec::new(self.memory.alloc);
+        empty(&mut self.asked);
     }
 
     /// The same, behind which a checkpoint is written: of the new chunks these stay, of those that got no place nothing is asked

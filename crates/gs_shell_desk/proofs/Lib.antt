@@ -3,3 +3,4 @@ mod Delivering
 mod Doing
 mod Ended
 mod Stepping
+mod Together

@@ -1,9 +1,9 @@
 // What carries a client's requests to the nodes of a store.
-ghost use Rattle.std.specs.Prelude.{◌≡◌, ◌<◌, ◌≤◌, OnOk, OnErr};
+ghost use Rattle.std.specs.Prelude.{[], ◌≡◌, ◌<◌, ◌≤◌, fold, None, OnOk, OnErr};
 ghost use Rattle.gs_client.specs.declared.link.Reply.{Reply};
 ghost use Rattle.gs_msg.specs.declared.event.Request.{Request};
 ghost use Rattle.gs_base.specs.declared.numbers.ReqId.{ReqId};
-ghost use Rattle.gs_shell_desk.specs.Ways.{AllTick, Carries, DeliversWhole, Ends, Heard, IsAsked, IsDelivered, MasterTicked, Puts, Sends, SendsAll, ServerTicked, ServersTick, Waited, is_drop, noted, shortened_by, way_of};
+ghost use Rattle.gs_shell_desk.specs.Ways.{AllTick, Carries, DeliversWhole, Ends, Heard, IsAsked, IsDelivered, MasterTicked, Puts, Sends, SendsAll, ServerTicked, ServersTick, Waited, counted, is_drop, noted, shortened_by, way_of};
 
 use gs_base::{ClientId, Moment, Refusal, ReqId, ServerId};
 use gs_client::{Link, Reply};
@@ -87,24 +87,62 @@ impl<D: Disk + Drop> Wire<D> {
         }
     }
 
-    /// Sends a message. Where memory is wanting for it, it is lost; where it is wanting for its text, that isn't kept.
-    pub(crate) fn send(&mut self, message: Message)
-        ensures { Sends message (way_of self.old) (way_of self.new) }
+    /// Counts a message that is sent, if it is a drop, and keeps its text. Where memory is wanting for that, it isn't kept.
+    fn count(&mut self, message: &Message)
+        ensures { way_of self.new ≡ counted message.now (way_of self.old) }
     {
         if is_drop(message.body.kind()) {
             self.drops = self.drops.saturating_add(1);
         }
-        let _kept = self.keep_text(&message);
+        let _kept = self.keep_text(message);
+    }
+
+    /// The same of messages, in order.
+    fn count_all(&mut self, sent: &[Message])
+        ensures { way_of self.new ≡ fold (λ way message. counted message way) (way_of self.old) sent.now }
+    {
+        for message in sent {
+            self.count(message);
+        }
+    }
+
+    /// Sends a message. Where memory is wanting for it, it is lost.
+    pub(crate) fn send(&mut self, message: Message)
+        ensures { Sends message (way_of self.old) (way_of self.new) }
+    {
+        self.count(&message);
         if self.put(message).is_err() {
             self.is_short = true;
         }
     }
 
-    pub(crate) fn send_all(&mut self, sent: Vec<Message>)
+    /// Sends messages one after the other.
+    fn send_each(&mut self, sent: Vec<Message>)
         ensures { SendsAll sent.items (way_of self.old) (way_of self.new) }
     {
         for message in sent {
             self.send(message);
+        }
+    }
+
+    /// Sends messages where none is under way or held back: they are what is under way then, where they stand. It takes no memory.
+    fn send_together(&mut self, sent: Vec<Message>)
+        requires queue { self.old.queue.items ≡ [] }
+        requires kind { self.old.held_kind ≡ None }
+        ensures { SendsAll sent.items (way_of self.old) (way_of self.new) }
+    {
+        self.count_all(&sent);
+        self.queue = VecDeque::from_vec(sent);
+    }
+
+    /// Sends messages, in order.
+    pub(crate) fn send_all(&mut self, sent: Vec<Message>)
+        ensures { SendsAll sent.items (way_of self.old) (way_of self.new) }
+    {
+        if self.queue.is_empty() && self.held_kind.is_none() {
+            self.send_together(sent);
+        } else {
+            self.send_each(sent);
         }
     }
 

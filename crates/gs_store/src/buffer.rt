@@ -1,18 +1,21 @@
-ghost use Rattle.std.specs.Prelude.{◌≡◌, [], Ok, IfOk, option_map};
+ghost use Rattle.std.specs.Prelude.{◌≡◌, [], Ok, IfOk, option_map, position};
 ghost use Rattle.std.specs.Option.{option_copied};
 ghost use Rattle.gs_base.specs.Calls.{FollowsOf};
-ghost use Rattle.gs_store.specs.Buffers.{push, pushed, without};
+ghost use Rattle.gs_store.specs.Buffers.{push, pushed, same_request, without};
 
 use gs_base::{Refusal, Refused, ReqId};
-use lru::LruCache;
 use std::alloc::{AllocError, Global};
+use std::collections::VecDeque;
 use std::marker::Model;
-use std::num::NonZeroUsize;
 
-/// The bytes that clients have pushed and that no edit has used, for the 64 requests that were pushed last.
+/// For how many requests bytes are kept.
+const REQUESTS: usize = 64;
+
+/// The bytes that clients have pushed and that no edit has used, for the 64 requests that were pushed last, the newest first. Mostly
+/// there are few.
 #[derive(Drop)]
 pub(crate) struct PushBuffer {
-    cache: LruCache<ReqId, Vec<u8>>,
+    pushes: VecDeque<(ReqId, Vec<u8>)>,
 }
 
 impl Model for PushBuffer {
@@ -24,19 +27,23 @@ impl Model for PushBuffer {
 
     ghost coded = { coded_pushes };
 
-    ghost view = { λ b. bytes_of b.cache.entries };
-
-    ghost invariant = { λ b. (b.cache.cap ≡ capacity) × (length b.cache.entries ≤ capacity) };
+    ghost view = { λ b. bytes_of b.pushes.items };
 }
 
 impl PushBuffer {
     pub(crate) fn new(alloc: Global) -> Result<PushBuffer, AllocError>
         ensures { IfOk result (λ b. b ≡ []) }
     {
-        let requests = NonZeroUsize::new(64).unwrap();
         Ok(PushBuffer {
-            cache: LruCache::new(alloc, requests)?,
+            pushes: VecDeque::new(alloc),
         })
+    }
+
+    /// Where the bytes of a request stand, if there are some.
+    fn place_of(&self, req: ReqId) -> Option<usize>
+        ensures { result ≡ position (λ e. same_request req e.0) self.now }
+    {
+        self.pushes.iter().position(|push| push.0 == req)
     }
 
     /// Puts bytes under a request, in place of those that it had, as the newest. The oldest goes where there are 65.
@@ -44,24 +51,25 @@ impl PushBuffer {
     pub(crate) fn push(&mut self, req: ReqId, bytes: Vec<u8>) -> Result<(), Refused<Vec<u8>>>
         ensures { FollowsOf bytes (Ok (push req bytes.items self.old)) result self.old self.new }
     {
-        match self.cache.put(req, bytes) {
-            Ok(_) => Ok(()),
-            Err(failed) => {
-                let (_, given) = failed.value;
-                Err(Refused {
-                    refusal: Refusal::Memory,
-                    given,
-                })
-            }
+        if self.pushes.reserve(1).is_err() {
+            return Err(Refused {
+                refusal: Refusal::Memory,
+                given: bytes,
+            });
         }
+        drop(self.take(req));
+        self.pushes.truncate(REQUESTS - 1);
+        self.pushes.push_front_reserved((req, bytes));
+        Ok(())
     }
 
     /// The bytes of a request. It leaves the order as it is.
     pub(crate) fn get(&self, req: ReqId) -> Option<&[u8]>
         ensures { option_copied result ≡ pushed req self.now }
     {
-        match self.cache.peek(&req) {
-            Some(bytes) => Some(bytes.as_slice()),
+        let place = self.place_of(req)?;
+        match self.pushes.get(place) {
+            Some(push) => Some(push.1.as_slice()),
             None => None,
         }
     }
@@ -71,13 +79,15 @@ impl PushBuffer {
         ensures taken { option_map (λ bytes. bytes.items) result ≡ pushed req self.old }
         ensures without { self.new ≡ without req self.old }
     {
-        self.cache.pop(&req)
+        let place = self.place_of(req)?;
+        let (_, bytes) = self.pushes.remove(place)?;
+        Some(bytes)
     }
 
     /// Drops all bytes. It takes no memory.
     pub(crate) fn clear(&mut self)
         ensures { self.new ≡ [] }
     {
-        self.cache.clear();
+        self.pushes.clear();
     }
 }

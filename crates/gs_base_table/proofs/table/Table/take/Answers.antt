@@ -1,19 +1,31 @@
-use Rattle.std.proofs.Common.{None, ap, sym, ◌∙◌}
+use Rattle.std.proofs.Common.{None, ◌≡◌, IsSome, ap, refl, subst, sym, ◌∙◌}
+use Rattle.std.specs.FinMap as fin
 use Rattle.std.specs.Option.{option_flatten}
-use Rattle.gs_base_table.proofs.Lives.{get-live, live_absent, live_written, has_slot}
+use Rattle.gs_base_table.specs.Slots.{IsWritten}
+use Rattle.gs_base_table.proofs.Lives.{find-lookup, get-live, live_absent, live_written, written_by}
 use Rattle.gs_base_table.proofs.table.Table.take.Goals as goal
 
-pub returns-then-not-has-clause-value : goal.returns-then-not-has-clause-value
-returns-then-not-has-clause-value g c = sym (get-live g.met.K.Ord.total c.args.self.now c.args.key ∙ ap option_flatten (has_slot _ _ c.has.ensures c.if-not-has.true))
+pub returns-in_default-clause-value : goal.returns-in_default-clause-value
+returns-in_default-clause-value g c =
+    let none : fin.find g.K.Ord.cmp c.args.key c.args.self.now ≡ None = sym (ap (λ es. fin.find g.K.Ord.cmp c.args.key es) c.self.view_is) ∙ find-lookup g.met.K.Ord.total c.self.inside.slots.entries c.args.key ∙ sym c.in_default.ensures.value in
+    sym (get-live g.met.K.Ord.total c.args.self.now c.args.key ∙ ap option_flatten none)
 
-pub returns-then-not-has-clause-taken : goal.returns-then-not-has-clause-taken
-returns-then-not-has-clause-taken g c = sym (live_absent g.met.K.Ord.total g.met.K.Key.exact c.args.self.now c.args.key (has_slot _ _ c.has.ensures c.if-not-has.true))
-
-pub swap-requires : goal.swap-requires
-swap-requires g c = record { slot = sym c.has.ensures ∙ c.if-not-has.false }
+pub returns-in_default-clause-taken : goal.returns-in_default-clause-taken
+returns-in_default-clause-taken g c =
+    let none : fin.find g.K.Ord.cmp c.args.key c.args.self.now ≡ None = sym (ap (λ es. fin.find g.K.Ord.cmp c.args.key es) c.self.view_is) ∙ find-lookup g.met.K.Ord.total c.self.inside.slots.entries c.args.key ∙ sym c.in_default.ensures.value in
+    sym (live_absent g.met.K.Ord.total g.met.K.Key.exact c.args.self.now c.args.key none)
 
 pub returns-clause-value : goal.returns-clause-value
-returns-clause-value g c = c.swap.ensures.was ∙ sym (get-live g.met.K.Ord.total c.args.self.now c.args.key)
+returns-clause-value g c =
+    c.take.ensures.value
+    ∙ ap option_flatten (c.in-Some.ensures.value ∙ sym (find-lookup g.met.K.Ord.total c.self.inside.slots.entries c.args.key) ∙ ap (λ es. fin.find g.K.Ord.cmp c.args.key es) c.self.view_is)
+    ∙ sym (get-live g.met.K.Ord.total c.args.self.now c.args.key)
 
 pub returns-clause-taken : goal.returns-clause-taken
-returns-clause-taken g c = live_written g.met.K.Ord.total g.met.K.Key.exact c.args.self.now c.swap.new.self c.args.key None c.swap.ensures.written
+returns-clause-taken g c =
+    let written = c.get_mut.follows.holds c.take.new.self in
+    let updates = (written.3 (subst IsSome c.in-Some.ensures.value refl)).0 in
+    let is : IsWritten g.K.Ord.cmp c.args.self.now (c.get_mut.follows.lender c.take.new.self).entries c.args.key None =
+    subst (λ slot. IsWritten g.K.Ord.cmp c.args.self.now (c.get_mut.follows.lender c.take.new.self).entries c.args.key slot) c.take.ensures.after
+    (rw (← c.self.view_is) (written_by g.met.K.Ord.total c.self.inside.slots.entries (c.get_mut.follows.lender c.take.new.self).entries c.args.key c.take.new.self updates)) in
+    live_written g.met.K.Ord.total g.met.K.Key.exact c.args.self.now _ c.args.key None is

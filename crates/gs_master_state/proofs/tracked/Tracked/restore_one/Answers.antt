@@ -19,17 +19,17 @@ invariant_of-self-in_err-reserve-2 c =
 
 pub invariant_of-self-2 : goal.invariant_of-self-2
 invariant_of-self-2 c =
-    rooms_pushed c.self.inside.memory (record (c.self.inside.memory) { restored = c.take-restored.new.self }) (record (c.self.inside.memory) { restored = c.put.new.self }) c.self.inside.touched.items _ _ (slots.Restored c.args.chunk c.take-restored.result) (record { moving = record { keeps = λ key room. room }; restored = record { keeps = λ key room. c.take-restored.ensures.keeps.keeps key (c.reserve.ensures.keeps.keeps key room) }; replies = record { keeps = λ key room. room } }) (record { moving = record { keeps = λ key room. room }; restored = c.put.ensures.keeps; replies = record { keeps = λ key room. room } }) c.self.invariant
-    (c.put.ensures.keeps.keeps c.args.chunk (c.take-restored.ensures.keeps.keeps c.args.chunk c.in_ok-reserve.ensures.ok)) c.reserve-2.ensures.items c.push_reserved.ensures.items
+    rooms_pushed c.self.inside.memory (record (c.self.inside.memory) { restored = c.replace-restored.new.self }) (record (c.self.inside.memory) { restored = c.replace-restored.new.self }) c.self.inside.touched.items _ _ (slots.Restored c.args.chunk c.replace-restored.result) (record { moving = record { keeps = λ key room. room }; restored = record { keeps = λ key room. c.replace-restored.ensures.keeps.keeps key (c.reserve.ensures.keeps.keeps key room) }; replies = record { keeps = λ key room. room } }) (record { moving = record { keeps = λ key room. room }; restored = record { keeps = λ key room. room }; replies = record { keeps = λ key room. room } }) c.self.invariant
+    (c.replace-restored.ensures.keeps.keeps c.args.chunk c.in_ok-reserve.ensures.ok) c.reserve-2.ensures.items c.push_reserved.ensures.items
 
 pub returns-clause-now : goal.returns-clause-now
 returns-clause-now c =
     put_now nat_cmp_total nat_cmp-IsAntisymmetric (λ v. v.restored) (λ v l. record v { restored = l }) (volatile_of c.self.inside.memory) c.args.self.now _ _ c.args.chunk c.insert.new.self _ (ap (λ (x : NowAndBefore). x.now) c.self.view_is)
-    c.reserve.ensures.same c.take-restored.ensures.taken (ap (λ l. record (volatile_of c.self.inside.memory) { restored = l }) c.put.ensures.put)
+    c.reserve.ensures.same c.replace-restored.ensures.put refl
     ∙ ap (λ y. record (c.args.self.now.now) { restored = fin.insert c.args.self.now.now.restored c.args.chunk y })
     (c.insert.ensures ∙ ap (λ s. with_member s c.args.server) (c.restored_on-servers.ensures ∙ ap (λ l. servers_or_none (fin.get l c.args.chunk)) (c.reserve.ensures.same ∙ ap (λ (x : NowAndBefore). x.now.restored) c.self.view_is)))
 
 pub returns-clause-before : goal.returns-clause-before
 returns-clause-before c =
     put_before nat_cmp_total nat_cmp-IsAntisymmetric (λ v. v.restored) (λ v l. record v { restored = l }) c.self.inside.calls (volatile_of c.self.inside.memory) _ c.args.self.now c.self.inside.touched.items _ _ (slots.Restored c.args.chunk _) _ _ c.args.chunk c.insert.new.self _
-    (λ l. refl) refl (ap (λ (x : NowAndBefore). x.before) c.self.view_is) c.reserve-2.ensures.items c.push_reserved.ensures.items c.reserve.ensures.same c.take-restored.ensures.taken (ap (λ l. record (volatile_of c.self.inside.memory) { restored = l }) c.put.ensures.put) c.take-restored.ensures.value
+    (λ l. refl) refl (ap (λ (x : NowAndBefore). x.before) c.self.view_is) c.reserve-2.ensures.items c.push_reserved.ensures.items c.reserve.ensures.same c.replace-restored.ensures.put refl c.replace-restored.ensures.value

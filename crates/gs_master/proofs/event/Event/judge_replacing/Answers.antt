@@ -7,7 +7,7 @@ use Rattle.gs_master_state.specs.inner.Trying.{refusal_of}
 use Rattle.gs_master_spec.specs.Undoing.{edited_names}
 use Rattle.gs_master.specs.inner.Turns.{EventSteps, state_at}
 use Rattle.gs_master.proofs.Ends.{accepted_by, refused_by}
-use Rattle.gs_master.proofs.event.Event.replace.Goals as goal
+use Rattle.gs_master.proofs.event.Event.judge_replacing.Goals as goal
 
 pub returns-in-Some-clause-steps : goal.returns-in-Some-clause-steps
 returns-in-Some-clause-steps c =

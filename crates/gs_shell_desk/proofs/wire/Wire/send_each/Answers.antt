@@ -1,6 +1,6 @@
 use Rattle.std.proofs.Common.{subst, sym}
 use Rattle.gs_shell_desk.specs.Ways.{SendsAll, way_of}
-use Rattle.gs_shell_desk.proofs.wire.Wire.send_all.Goals as goal
+use Rattle.gs_shell_desk.proofs.wire.Wire.send_each.Goals as goal
 
 pub loop-message-preserved : goal.loop-message-preserved
 loop-message-preserved g c new others =

@@ -1,5 +1,5 @@
 use Rattle.gs_shell_desk.specs.Ways.{SendsAll, Way, way_of}
-use Rattle.gs_shell_desk.proofs.wire.Wire.send_all.Given as goal
+use Rattle.gs_shell_desk.proofs.wire.Wire.send_each.Given as goal
 
 abbrev pub invariant-loop-message : goal.invariant-loop-message
 invariant-loop-message g l =
