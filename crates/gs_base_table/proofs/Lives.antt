@@ -12,7 +12,7 @@ use Rattle.std.specs.Map.{lookup}
 use Rattle.std.specs.Option.{option_flatten}
 use Rattle.std.specs.List.{AllByRecursion}
 use Rattle.std.specs.List.Sorted.{IsStrictlySortedBy}
-use Rattle.gs_base_table.specs.Slots.{live_entries, set_live, live, HasRoom, GivesUpRoom, IsWritten}
+use Rattle.gs_base_table.specs.Slots.{live_entries, set_live, live, HasRoom, KeepsRoom, GivesUpRoom, IsWritten}
 
 joined_cond : {V : Type 0} (b : Bool) (x : Option V) (y : Option (Option V)) → option_flatten (cond b (Some x) y) ≡ cond b x (option_flatten y)
 joined_cond true x y = refl
@@ -145,6 +145,14 @@ module _ {K V : Type 0} {R : K → K → Ordering} (o : IsTotalOrder R) where
 pub has_slot : {V : Type 0} (o : Option (Option V)) (b : Bool) → b ≡ is_some o → b ≡ false → o ≡ None
 has_slot None b is no_slot = refl
 has_slot (Some x) b is no_slot = absurd (false≢true (sym no_slot ∙ is))
+
+held_slot : {V : Type 0} (b : Bool) (w : Option V) (slot : Option (Option V)) → is_some slot ≡ true → is_some (cond b (Some w) slot) ≡ true
+held_slot true w slot held = refl
+held_slot false w slot held = held
+
+-- a write of a slot keeps the room of each key
+pub keeps_written : {K V : Type 0} {R : K → K → Ordering} (es fs : List (K × Option V)) (k : K) (w : Option V) → IsWritten R es fs k w → KeepsRoom R es fs
+keeps_written {R = R} es fs k w is = record { keeps = λ q room. record { slot = ap is_some (is.each q) ∙ held_slot (eq_by_cmp R q k) w (fin.find R q es) room.slot } }
 
 -- a key that has room is found
 pub found_slot : {K V : Type 0} {R : K → K → Ordering} (es : List (K × Option V)) (k : K) → HasRoom R es k → fin.find R k es ≡ None → ⊥
