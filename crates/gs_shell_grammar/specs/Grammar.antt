@@ -36,6 +36,7 @@ pub data Request : Type 0 where
   Scan : Request
   Replicate : Request
   Beat : ℕ → Request
+  Tick : Request
   RollingUpgrade : Upgrade → Request
   Step : UpgradeStep → Request
   At : ℕ → Request
@@ -61,6 +62,7 @@ request_of (command.Digest path chunk block) = Digest path.now chunk block
 request_of command.Scan = Scan
 request_of command.Replicate = Replicate
 request_of (command.Beat server) = Beat server
+request_of command.Tick = Tick
 request_of (command.Upgrade upgrade) = RollingUpgrade upgrade
 request_of (command.Step step) = Step step
 request_of (command.At moment) = At moment
@@ -80,6 +82,7 @@ unfoldable pub one_word : Text → Option Request
 one_word name =
     if bytes_eq name (codes "scan") then Some Scan
     else if bytes_eq name (codes "replicate") then Some Replicate
+    else if bytes_eq name (codes "tick") then Some Tick
     else if bytes_eq name (codes "prepare-begin") then Some (Step PrepareBegin)
     else if bytes_eq name (codes "prepare-commit") then Some (Step PrepareCommit)
     else if bytes_eq name (codes "rollback-begin") then Some (Step RollbackBegin)

@@ -7,7 +7,7 @@ use Rattle.gs_msg.specs.declared.kind.Kind.TheVariants as kinds
 use Rattle.gs_shell_grammar.specs.declared.command.Upgrade.TheVariants.{Query, Prepare, Finalize, Rollback}
 use Rattle.gs_shell_grammar.specs.declared.command.UpgradeStep.TheVariants.{PrepareBegin, PrepareCommit, RollbackBegin, RollbackCommit}
 use Rattle.gs_shell_grammar.specs.declared.command.Restarted.TheVariants.{Master, Server}
-use Rattle.gs_shell_grammar.specs.Grammar.{Mkdir, Create, Ls, Stat, Mv, Rm, Undelete, Snapshot, Write, Append, Read, Digest, Scan, Replicate, Beat, RollingUpgrade, Step, At, Restart, Lose, Damage, Hold, Deliver, line_request, one_word, two_words, three_words, four_words, upgrade_line, restart_line, number_line, append_line, lose_line, hold_line, write_line, read_line, digest_line, damage_line}
+use Rattle.gs_shell_grammar.specs.Grammar.{Mkdir, Create, Ls, Stat, Mv, Rm, Undelete, Snapshot, Write, Append, Read, Digest, Scan, Replicate, Beat, Tick, RollingUpgrade, Step, At, Restart, Lose, Damage, Hold, Deliver, line_request, one_word, two_words, three_words, four_words, upgrade_line, restart_line, number_line, append_line, lose_line, hold_line, write_line, read_line, digest_line, damage_line}
 
 mkdir : line_request (codes "mkdir /a/b") ≡ Some (Mkdir (codes "/a/b"))
 unfolding two_words is_utf8 chars encode_utf8
@@ -76,6 +76,10 @@ replicate = refl
 beat : line_request (codes "beat 2") ≡ Some (Beat 2)
 unfolding two_words number_line is_utf8 chars encode_utf8
 beat = refl
+
+tick : line_request (codes "tick") ≡ Some Tick
+unfolding one_word is_utf8 chars encode_utf8
+tick = refl
 
 query : line_request (codes "rollingUpgrade query") ≡ Some (RollingUpgrade Query)
 unfolding two_words upgrade_line is_utf8 chars encode_utf8
@@ -237,6 +241,10 @@ other_one_word : line_request (codes "scans") ≡ None
 unfolding one_word is_utf8 chars encode_utf8
 other_one_word = refl
 
+tick-other_case : line_request (codes "Tick") ≡ None
+unfolding one_word is_utf8 chars encode_utf8
+tick-other_case = refl
+
 other_option : line_request (codes "rm -R /a") ≡ None
 unfolding three_words is_utf8 chars encode_utf8
 other_option = refl
@@ -277,6 +285,14 @@ write-a_word_less = refl
 scan-a_word_more : line_request (codes "scan 1") ≡ None
 unfolding two_words number_line is_utf8 chars encode_utf8
 scan-a_word_more = refl
+
+tick-a_word_more : line_request (codes "tick 0") ≡ None
+unfolding two_words number_line is_utf8 chars encode_utf8
+tick-a_word_more = refl
+
+tick-two_words_more : line_request (codes "tick 0 1") ≡ None
+unfolding three_words is_utf8 chars encode_utf8
+tick-two_words_more = refl
 
 hold-a_word_less : line_request (codes "hold on") ≡ None
 unfolding two_words is_utf8 chars encode_utf8

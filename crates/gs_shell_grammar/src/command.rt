@@ -53,6 +53,8 @@ pub enum Command<'a> {
     Replicate,
     /// `beat S`: the server reports its replicas.
     Beat(u64),
+    /// `tick`: each node does what it does as time goes on, the master first.
+    Tick,
     /// `rollingUpgrade query`, `prepare`, `finalize` or `rollback`, as the command of Hadoop's `dfsadmin` has them.
     Upgrade(Upgrade),
     /// `prepare-begin`, `prepare-commit`, `rollback-begin` or `rollback-commit`.

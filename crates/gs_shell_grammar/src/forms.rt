@@ -13,6 +13,7 @@ pub(crate) fn of_one<'a>(name: &str) -> Result<Command<'a>, LineError>
     match name {
         "scan" => Ok(Command::Scan),
         "replicate" => Ok(Command::Replicate),
+        "tick" => Ok(Command::Tick),
         "prepare-begin" => Ok(Command::Step(UpgradeStep::PrepareBegin)),
         "prepare-commit" => Ok(Command::Step(UpgradeStep::PrepareCommit)),
         "rollback-begin" => Ok(Command::Step(UpgradeStep::RollbackBegin)),
