@@ -20,7 +20,6 @@ use Rattle.gs_store.specs.contracts.buffer.PushBuffer as PushBuffer
 use Rattle.gs_store.specs.contracts.slot.LiveReplica as LiveReplica
 use Rattle.gs_store.specs.contracts.slot.Slot as Slot
 use Rattle.gs_store.specs.contracts.store.Store as Store
-use Rattle.lru.proofs.Crosses as lru
 use Rattle.gs_cluster_send.proofs.Leases.{table}
 use Rattle.gs_cluster_send.proofs.Messages.{bytes, op}
 use Rattle.gs_cluster_send.proofs.Parts.{done_table, edit_outcome, grant, handle, refusal, req_id, stamp}
@@ -56,7 +55,7 @@ pub slot : IsSend (Slot.the_field).row
 slot = search (sendable, crosses, stamp, live_replica, replica) depth 200 fits 100000
 
 pub push_buffer : IsSend (PushBuffer.the_field).row
-push_buffer = search (sendable, crosses, lru.List-send, lru.Deed-send, lru.KeyRef-send, maps.crosses, req_id) depth 200 fits 100000
+push_buffer = search (sendable, crosses, req_id) depth 200 fits 100000
 
 pub store : IsSend (Store.the_field).row
 store = search (sendable, crosses, sizes, table, handle, slot, push_buffer) depth 200 fits 100000

@@ -1,5 +1,7 @@
-ghost use Rattle.std.specs.Prelude.{◌≡◌, [], Ok, IfOk, option_map, position};
+ghost use Rattle.std.specs.Prelude.{◌≡◌, ◌≤◌, [], Ok, IfOk, option_map, position};
+ghost use Rattle.std.specs.Map.{lookup, remove_entry};
 ghost use Rattle.std.specs.Option.{option_copied};
+ghost use Rattle.std.specs.VecDeque.{deque_capacity, deque_len};
 ghost use Rattle.gs_base.specs.Calls.{FollowsOf};
 ghost use Rattle.gs_store.specs.Buffers.{push, pushed, same_request, without};
 
@@ -19,8 +21,7 @@ pub(crate) struct PushBuffer {
 }
 
 impl Model for PushBuffer {
-    ghost use Rattle.std.specs.Prelude.{◌≡◌, ◌≤◌, length};
-    ghost use Rattle.gs_store.specs.Buffers.{Pushes, coded_pushes, capacity};
+    ghost use Rattle.gs_store.specs.Buffers.{Pushes, coded_pushes};
     ghost use Rattle.gs_store.specs.inner.Cached.{bytes_of};
 
     ghost Value = { Pushes };
@@ -39,13 +40,6 @@ impl PushBuffer {
         })
     }
 
-    /// Where the bytes of a request stand, if there are some.
-    fn place_of(&self, req: ReqId) -> Option<usize>
-        ensures { result ≡ position (λ e. same_request req e.0) self.now }
-    {
-        self.pushes.iter().position(|push| push.0 == req)
-    }
-
     /// Puts bytes under a request, in place of those that it had, as the newest. The oldest goes where there are 65.
     /// Where there is no memory it hands back the bytes.
     pub(crate) fn push(&mut self, req: ReqId, bytes: Vec<u8>) -> Result<(), Refused<Vec<u8>>>
@@ -57,7 +51,7 @@ impl PushBuffer {
                 given: bytes,
             });
         }
-        drop(self.take(req));
+        drop(take_out(&mut self.pushes, req));
         self.pushes.truncate(REQUESTS - 1);
         self.pushes.push_front_reserved((req, bytes));
         Ok(())
@@ -67,7 +61,7 @@ impl PushBuffer {
     pub(crate) fn get(&self, req: ReqId) -> Option<&[u8]>
         ensures { option_copied result ≡ pushed req self.now }
     {
-        let place = self.place_of(req)?;
+        let place = place_of(&self.pushes, req)?;
         match self.pushes.get(place) {
             Some(push) => Some(push.1.as_slice()),
             None => None,
@@ -79,9 +73,7 @@ impl PushBuffer {
         ensures taken { option_map (λ bytes. bytes.items) result ≡ pushed req self.old }
         ensures without { self.new ≡ without req self.old }
     {
-        let place = self.place_of(req)?;
-        let (_, bytes) = self.pushes.remove(place)?;
-        Some(bytes)
+        take_out(&mut self.pushes, req)
     }
 
     /// Drops all bytes. It takes no memory.
@@ -90,4 +82,23 @@ impl PushBuffer {
     {
         self.pushes.clear();
     }
+}
+
+/// Where the bytes of a request stand, if there are some.
+fn place_of(pushes: &VecDeque<(ReqId, Vec<u8>)>, req: ReqId) -> Option<usize>
+    ensures { result ≡ position (λ e. same_request req e.0) pushes.now.items }
+{
+    pushes.iter().position(|push| req == push.0)
+}
+
+/// Takes the bytes of a request out of a list. It takes no memory.
+fn take_out(pushes: &mut VecDeque<(ReqId, Vec<u8>)>, req: ReqId) -> Option<Vec<u8>>
+    ensures taken { result ≡ lookup (same_request req) pushes.old.items }
+    ensures without { pushes.new.items ≡ remove_entry (same_request req) pushes.old.items }
+    ensures len { deque_len pushes.new ≤ deque_len pushes.old }
+    ensures capacity { deque_capacity pushes.new ≡ deque_capacity pushes.old }
+{
+    let place = place_of(pushes, req)?;
+    let (_, bytes) = pushes.remove(place)?;
+    Some(bytes)
 }

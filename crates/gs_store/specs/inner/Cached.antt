@@ -1,4 +1,4 @@
--- Pushed bytes as the cache holds them.
+-- Pushed bytes as the list holds them.
 use Rattle.std.specs.Prelude.{ℕ, List, map, Vec}
 use Rattle.std.specs.declared.alloc.Global.{Global}
 use Rattle.gs_base.specs.declared.numbers.ReqId.{ReqId}
