@@ -131,6 +131,7 @@ asked_by size lines.Replicate = Some (plain trees.replicate_call answers.Copied)
 asked_by size (lines.RollingUpgrade upgrade) = Some (upgrade_line upgrade)
 asked_by size (lines.Step step) = Some (step_line step)
 asked_by size (lines.Beat server) = None
+asked_by size lines.Tick = None
 asked_by size (lines.At moment) = None
 asked_by size (lines.Restart node) = None
 asked_by size (lines.Lose server handle) = None

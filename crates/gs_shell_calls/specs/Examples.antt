@@ -60,3 +60,6 @@ any_refused_path refusal call answer = refl
 
 a_line_about_nodes : asked_by 16 (lines.Beat 1) ≡ None
 a_line_about_nodes = refl
+
+a_tick : asked_by 16 lines.Tick ≡ None
+a_tick = refl

@@ -71,6 +71,7 @@ impl Caller {
             Command::Upgrade(upgrade) => self.upgrade(link, upgrade),
             Command::Step(step) => self.upgrade_step(link, step),
             Command::Beat(_)
+            | Command::Tick
             | Command::At(_)
             | Command::Restart(_)
             | Command::Lose { .. }
