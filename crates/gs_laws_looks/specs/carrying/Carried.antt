@@ -11,6 +11,7 @@ use Rattle.gs_shell_desk.specs.Ways.{Carries, Way}
 use Rattle.gs_world.specs.Histories.{History}
 use Rattle.gs_world.specs.Runs.{RunsTo, Takes}
 use Rattle.gs_world.specs.Sent.{Sent}
+use Rattle.gs_laws_chunks.specs.answers.Changed.{IsAt}
 use Rattle.gs_laws_chunks.specs.answers.Behind.{HasAnswer}
 use Rattle.gs_laws_world.specs.steady.Asking.{MayBeAsked}
 use Rattle.gs_laws_chunks.specs.desks.Reached.{Covers, history}
@@ -25,6 +26,8 @@ module _ {D : Type 0} (seen : D → List ℕ) (failures : D → ℕ) where
     pub takes : RunsTo seen failures unarmed (Takes client ∷ []) mid (history after new)
     pub covers : Covers after new
     pub moment : new.moment ≡ old.moment
+    -- all steps behind the ask are at that moment
+    pub then : AllByRecursion (IsAt old.moment) has.steps
 
   -- ---- what is to hold
 

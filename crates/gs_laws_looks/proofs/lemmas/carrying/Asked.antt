@@ -33,6 +33,7 @@ use Rattle.gs_laws_world.specs.steady.Asking.{MayBeAsked, asks_at}
 use Rattle.gs_laws_chunks.specs.desks.Reached.{Covers, history}
 use Rattle.gs_laws_world.specs.steady.Unarmed.{unarmed}
 use Rattle.gs_laws_world.specs.steady.Saying.{IsStepWithin}
+use Rattle.gs_laws_chunks.specs.answers.Changed.{IsAt}
 
 node_is : {a b : Node} → ◌≡◌ {A = Option Node} (Some a) (Some b) → a ≡ b
 node_is is = cc
@@ -167,6 +168,7 @@ module _ {D : Type 0} (seen : D → List ℕ) (failures : D → ℕ) (sent : Sen
       went = inl (history calm.after a.third, was_asked is_fresh.node is_fresh.there is_fresh.fresh, takes_it a.third calm.after a.heard);
       covers = covers_then a.third calm.after a.heard calm.covers;
       moment = ap (λ (w : Way D). w.moment) a.heard.4 ∙ calm.moment ∙ one.moment;
+      then = (refl, subst (λ m. AllByRecursion (IsAt m) calm.steps) one.moment calm.then);
     }
 
   -- ---- it isn't taken
@@ -190,6 +192,7 @@ module _ {D : Type 0} (seen : D → List ℕ) (failures : D → ℕ) (sent : Sen
       });
       covers = e.covers;
       moment = e.moment;
+      then = tt;
     })
 
   by_asked : (asked : Result (Vec Message Global) Refusal) (nodes_there : Nodes D) → Asks_at asked nodes_there → AnswersAsked seen failures req.client asked (with_nodes nodes_there old) reply new → IsAnswered seen failures req.client old sent request reply new
