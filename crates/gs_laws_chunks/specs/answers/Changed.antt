@@ -20,7 +20,7 @@ use Rattle.gs_master_spec.specs.Durable.{Durable}
 use Rattle.gs_master_spec.specs.Handling.{new_call}
 use Rattle.gs_master_spec.specs.State.{State, is_kept}
 use Rattle.gs_laws_moves.specs.answers.AtOnce.{OneSays}
-use Rattle.gs_laws_moves.specs.answers.Changes.{Changes, edit_for, hidden_after, is_change, names_after}
+use Rattle.gs_laws_moves.specs.answers.Changes.{Changes, edit_for, number_after, is_change, names_after}
 use Rattle.gs_laws_moves.specs.answers.Resting.{is_look}
 use Rattle.gs_nodes.specs.Happenings.{client_in}
 use Rattle.gs_nodes.specs.declared.place.MasterPlace.{MasterPlace}
@@ -60,7 +60,7 @@ pub record IsSo {D : Type 0} (So : ReqId → Call → Type 0) (Such : State → 
 -- The names are those that a call makes of others at a moment, and so is the number of the next deletion. The phase and the epoch are what they were.
 pub record IsEdited (moment : Moment) (call : Call) (d e : Durable) : Type 0 where
   pub names : names_after (edit_for d moment call) d.names ≡ Ok e.names
-  pub hidden : e.next_hidden ≡ hidden_after (edit_for d moment call) d.next_hidden
+  pub hidden : e.next_hidden ≡ number_after (edit_for d moment call) d.next_hidden
   pub phase : e.phase ≡ d.phase
   pub epoch : e.epoch ≡ d.epoch
 

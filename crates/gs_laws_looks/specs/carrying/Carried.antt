@@ -1,4 +1,5 @@
 -- What a desk carries for a client is a call with its answer.
+use Rattle.std.specs.List.{AllByRecursion}
 use Rattle.std.specs.Prelude.{[], ◌∷◌, ◌≡◌, List, ℕ}
 use Rattle.gs_base.specs.Told.{IsNumber}
 use Rattle.gs_base.specs.declared.numbers.ClientId.{ClientId}

@@ -42,14 +42,14 @@ names_after None names = Ok names
 names_after (Some edit) names = edited_names edit names
 
 -- the number of the next deletion after it
-abbrev pub hidden_after : Option PlainEdit → ℕ → ℕ
-hidden_after None number = number
-hidden_after (Some edit) number = after_if number (number_of_edit edit)
+abbrev pub number_after : Option PlainEdit → ℕ → ℕ
+number_after None number = number
+number_after (Some edit) number = after_if number (number_of_edit edit)
 
 -- The names are those of the edit, if there is one, and so is the number of the next deletion. The phase and the epoch are what they were, and its client has had its reply.
 pub record Changes (s : State) (req : ReqId) (edit : Option PlainEdit) (t : Turn) : Type 0 where
   pub names : names_after edit s.durable.names ≡ Ok t.after.durable.names
-  pub hidden : t.after.durable.next_hidden ≡ hidden_after edit s.durable.next_hidden
+  pub hidden : t.after.durable.next_hidden ≡ number_after edit s.durable.next_hidden
   pub phase : t.after.durable.phase ≡ s.durable.phase
   pub epoch : t.after.durable.epoch ≡ s.durable.epoch
   pub had : HasHad t.after req.client req.number
@@ -81,8 +81,8 @@ a_list_is_no_change : is_change (calls.List []) ≡ false
 a_list_is_no_change = refl
 
 -- a deletion takes a number, and a new directory takes none
-it_takes_a_number : hidden_after (Some (Hide (codes "a" ∷ []) 9 4)) 4 ≡ 5
+it_takes_a_number : number_after (Some (Hide (codes "a" ∷ []) 9 4)) 4 ≡ 5
 it_takes_a_number = refl
 
-it_takes_none : hidden_after (Some (Mkdirs (codes "a" ∷ []))) 4 ≡ 4
+it_takes_none : number_after (Some (Mkdirs (codes "a" ∷ []))) 4 ≡ 4
 it_takes_none = refl

@@ -40,7 +40,7 @@ use Rattle.gs_laws_master.proofs.lemmas.refusals.Refusing.{refused_leaves}
 use Rattle.gs_laws_master.proofs.lemmas.standing.StandingRuns.{events_fit}
 use Rattle.gs_laws_master.specs.Standing.{Comes as Comes_to, IsFirm, IsNamedBody, IsNamedCall}
 use Rattle.gs_laws_moves.specs.answers.AtOnce.{AnswersAlone, OneSays}
-use Rattle.gs_laws_moves.specs.answers.Changes.{Changes, edit_for, is_change, hidden_after, names_after}
+use Rattle.gs_laws_moves.specs.answers.Changes.{Changes, edit_for, is_change, number_after, names_after}
 use Rattle.gs_laws_moves.proofs.lemmas.answers.Changes.{changes_are_made, changes_at_once, refused_changes_leave}
 use Rattle.gs_laws_moves.specs.answers.Concerned.{AnswersOnly, IsConcerned}
 use Rattle.gs_laws_moves.specs.answers.Resting.{HasHad, IsFrom, LeavesNames}
@@ -176,10 +176,10 @@ module _ (d : Durable) (client : ClientId) (number : ℕ) (req : ReqId) (call : 
 
   -- what is made of the names that stood is made of the old ones
   pub edited_then : (before : Durable) → before.names ≡ d.names → before.next_hidden ≡ d.next_hidden → before.phase ≡ d.phase → before.epoch ≡ d.epoch → (moment : Moment) (e : Durable) → names_after (edit_for before moment call) before.names ≡ Ok e.names
-      → e.next_hidden ≡ hidden_after (edit_for before moment call) before.next_hidden → e.phase ≡ before.phase → e.epoch ≡ before.epoch → IsEdited moment call d e
+      → e.next_hidden ≡ number_after (edit_for before moment call) before.next_hidden → e.phase ≡ before.phase → e.epoch ≡ before.epoch → IsEdited moment call d e
   edited_then before names hidden phase epoch moment e made numbered same_phase same_epoch = (let same = same_edit d before names hidden moment call in record {
     names = sym (λ i. names_after (same i) (names i)) ∙ made;
-    hidden = numbered ∙ (λ i. hidden_after (same i) (hidden i));
+    hidden = numbered ∙ (λ i. number_after (same i) (hidden i));
     phase = same_phase ∙ phase;
     epoch = same_epoch ∙ epoch;
   })

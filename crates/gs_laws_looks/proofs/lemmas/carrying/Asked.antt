@@ -1,4 +1,5 @@
 -- What a desk carries for a client is a request with its reply.
+use Rattle.std.specs.List.{AllByRecursion}
 use Rattle.std.proofs.Common.{if◌then◌else◌, ◌≡◌, ◌∙◌, inl, inr, ◌-◌, ◌<◌, ℕ, Bool, true, false, List, [], ◌∷◌, Option, Some, None, MatchOption, Result, Ok, Err, Vec, refl, sym, ap, subst, arith, nat_le, slice_set}
 use Rattle.std.specs.Prelude.{◌==◌, length, slice_get, unwrap_or}
 use Rattle.std.specs.declared.alloc.Global.{Global}
