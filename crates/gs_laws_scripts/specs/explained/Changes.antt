@@ -110,11 +110,11 @@ what_is_not_there_is_sure : IsSure (codes "refused 3 NotFound")
 unfolding digits
 what_is_not_there_is_sure = record { new = λ is. absurd (cc); sure = λ is. absurd (cc); told = λ is. absurd (cc) }
 
-a_hidden_path_is_sure : IsSure (codes "ok /e%7E0%7E1")
+a_hidden_path_is_sure : IsSure (codes "ok /.deleted.00000000000000000000.00000000000000000001.e")
 unfolding digits
 a_hidden_path_is_sure = record { new = λ is. absurd (cc); sure = λ is. absurd (cc); told = λ is. absurd (cc) }
 
-what_is_missing_is_sure : IsSure (codes "ok missing")
+what_is_missing_is_sure : IsSure (codes "ok false")
 unfolding digits
 what_is_missing_is_sure = record { new = λ is. absurd (cc); sure = λ is. absurd (cc); told = λ is. absurd (cc) }
 
@@ -126,7 +126,7 @@ abbrev some_lines : List (List ℕ)
 some_lines = codes "mkdir /d" ∷ codes "mkdir /d" ∷ codes "ls /" ∷ codes "mv /d /e" ∷ codes "mv /d /f" ∷ codes "rm /e" ∷ codes "rm -r /e" ∷ codes "stat f" ∷ []
 
 abbrev some_texts : List (List ℕ)
-some_texts = codes "ok" ∷ codes "refused 4 Exists" ∷ codes "ok d/" ∷ codes "ok" ∷ codes "refused 3 NotFound" ∷ codes "ok /e%7E0%7E1" ∷ codes "ok missing" ∷ codes "refused 1 BadPath" ∷ []
+some_texts = codes "ok" ∷ codes "refused 4 Exists" ∷ codes "ok d/" ∷ codes "ok" ∷ codes "refused 3 NotFound" ∷ codes "ok /.deleted.00000000000000000000.00000000000000000001.e" ∷ codes "ok false" ∷ codes "refused 1 BadPath" ∷ []
 
 some_lines_are_such : AreCalmLines some_lines some_texts
 unfolding one_word two_words three_words is_utf8 chars encode_utf8
