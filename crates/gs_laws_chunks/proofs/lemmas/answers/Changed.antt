@@ -1,6 +1,5 @@
 -- A change of the tree that is under way, and what stands once its client has a reply.
 use Rattle.std.proofs.Common.{◌≡◌, ◌∙◌, inl, inr, ◌<◌, ◌≤◌, ◌++◌, ℕ, Bool, true, false, List, [], ◌∷◌, Option, Some, Result, Ok, Err, refl, sym, ap, subst, arith}
-use Rattle.std.specs.Prelude.{is_some}
 use Rattle.std.specs.List.{AllByRecursion}
 use Rattle.std.proofs.lemmas.Bool.{false≢true}
 use Rattle.gs_base.specs.Told.{IsNumber}
@@ -10,7 +9,6 @@ use Rattle.gs_base.specs.declared.numbers.ReqId.{ReqId}
 use Rattle.gs_base.specs.declared.refusal.Refusal.{Refusal}
 use Rattle.gs_base.specs.declared.refusal.Refusal.TheVariants as refusals
 use Rattle.gs_client.specs.Nodes.{Node, request_of}
-use Rattle.gs_edit.specs.View.{NamesView}
 use Rattle.gs_master.specs.Masters.{MasterOf}
 use Rattle.gs_master.specs.Ticking.{lacking, pressed_all}
 use Rattle.gs_msg.specs.declared.answer.Answer.{Answer}
@@ -26,11 +24,9 @@ use Rattle.gs_msg.specs.declared.message.Message.{Message}
 use Rattle.gs_msg.specs.declared.message.MsgId.{MsgId}
 use Rattle.gs_msg.specs.declared.node.NodeId.{NodeId}
 use Rattle.gs_msg.specs.declared.node.NodeId.TheVariants as nodes
-use Rattle.gs_master_record.specs.Plain.{PlainEdit}
 use Rattle.gs_master_spec.specs.Durable.{Durable}
 use Rattle.gs_master_spec.specs.Handling.{handle, new_call, tick}
 use Rattle.gs_master_spec.specs.State.{State, Turn, is_failed, is_kept}
-use Rattle.gs_master_spec.specs.Undoing.{edited_names}
 use Rattle.gs_master_spec.specs.Volatile.{is_pending}
 use Rattle.gs_laws_master.specs.Standing.{Comes as HearsAt, IsFirm, IsNamedBody, IsNamedCall}
 use Rattle.gs_laws_master.specs.Written.{IsSteady}
