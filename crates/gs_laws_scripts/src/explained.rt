@@ -48,7 +48,7 @@ pub fn scripts_of_the_tree_are_explained<D>()
     ensures write_fails { (seen : D → List ℕ) (failures : D → ℕ) (config : Config) (disks : D × D) → AreExplainedUntilAWriteFails seen failures config disks }
 {}
 
-/// While nothing is asked that changes something the machine explains what a desk answers, and it stands for the machine after each line: to `ls`, `rollingUpgrade query`, `at`, `hold`, `beat`, `lose`, `damage`, `deliver`, `restart` of a server, to lines that are none, and to `stat` where it is answered `ok dir`, or `ok file 0` as a file without chunks is.
+/// While nothing is asked that changes something the machine explains what a desk answers, and it stands for the machine after each line: to `ls`, `rollingUpgrade query`, `at`, `hold`, `beat`, `tick`, `lose`, `damage`, `deliver`, `restart` of a server, to lines that are none, and to `stat` where it is answered `ok dir`, or `ok file 0` as a file without chunks is.
 /// The store may have any files with any bytes, led chunks, held messages, lost and damaged replicas, and disks that fail. A list and a query are what the machine tells, refusals too; or the store refuses them, or nobody is sure (29).
 fn still_lines_are_explained<D>()
     ensures { StillLinesAreExplained D }
@@ -62,7 +62,7 @@ fn a_desk_stands_after_a_commit<D>()
     configurations_have_sizes();
 }
 
-/// Right after a prepare or a rollback that is answered by an epoch, one machine explains what a script is answered: as long as its lines are `ls`, `rollingUpgrade query`, `at`, `hold`, `beat`, `lose`, `damage`, `deliver` and `restart` of a server, `stat` that is answered `ok dir` or `ok file 0`, or bad. Lists and queries may be refused.
+/// Right after a prepare or a rollback that is answered by an epoch, one machine explains what a script is answered: as long as its lines are `ls`, `rollingUpgrade query`, `at`, `hold`, `beat`, `tick`, `lose`, `damage`, `deliver` and `restart` of a server, `stat` that is answered `ok dir` or `ok file 0`, or bad. Lists and queries may be refused.
 /// The machine is in that epoch, with an upgrade after a prepare and without one after a rollback. So all queries of these lines tell that, and all lists are of the same names. Whatever lines come before, with held messages, lost and damaged replicas, and disks that fail: of what they left nothing is known but the names.
 pub fn lines_after_a_commit_are_explained<D>()
     ensures ended { ScriptsAfterACommit D }

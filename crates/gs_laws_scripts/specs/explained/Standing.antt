@@ -100,6 +100,7 @@ is_still_line (Some (lines.RollingUpgrade upgrades.Query)) = true
 is_still_line (Some (lines.At moment)) = true
 is_still_line (Some (lines.Hold kind)) = true
 is_still_line (Some (lines.Beat server)) = true
+is_still_line (Some lines.Tick) = true
 is_still_line (Some (lines.Restart (restarted.Server number))) = true
 is_still_line (Some (lines.Lose server handle)) = true
 is_still_line (Some (lines.Damage server handle block)) = true
@@ -147,14 +148,14 @@ a_change_is_none = refl
 
 -- lines that are such, with their answers
 abbrev some_lines : List (List ℕ)
-some_lines = codes "ls /" ∷ codes "stat /photos" ∷ codes "stat /notes" ∷ codes "rollingUpgrade query" ∷ codes "lose 1 2" ∷ codes "at 7" ∷ codes "beat 1" ∷ codes "ls /x" ∷ codes "frob" ∷ []
+some_lines = codes "ls /" ∷ codes "stat /photos" ∷ codes "stat /notes" ∷ codes "rollingUpgrade query" ∷ codes "lose 1 2" ∷ codes "at 7" ∷ codes "beat 1" ∷ codes "tick" ∷ codes "ls /x" ∷ codes "frob" ∷ []
 
 abbrev some_texts : List (List ℕ)
-some_texts = codes "ok notes photos/" ∷ codes "ok dir" ∷ codes "ok file 0" ∷ codes "ok upgrade 1" ∷ codes "ok" ∷ codes "ok" ∷ codes "ok 0" ∷ codes "refused 3 NotFound" ∷ codes "refused 34 BadLine" ∷ []
+some_texts = codes "ok notes photos/" ∷ codes "ok dir" ∷ codes "ok file 0" ∷ codes "ok upgrade 1" ∷ codes "ok" ∷ codes "ok" ∷ codes "ok 0" ∷ codes "ok" ∷ codes "refused 3 NotFound" ∷ codes "refused 34 BadLine" ∷ []
 
 they_are_such : AreStillLines some_lines some_texts
 unfolding one_word two_words three_words upgrade_line number_line lose_line is_utf8 chars encode_utf8 digits
 they_are_such = (
   (refl, (λ stat. absurd (cc))),
-  ((refl, (λ stat. inl refl)), ((refl, (λ stat. inr refl)), ((refl, (λ stat. absurd (cc))), ((refl, (λ stat. absurd (cc))), ((refl, (λ stat. absurd (cc))), ((refl, (λ stat. absurd (cc))), ((refl, (λ stat. absurd (cc))), ((refl, (λ stat. absurd (cc))), tt)))))))),
+  ((refl, (λ stat. inl refl)), ((refl, (λ stat. inr refl)), ((refl, (λ stat. absurd (cc))), ((refl, (λ stat. absurd (cc))), ((refl, (λ stat. absurd (cc))), ((refl, (λ stat. absurd (cc))), ((refl, (λ stat. absurd (cc))), ((refl, (λ stat. absurd (cc))), ((refl, (λ stat. absurd (cc))), tt))))))))),
 )

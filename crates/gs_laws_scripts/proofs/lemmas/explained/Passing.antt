@@ -20,7 +20,7 @@ use Rattle.gs_server.specs.Servers as servers
 use Rattle.gs_server.specs.Servers.{Server}
 use Rattle.gs_shell_calls.specs.declared.answer.Answer.{Answer}
 use Rattle.gs_shell_desk.specs.Lines.{AtOne, Beats, BeatsOf, Damages, Either, HandsOver, Loses, NodesDo, OfHandle, Restarts, held_at, is_server}
-use Rattle.gs_shell_desk.specs.Ways.{DeliversWhole, IsDelivered, Sends, Way, shortened, with_nodes}
+use Rattle.gs_shell_desk.specs.Ways.{DeliversWhole, IsDelivered, Sends, TicksWhole, Way, shortened, with_nodes}
 use Rattle.gs_shell_grammar.specs.Grammar.{Request}
 use Rattle.gs_shell_grammar.specs.Grammar as lines
 use Rattle.gs_shell_grammar.specs.declared.command.Restarted.TheVariants as restarted
@@ -33,7 +33,7 @@ use Rattle.gs_laws_chunks.proofs.lemmas.desks.Ways.{joined}
 use Rattle.gs_laws_chunks.proofs.lemmas.desks.Words.{IsSpoken}
 use Rattle.gs_laws_chunks.specs.answers.Resting.{IsLooking}
 use Rattle.gs_laws_chunks.specs.desks.Reached.{Covers, history}
-use Rattle.gs_laws_looks.proofs.lemmas.carrying.Carried.{Calm, OneEvent, delivers_whole, one_event}
+use Rattle.gs_laws_looks.proofs.lemmas.carrying.Carried.{Calm, OneEvent, delivers_whole, one_event, waited_if}
 use Rattle.gs_laws_scripts.proofs.lemmas.lists.Lines.{all_join}
 use Rattle.gs_laws_scripts.specs.explained.Standing.{is_still_line}
 use Rattle.gs_laws_world.specs.steady.Saying.{IsAskedWithin, IsStepWithin}
@@ -116,6 +116,9 @@ module _ {D : Type 0} (seen : D → List ℕ) (failures : D → ℕ) (client : C
 
   delivers_on : (old new : Way D) → DeliversWhole seen failures old new → Leads old new
   delivers_on old new d sent covers small = calm_on old new sent (delivers_whole seen failures client old new d sent covers small)
+
+  ticks_on : (old new : Way D) → TicksWhole seen failures old new → Leads old new
+  ticks_on old new ticks sent covers small = calm_on old new sent (waited_if seen failures client true old new ticks sent covers small)
 
   delivers_one : (message : Message) (old : Way D) (said : Result (Unit {0}) Refusal) (new : Way D) (sent : Sent) → IsDelivered seen failures message old said new → IsSent message sent → Covers sent old → IsNumber old.moment.0 → LooksOn old.moment old new sent
   delivers_one message old said new sent d (id, is) covers small =
@@ -213,6 +216,7 @@ module _ {D : Type 0} (seen : D → List ℕ) (failures : D → ℕ) (client : C
   pub nodes_do : (request : Request) (old : Way D) (result : Result Answer Refusal) (new : Way D) → is_still_line (Some request) ≡ true → IsSpoken request → NodesDo seen failures request old result new → LeadsBy request old new
   nodes_do (lines.Beat id) old result new is spoken (drops, b, so) =
       for_server (is_server id old) old new drops (BeatsOf seen failures id old drops new) (λ did. beats_of id (slice_get old.nodes.servers id) old drops new refl did) b
+  nodes_do lines.Tick old result new is spoken (so, ticks) = ticks_on old new ticks
   nodes_do (lines.At moment) old result new is spoken (so, same) = sets_moment moment old new same
   nodes_do (lines.Hold kind) old result new is spoken (so, same) = alike old new (alike_to old (record old { kind = kind }) new (record { nodes = refl; moment = refl; queue = refl; held = refl; short = λ short. short }) same)
   nodes_do (lines.Restart (restarted.Server id)) old result new is spoken (said, r, so) = restarts id old said new r

@@ -401,6 +401,7 @@ module _ {D : Type 0} (seen : D → List ℕ) (failures : D → ℕ) where
     request_goes (lines.At moment) answer text is spoken stat comes text_is = node_line (lines.At moment) answer text (record m { moment = moment }) is spoken text_is (m, ([], refl), is_set moment answer comes, refl) (shows_then moment) spoken refl comes
     request_goes (lines.Hold kind) answer text is spoken stat comes text_is = node_line (lines.Hold kind) answer text m is spoken text_is ([], refl) st.shows st.moment st.now comes
     request_goes (lines.Beat server) answer text is spoken stat comes text_is = node_line (lines.Beat server) answer text m is spoken text_is ([], refl) st.shows st.moment st.now comes
+    request_goes lines.Tick answer text is spoken stat comes text_is = node_line lines.Tick answer text m is spoken text_is ([], refl) st.shows st.moment st.now comes
     request_goes (lines.Restart (restarted.Server number)) answer text is spoken stat comes text_is = node_line (lines.Restart (restarted.Server number)) answer text m is spoken text_is ([], refl) st.shows st.moment st.now comes
     request_goes (lines.Restart restarted.Master) answer text is spoken stat comes text_is = absurd (false≢true is)
     request_goes (lines.Lose server handle) answer text is spoken stat comes text_is = node_line (lines.Lose server handle) answer text m is spoken text_is ([], refl) st.shows st.moment st.now comes
