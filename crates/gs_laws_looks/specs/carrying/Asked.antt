@@ -1,4 +1,5 @@
 -- What a desk carries for a client, whatever it asks: a call that waits and an edit too.
+use Rattle.std.proofs.Common.{inl, inr}
 use Rattle.std.specs.Prelude.{[], ◌<◌, ◌∷◌, ◌≡◌, ◌⊎◌, Err, List, Ok, Some, refl, unwrap_or, ℕ}
 use Rattle.std.specs.List.{AllByRecursion}
 use Rattle.gs_base.specs.Told.{IsNumber}
@@ -83,7 +84,7 @@ module _ {D : Type 0} (seen : D → List ℕ) (failures : D → ℕ) where
     pub went : WasAskedAndTaken client (history sent old) request reply (history after new) ⊎ WasRefused client (history sent old) request reply (history after new)
     pub covers : Covers after new
     pub moment : new.moment ≡ old.moment
-    pub then : IsAsOf old.moment client (history sent old) request reply (history after new) went
+    pub moments : IsAsOf old.moment client (history sent old) request reply (history after new) went
 
   -- ---- what is to hold
 

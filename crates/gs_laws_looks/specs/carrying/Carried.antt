@@ -28,7 +28,7 @@ module _ {D : Type 0} (seen : D → List ℕ) (failures : D → ℕ) where
     pub covers : Covers after new
     pub moment : new.moment ≡ old.moment
     -- all steps behind the ask are at that moment
-    pub then : AllByRecursion (IsAt old.moment) has.steps
+    pub moments : AllByRecursion (IsAt old.moment) has.steps
 
   -- ---- what is to hold
 

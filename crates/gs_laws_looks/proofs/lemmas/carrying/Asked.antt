@@ -142,6 +142,11 @@ module _ {D : Type 0} (seen : D → List ℕ) (failures : D → ℕ) (sent : Sen
             has = a.heard.3 ∙ ap (λ o. unwrap_or o replies.Lost) it.has;
           }
 
+      -- all at one moment
+      asked_then : (was_asked.moment ≡ old.moment) × AllByRecursion (IsAt old.moment) was_asked.behind.steps
+      unfolding was_asked
+      asked_then = (refl, subst (λ m. AllByRecursion (IsAt m) calm.steps) one.moment calm.moments)
+
     -- the client was there, and the number fresh
     record IsFresh : Type 0 where
       node : Node
@@ -169,7 +174,7 @@ module _ {D : Type 0} (seen : D → List ℕ) (failures : D → ℕ) (sent : Sen
       went = inl (history calm.after a.third, was_asked is_fresh.node is_fresh.there is_fresh.fresh, takes_it a.third calm.after a.heard);
       covers = covers_then a.third calm.after a.heard calm.covers;
       moment = ap (λ (w : Way D). w.moment) a.heard.4 ∙ calm.moment ∙ one.moment;
-      then = (refl, subst (λ m. AllByRecursion (IsAt m) calm.steps) one.moment calm.then);
+      moments = asked_then is_fresh.node is_fresh.there is_fresh.fresh;
     }
 
   -- ---- it isn't taken
@@ -193,7 +198,7 @@ module _ {D : Type 0} (seen : D → List ℕ) (failures : D → ℕ) (sent : Sen
       });
       covers = e.covers;
       moment = e.moment;
-      then = tt;
+      moments = tt;
     })
 
   by_asked : (asked : Result (Vec Message Global) Refusal) (nodes_there : Nodes D) → Asks_at asked nodes_there → AnswersAsked seen failures req.client asked (with_nodes nodes_there old) reply new → IsAnswered seen failures req.client old sent request reply new

@@ -98,7 +98,7 @@ module _ {D : Type 0} (seen : D → List ℕ) (failures : D → ℕ) (config : C
     is_told : IsChangeTold e call m (Ok said)
     is_told =
         changes_are_told changed_so.turn.config changed_so.turn.state done.has.req changed_so.turn.moment m call (Ok said) (shows_then seen failures config old new m st changed_so.turn.state changed_so.turn.stood)
-        (st.now ∙ ap (λ (moment : Moment). moment.0) (sym (changed_so.turn.since old.wire.moment done.then))) is changed_so.turn.says (λ other same. changed_so.changes)
+        (st.now ∙ ap (λ (moment : Moment). moment.0) (sym (changed_so.turn.since old.wire.moment done.moments))) is changed_so.turn.says (λ other same. changed_so.changes)
 
     shows : ShowsNames e (overtaken call (Ok said, is_told.0))
     shows = subst (ShowsNames e) (sym (overtaken_is call is (Ok said, is_told.0))) (overtaking_shows e call said is_told.0 is_told.2)

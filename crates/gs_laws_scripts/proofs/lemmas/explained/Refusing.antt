@@ -256,10 +256,10 @@ module _ {D : Type 0} (seen : D → List ℕ) (failures : D → ℕ) (config : C
 
       by_went : (w : WasAskedAndTaken seen failures the_client before (requests.Call call) (replies.Refused refusal) (history a.after (way_of new.wire)) ⊎ WasRefused seen failures the_client before (requests.Call call) (replies.Refused refusal) (history a.after (way_of new.wire)))
           → IsAsOf seen failures old.wire.moment the_client before (requests.Call call) (replies.Refused refusal) (history a.after (way_of new.wire)) w → Explained
-      by_went (inr r) then = not_asked r
-      by_went (inl (mid, w, takes)) then = elim (has_found seen failures w.last.reply (replies.Refused refusal) w.has) [
+      by_went (inr r) timed = not_asked r
+      by_went (inl (mid, w, takes)) timed = elim (has_found seen failures w.last.reply (replies.Refused refusal) w.has) [
         | inl lost ↦ absurd (no_reply lost)
-        | inr has ↦ had_turn mid w then.1 takes has
+        | inr has ↦ had_turn mid w timed.1 takes has
       ]
         where
           no_reply : replies.Refused refusal ≡ replies.Lost → ⊥
@@ -268,7 +268,7 @@ module _ {D : Type 0} (seen : D → List ℕ) (failures : D → ℕ) (config : C
     refused_so : Explained
     refused_so = elim (went (replies.Refused refusal) carried) [
       | inl (other, same, store, still) ↦ not_numbered (subst IsOfStore (refusal_is same) store) still
-      | inr a ↦ by_went a a.went a.then
+      | inr a ↦ by_went a a.went a.moments
     ]
 
   -- ---- as it is told
