@@ -1,6 +1,6 @@
 -- What the master answers to a change of the tree that is new to it, and what it leaves, where a machine shows what it stands on: refusals too. And how lines are explained that ask for such changes.
 use Rattle.std.specs.Prelude.{[], ◌∷◌, ◌≡◌, ◌⊎◌, ◌||◌, Bool, Err, List, Ok, Option, Result, Some, codes, false, is_ok, not, refl, true, ℕ}
-use Rattle.std.proofs.Common.{inl, inr}
+use Rattle.std.proofs.Common.{ap, arith, inl, inr}
 use Rattle.std.specs.Char.{encode_utf8}
 use Rattle.std.specs.Fmt.{digits}
 use Rattle.std.specs.Str.{chars, is_utf8}
@@ -110,13 +110,23 @@ what_is_not_there_is_sure : IsSure (codes "refused 3 NotFound")
 unfolding digits
 what_is_not_there_is_sure = record { new = λ is. absurd (cc); sure = λ is. absurd (cc); told = λ is. absurd (cc) }
 
-a_hidden_path_is_sure : IsSure (codes "ok /.deleted.00000000000000000000.00000000000000000001.e")
+-- of texts that are accepted
+abbrev first_letter : List ℕ → ℕ
+first_letter [] = 0
+first_letter (letter ∷ letters) = letter
+
+an_accepted_one_is_sure : (rest : List ℕ) → IsSure (111 ∷ rest)
 unfolding digits
-a_hidden_path_is_sure = record { new = λ is. absurd (cc); sure = λ is. absurd (cc); told = λ is. absurd (cc) }
+an_accepted_one_is_sure rest = record { new = λ is. another (ap first_letter is); sure = λ is. another (ap first_letter is); told = λ is. another (ap first_letter is) }
+  where
+    another : ◌≡◌ {A = ℕ} 111 114 → ⊥
+    another is = omega (arith, is)
+
+a_hidden_path_is_sure : IsSure (codes "ok /.deleted.00000000000000000000.00000000000000000001.e")
+a_hidden_path_is_sure = an_accepted_one_is_sure _
 
 what_is_missing_is_sure : IsSure (codes "ok false")
-unfolding digits
-what_is_missing_is_sure = record { new = λ is. absurd (cc); sure = λ is. absurd (cc); told = λ is. absurd (cc) }
+what_is_missing_is_sure = an_accepted_one_is_sure _
 
 nobody_is_sure : IsSure (codes "refused 29 Unsure") → ⊥
 unfolding digits

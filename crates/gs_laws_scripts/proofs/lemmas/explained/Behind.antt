@@ -1,5 +1,5 @@
 -- What stands behind a change of the tree that a client has asked and taken the reply to, where the names stand there.
-use Rattle.std.proofs.Common.{[], ap, refl, sym, ◌∷◌, ◌∙◌, ◌≡◌, List, Ok, Some, false, ℕ}
+use Rattle.std.proofs.Common.{[], ap, refl, subst, sym, ◌∷◌, ◌∙◌, ◌≡◌, List, Ok, false, true, ℕ}
 use Rattle.std.specs.FinMap as fin
 use Rattle.std.specs.List.{AllByRecursion}
 use Rattle.gs_base.specs.Told.{IsNumber}

@@ -1,5 +1,5 @@
 -- A change of the tree that a desk carries and that is over is explained, and the desk stands for the machine to which it leads.
-use Rattle.std.proofs.Common.{[], ap, refl, subst, sym, ◌≡◌, Bool, List, Ok, Result, Some, false, if◌then◌else◌, true, ℕ}
+use Rattle.std.proofs.Common.{[], ap, refl, subst, sym, ◌∙◌, ◌≡◌, Bool, List, Ok, Result, false, if◌then◌else◌, true, ℕ}
 use Rattle.std.proofs.lemmas.Bool.{false≢true}
 use Rattle.gs_base.specs.Told.{IsNumber}
 use Rattle.gs_base.specs.declared.config.Config.{Config}

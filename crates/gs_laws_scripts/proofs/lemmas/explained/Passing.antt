@@ -1,5 +1,5 @@
 -- Lines about servers and messages, and look-ups, are steps at which nothing is asked of the master but look-ups.
-use Rattle.std.proofs.Common.{[], inl, inr, refl, subst, sym, ap, ◌++◌, ◌-◌, ◌==◌, ◌∷◌, ◌≡◌, ◌⊎◌, Bool, Err, List, MatchOption, None, Ok, Option, Result, Some, false, slice_get, true, ℕ}
+use Rattle.std.proofs.Common.{[], inl, inr, refl, subst, sym, ap, ◌++◌, ◌-◌, ◌==◌, ◌∷◌, ◌∙◌, ◌≡◌, ◌⊎◌, Bool, Err, List, MatchOption, None, Ok, Option, Result, Some, false, slice_get, true, ℕ}
 use Rattle.std.specs.List.{AllByRecursion}
 use Rattle.std.proofs.lemmas.Bool.{false≢true}
 use Rattle.gs_base.specs.Calls.{Does}
