@@ -396,22 +396,22 @@ module _ (config : Config) (s : State) (req : ReqId) (moment : Moment) (m : Mach
       let after = ap (λ (rs : Rows Text). mkdirs_rows rs p) shows.tree ∙ mkdirs_rows-map shows.text rows p in
       let plainly = answered says.Nothing (mkdirs_rows (mapped_rows bytes m.plain.tree) p) in
       told call plainly refl refl (gate_of call) (λ calm deep hidden said. by_names call plainly refl refl (gate_of call) (Mkdirs p) (Mkdirs p) says.Nothing made (plain_so says.Nothing made (mkdirs_rows m.plain.tree p) (mkdirs_rows (mapped_rows bytes m.plain.tree) p) (mkdirs_rows-map bytes m.plain.tree p) after)
-          (changes says.Nothing) after refl (λ rs e. sorted_of (mkdirs (at rows) p) made rs (mkdirs-tables rows p) e) shows.hidden calm deep hidden (edited_names (Mkdirs p) s.durable.names) refl said) said
+      (changes says.Nothing) after refl (λ rs e. sorted_of (mkdirs (at rows) p) made rs (mkdirs-tables rows p) e) shows.hidden calm deep hidden (edited_names (Mkdirs p) s.durable.names) refl said) said
   by_call (calls.Create p) is said changes =
       let call = calls.Create p in
       let made = create_rows rows p in
       let after = ap (λ (rs : Rows Text). create_rows rs p) shows.tree ∙ create_rows-map shows.text rows p in
       let plainly = answered says.Nothing (create_rows (mapped_rows bytes m.plain.tree) p) in
       told call plainly refl refl (gate_of call) (λ calm deep hidden said. by_names call plainly refl refl (gate_of call) (Create p) (Create p) says.Nothing made (plain_so says.Nothing made (create_rows m.plain.tree p) (create_rows (mapped_rows bytes m.plain.tree) p) (create_rows-map bytes m.plain.tree p) after)
-          (changes says.Nothing) after refl (λ rs e. sorted_of (create (at rows) p) made rs (create-tables rows p) e) shows.hidden calm deep hidden (edited_names (Create p) s.durable.names) refl said) said
+      (changes says.Nothing) after refl (λ rs e. sorted_of (create (at rows) p) made rs (create-tables rows p) e) shows.hidden calm deep hidden (edited_names (Create p) s.durable.names) refl said) said
   by_call (calls.Rename from to) is said changes =
       let call = calls.Rename from to in
       let made = rename_rows rows from to in
       let after = ap (λ (rs : Rows Text). rename_rows rs from to) shows.tree ∙ rename_rows-map shows.text rows from to in
       let plainly = answered says.Nothing (rename_rows (mapped_rows bytes m.plain.tree) from to) in
       told call plainly refl refl (gate_of call) (λ calm deep hidden said. by_names call plainly refl refl (gate_of call) (Rename from to) (Rename from (target_of (fin.get s.durable.names.tree) from to)) says.Nothing made
-          (plain_so says.Nothing made (rename_rows m.plain.tree from to) (rename_rows (mapped_rows bytes m.plain.tree) from to) (rename_rows-map bytes m.plain.tree from to) after)
-          (changes says.Nothing) after refl (λ rs e. sorted_of (rename (is_too_deep rows from) (at rows) from to) made rs (rename-tables rows from to) e) shows.hidden calm deep hidden (edited_names (Rename from to) s.durable.names) refl said) said
+      (plain_so says.Nothing made (rename_rows m.plain.tree from to) (rename_rows (mapped_rows bytes m.plain.tree) from to) (rename_rows-map bytes m.plain.tree from to) after)
+      (changes says.Nothing) after refl (λ rs e. sorted_of (rename (is_too_deep rows from) (at rows) from to) made rs (rename-tables rows from to) e) shows.hidden calm deep hidden (edited_names (Rename from to) s.durable.names) refl said) said
   by_call (calls.Delete p recursive) is said changes = deleted_told p recursive said changes
   by_call (calls.Undelete p) is said changes =
       let call = calls.Undelete p in
@@ -420,7 +420,7 @@ module _ (config : Config) (s : State) (req : ReqId) (moment : Moment) (m : Mach
       let after = ap (λ (rs : Rows Text). unhide_rows rs p) shows.tree ∙ unhide_rows-map shows.text rows p in
       let plainly = answered answer (unhide_rows (mapped_rows bytes m.plain.tree) p) in
       told call plainly refl refl (gate_of call) (λ calm deep hidden said. by_names call plainly refl refl (gate_of call) (Unhide p) (Unhide p) answer made (plain_so answer made (unhide_rows m.plain.tree p) (unhide_rows (mapped_rows bytes m.plain.tree) p) (unhide_rows-map bytes m.plain.tree p) after)
-          (changes answer) after refl (λ rs e. sorted_of (unhide (at rows) p) made rs (unhide-tables rows p) e) shows.hidden calm deep hidden (edited_names (Unhide p) s.durable.names) refl said) said
+      (changes answer) after refl (λ rs e. sorted_of (unhide (at rows) p) made rs (unhide-tables rows p) e) shows.hidden calm deep hidden (edited_names (Unhide p) s.durable.names) refl said) said
   by_call call is said changes = absurd (false≢true is)
 
 pub changes_are_told : ChangesAreTold
