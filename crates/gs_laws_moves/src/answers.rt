@@ -34,8 +34,8 @@ fn looks_leave_names_and_commits_are_had()
     ensures commits { CommitsAreHad }
 {}
 
-/// A new directory, a new file, a rename and an undelete are answered at once where they are new: such a call gets one reply by the event that brings it, no other call is answered, and none begins to wait. Where it is accepted, and its record fits,
-/// the names are those of its edit, the phase and the epoch are what they were, and its client has had its reply. Where it is refused nothing changes but what is kept of it.
+/// A new directory, a new file, a rename, a deletion and an undelete are answered at once where they are new: such a call gets one reply by the event that brings it, no other call is answered, and none begins to wait. Where it is accepted, and its record fits,
+/// the names are those of its edit, the phase and the epoch are what they were, and its client has had its reply. A deletion takes a number, unless nothing stands at its path: then the names stay. Where it is refused nothing changes but what is kept of it.
 fn changes_are_answered_at_once_and_had()
     ensures at_once { ChangesAnswerAtOnce }
     ensures made { ChangesAreMade }

@@ -1,5 +1,5 @@
 -- A tick at which a checkpoint is due leaves that alone.
-use Rattle.std.proofs.Common.{◌≡◌, ◌∙◌, ◌<◌, ◌&&◌, ℕ, true, false, not, List, None, Some, is_none, Result, Ok, Err, ap, arith, inl, inr, subst, sym}
+use Rattle.std.proofs.Common.{◌≡◌, ◌∙◌, ◌<◌, ◌&&◌, ℕ, true, false, not, List, None, is_none, Result, Ok, Err, ap, arith, inl, inr, subst, sym}
 use Rattle.gs_base.specs.declared.refusal.Refusal.{Refusal}
 use Rattle.gs_base.specs.declared.refusal.Refusal.TheVariants as refusals
 use Rattle.gs_journal.specs.Journal.{checkpointed, failures_of_both}
