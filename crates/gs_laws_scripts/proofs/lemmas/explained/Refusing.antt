@@ -243,16 +243,16 @@ module _ {D : Type 0} (seen : D → List ℕ) (failures : D → ℕ) (config : C
           it : HasRefusal seen failures unarmed the_client before call refusal mid
           it = record { moment = s.moment; req = s.req; own = s.own; asked = s.asked; asks = s.asks; steps = s.steps; runs = s.runs; within = s.within; looking = s.looking; node = w.last; there = w.found; last = w.number; reply = has }
 
-          left : IsLeft st.durable the_client st.number w.req call refusal w.behind.steps mid
-          left = refused_changes_leave_still seen failures unarmed st.durable the_client st.number before mid call refusal is st.rests.asked st.rests.served st.rests.types st.rests.lasts st.rests.still it kept
-              (λ unsure. over (ap (λ r. Err r) unsure))
-
           kept : is_kept refusal ≡ true
           kept = elim (kept_then refusal over same_told) [
             | inl is ↦ is
             | inr old ↦
                 absurd (changes_are_never_old seen failures unarmed the_client before mid call is st.rests.asked st.rests.served st.rests.types st.rests.lasts (subst (λ e. HasRefusal seen failures unarmed the_client before call e mid) old it))
           ]
+
+          left : IsLeft st.durable the_client st.number w.req call refusal w.behind.steps mid
+          left = refused_changes_leave_still seen failures unarmed st.durable the_client st.number before mid call refusal is st.rests.asked st.rests.served st.rests.types st.rests.lasts st.rests.still it kept
+              (λ unsure. over (ap (λ r. Err r) unsure))
 
           never : {said : Said} → ◌≡◌ {A = Result Said Refusal} (Err refusal) (Ok said) → ⊥
           never e = cc
