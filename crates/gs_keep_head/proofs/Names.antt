@@ -1,11 +1,11 @@
--- A name's text is one word.
-use Rattle.std.proofs.Common.{◌≡◌, ℕ, zero, suc, ◌/◌, ◌%◌, ◌<◌, Bool, true, List, [], ◌∷◌, length, nat_lt, slice_index, Some, inl, inr, refl, ap, ◌∙◌, arith}
+-- The text of a name, or of a digest, is one word.
+use Rattle.std.proofs.Common.{◌≡◌, ℕ, zero, suc, ◌/◌, ◌%◌, ◌<◌, Bool, true, List, [], ◌∷◌, nat_lt, slice_index, Some, inl, inr, refl, ap, arith}
 use Rattle.std.specs.Prelude.{◌&&◌}
 use Rattle.std.specs.Result.{result_ok}
 use Rattle.std.proofs.lemmas.Bool.{and_from, and_parts, cases_lt}
 use Rattle.hex.specs.Hex.{IsBytes, encode_lower, encode_with, lower_digits}
 use Rattle.hex.proofs.HexLemmas.{decode_sized-encode_lower}
-use Rattle.gs_keep_head.specs.Head.{IsName, name_of}
+use Rattle.gs_keep_head.specs.Head.{IsName, IsSum, name_of, sum_of}
 use Rattle.gs_keep_head.proofs.Splitting.{plain}
 
 -- the digit at a place of the table may stand in a word
@@ -43,3 +43,7 @@ plain_name (b ∷ bytes) fits =
 -- a name is read as it is written
 pub name_read : (bytes : List ℕ) → IsName bytes → name_of (encode_lower bytes) ≡ Some bytes
 name_read bytes name = ap result_ok (decode_sized-encode_lower bytes 16 name.0 name.1)
+
+-- so is a digest
+pub sum_read : (bytes : List ℕ) → IsSum bytes → sum_of (encode_lower bytes) ≡ Some bytes
+sum_read bytes sum = ap result_ok (decode_sized-encode_lower bytes 32 sum.0 sum.1)

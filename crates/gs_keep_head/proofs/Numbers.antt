@@ -1,5 +1,5 @@
 -- What a first line says is read.
-use Rattle.std.proofs.Common.{◌≡◌, ◌<◌, ◌≤◌, ◌∷◌, ◌++◌, [], ◌*◌, ◌/◌, ◌%◌, ◌^◌, ◌&&◌, ◌==◌, ℕ, zero, suc, true, not, cond, length, List, nat_lt, nat_le, codes, Option, Some, None, option_map, IfSome, refl, sym, ap, subst, ◌∙◌, arith, mul-le-mul, div-add-mod', mod-lt}
+use Rattle.std.proofs.Common.{◌≡◌, ◌<◌, ◌≤◌, ◌∷◌, ◌++◌, [], ◌*◌, ◌/◌, ◌%◌, ◌^◌, ◌&&◌, ◌==◌, ℕ, zero, suc, true, not, cond, length, List, nat_lt, nat_le, codes, Option, Some, None, option_map, IfSome, refl, sym, ap, subst, ◌∙◌, arith, mul-le-mul, div-add-mod', mod-lt, append-nil, append_assoc}
 use Rattle.std.specs.Fmt.{decimal}
 use Rattle.std.specs.List.{slice_split}
 use Rattle.std.specs.Str.{IsAscii, IsUtf8, all_ascii_digits}
@@ -13,8 +13,9 @@ use Rattle.hex.specs.Hex.{encode_lower}
 use Rattle.gs_base.specs.Configs.{is_within}
 use Rattle.gs_keep_head.specs.declared.Form.{Form}
 use Rattle.gs_keep_head.specs.declared.Form.TheVariants as form
-use Rattle.gs_keep_head.specs.Head.{AreSizes, IsName, Sizes, ◌>>=◌, form_digit, head_text, head_words, name_of, named_parts, number_of, sized_text, sized_words, store_sizes, words_name, words_parts, words_sizes}
-use Rattle.gs_keep_head.proofs.Names.{name_read, plain_name}
+use Rattle.gs_keep_head.specs.declared.before.Before.{Before}
+use Rattle.gs_keep_head.specs.Head.{AreSizes, IsBefore, IsForm, IsName, Sizes, ◌>>=◌, before_behind, before_words, called_text, form_digit, form_of, head_text, head_words, name_words, number_of, sized_text, sized_words, store_sizes, words_before, words_head, words_more, words_name, words_sizes}
+use Rattle.gs_keep_head.proofs.Names.{name_read, plain_name, sum_read}
 use Rattle.gs_keep_head.proofs.Splitting.{AllPlain, joined, joined_ascii, joined_more, plain, plain_digits, plain_more, split_joined}
 
 -- ---- sizes are below 2 ^ 64
@@ -85,12 +86,47 @@ sizes_read form.Two s h =
     let m = small s h in
     (λ i. chain (number_decimal s.servers m.servers i) (number_decimal s.racks m.racks i) (number_decimal s.replicas m.replicas i) (number_decimal s.chunk m.chunk i) (number_decimal s.block m.block i))
     ∙ ap (λ b. cond b (Some s) None) h
+sizes_read (form.Three b) s h =
+    let m = small s h in
+    (λ i. chain (number_decimal s.servers m.servers i) (number_decimal s.racks m.racks i) (number_decimal s.replicas m.replicas i) (number_decimal s.chunk m.chunk i) (number_decimal s.block m.block i))
+    ∙ ap (λ b. cond b (Some s) None) h
 
-pub words_say : (f : Form) (s : Sizes) (name : Option (List ℕ)) → AreSizes s → IfSome name IsName → words_parts (head_words f s name) ≡ Some (s, name)
-unfolding words_parts words_name
-words_say f s None h is = ap (λ o. o >>= λ sizes. named_parts sizes []) (sizes_read f s h)
-words_say f s (Some bytes) h is =
-    ap (λ o. o >>= λ sizes. named_parts sizes (codes "name" ∷ encode_lower bytes ∷ [])) (sizes_read f s h) ∙ ap (option_map (λ bytes. (s, Some bytes))) (name_read bytes is)
+-- ---- what was before is read as it is written
+
+abbrev told : Option ℕ → Option (List ℕ) → Option ℕ → Option (List ℕ) → Option (List ℕ) → Option Before
+told o1 o2 o3 o4 o5 =
+    o1 >>= λ image. o2 >>= λ sum. o3 >>= λ lines. o4 >>= λ text. o5 >>= λ answers. Some (record { image = image; sum = sum; lines = lines; text = text; answers = answers })
+
+before_read : (b : Before) → IsBefore b → words_before (before_words (form.Three b)) ≡ Some b
+unfolding words_before
+before_read b (image, lines, sum, text, answers) =
+    (λ i. told (number_decimal b.image image i) (sum_read b.sum sum i) (number_decimal b.lines lines i) (sum_read b.text text i) (sum_read b.answers answers i))
+
+abbrev before_of : Form → Option Before
+before_of form.One = None
+before_of form.Two = None
+before_of (form.Three b) = Some b
+
+more_read : (f : Form) (name : Option (List ℕ)) → IsForm f → IfSome name IsName → words_more (name_words name ++ before_words f) ≡ Some (name, before_of f)
+unfolding words_more words_name
+more_read form.One None form is = refl
+more_read form.Two None form is = refl
+more_read (form.Three b) None form is = ap (option_map (λ before. (None, Some before))) (before_read b form)
+more_read form.One (Some bytes) form is = ap (option_map (λ name. (Some name, None))) (name_read bytes is)
+more_read form.Two (Some bytes) form is = ap (option_map (λ name. (Some name, None))) (name_read bytes is)
+more_read (form.Three b) (Some bytes) form is =
+    (λ i. name_read bytes is i >>= λ name. before_read b form i >>= λ before. Some (Some name, Some before))
+
+form_read : (f : Form) → form_of (form_digit f) (before_of f) ≡ Some f
+form_read form.One = refl
+form_read form.Two = refl
+form_read (form.Three b) = refl
+
+pub words_say : (f : Form) (s : Sizes) (name : Option (List ℕ)) → IsForm f → AreSizes s → IfSome name IsName → words_head (head_words f s name) ≡ Some (f, s, name)
+unfolding words_head
+words_say f s name form h is =
+    (λ i. sizes_read f s h i >>= λ sizes. more_read f name form is i >>= λ more. form_of (form_digit f) more.1 >>= λ form. Some (form, sizes, more.0))
+    ∙ ap (λ o. o >>= λ form. Some (form, s, name)) (form_read f)
 
 -- ---- its words
 
@@ -105,6 +141,7 @@ behind f s =
 digit_plain : (f : Form) → plain (form_digit f) ≡ true
 digit_plain form.One = refl
 digit_plain form.Two = refl
+digit_plain (form.Three b) = refl
 
 all_plain : (f : Form) (s : Sizes) → AreSizes s → AllPlain (behind f s)
 all_plain f s h =
@@ -135,33 +172,64 @@ sized_joined : (f : Form) (s : Sizes) → sized_text f s ≡ joined (codes "chun
 unfolding sized_text
 sized_joined form.One s = refl
 sized_joined form.Two s = refl
+sized_joined (form.Three b) s = refl
+
+called_joined : (f : Form) (s : Sizes) (name : Option (List ℕ)) → called_text f s name ≡ joined (codes "chunkkeep") (behind f s ++ name_words name)
+unfolding called_text
+called_joined f s None = sized_joined f s
+called_joined f s (Some bytes) =
+    ap (λ (l : List ℕ). l ++ (codes " name " ++ encode_lower bytes)) (sized_joined f s) ∙ sym (joined_more (codes "chunkkeep") (behind f s) (codes "name") (encode_lower bytes ∷ []))
+
+-- the words behind the first one that tells of what was before
+abbrev more_before : Before → List (List ℕ)
+more_before b = decimal b.image ∷ encode_lower b.sum ∷ codes "lines" ∷ decimal b.lines ∷ encode_lower b.text ∷ encode_lower b.answers ∷ []
+
+before_joined : (text : List ℕ) (b : Before) → before_behind text b ≡ text ++ 32 ∷ joined (codes "image") (more_before b)
+unfolding before_behind
+before_joined text b = refl
 
 -- the words behind the first one
 abbrev all_behind : Form → Sizes → Option (List ℕ) → List (List ℕ)
-all_behind f s None = behind f s
-all_behind f s (Some bytes) = behind f s ++ codes "name" ∷ encode_lower bytes ∷ []
+all_behind f s name = behind f s ++ (name_words name ++ before_words f)
 
 is_joined : (f : Form) (s : Sizes) (name : Option (List ℕ)) → head_text f s name ≡ joined (codes "chunkkeep") (all_behind f s name)
 unfolding head_text
-is_joined f s None = sized_joined f s
-is_joined f s (Some bytes) =
-    ap (λ (l : List ℕ). l ++ (codes " name " ++ encode_lower bytes)) (sized_joined f s) ∙ sym (joined_more (codes "chunkkeep") (behind f s) (codes "name") (encode_lower bytes ∷ []))
+is_joined form.One s name = called_joined form.One s name ∙ ap (λ (l : List (List ℕ)). joined (codes "chunkkeep") (behind form.One s ++ l)) (sym (append-nil (name_words name)))
+is_joined form.Two s name = called_joined form.Two s name ∙ ap (λ (l : List (List ℕ)). joined (codes "chunkkeep") (behind form.Two s ++ l)) (sym (append-nil (name_words name)))
+is_joined (form.Three b) s name =
+    let f = form.Three b in
+    before_joined (called_text f s name) b
+    ∙ ap (λ (l : List ℕ). l ++ 32 ∷ joined (codes "image") (more_before b)) (called_joined f s name)
+    ∙ sym (joined_more (codes "chunkkeep") (behind f s ++ name_words name) (codes "image") (more_before b))
+    ∙ ap (joined (codes "chunkkeep")) (append_assoc (behind f s) (name_words name) (before_words f))
 
-whole_plain : (f : Form) (s : Sizes) (name : Option (List ℕ)) → AreSizes s → IfSome name IsName → AllPlain (all_behind f s name)
-whole_plain f s None h is = all_plain f s h
-whole_plain f s (Some bytes) h is =
-    let last : AllPlain (codes "name" ∷ encode_lower bytes ∷ []) = (refl, (plain_name bytes is.1, tt)) in
-    plain_more (behind f s) (codes "name" ∷ encode_lower bytes ∷ []) (all_plain f s h) last
+name_plain : (name : Option (List ℕ)) → IfSome name IsName → AllPlain (name_words name)
+name_plain None is = tt
+name_plain (Some bytes) is = (refl, (plain_name bytes is.1, tt))
+
+before_plain : (f : Form) → IsForm f → AllPlain (before_words f)
+before_plain form.One is = tt
+before_plain form.Two is = tt
+before_plain (form.Three b) (image, lines, sum, text, answers) = (
+  refl,
+  (
+    plain_number b.image image,
+    (plain_name b.sum sum.1, (refl, (plain_number b.lines lines, (plain_name b.text text.1, (plain_name b.answers answers.1, tt))))),
+  ),
+)
+
+whole_plain : (f : Form) (s : Sizes) (name : Option (List ℕ)) → IsForm f → AreSizes s → IfSome name IsName → AllPlain (all_behind f s name)
+whole_plain f s name form h is =
+    plain_more (behind f s) (name_words name ++ before_words f) (all_plain f s h) (plain_more (name_words name) (before_words f) (name_plain name is) (before_plain f form))
 
 head_is : (f : Form) (s : Sizes) (name : Option (List ℕ)) → codes "chunkkeep" ∷ all_behind f s name ≡ head_words f s name
-head_is f s None = refl
-head_is f s (Some bytes) = refl
+head_is f s name = refl
 
-pub head_splits : (f : Form) (s : Sizes) (name : Option (List ℕ)) → AreSizes s → IfSome name IsName → slice_split (λ b. b == 32) (head_text f s name) ≡ head_words f s name
-head_splits f s name h is =
-    ap (slice_split (λ b. b == 32)) (is_joined f s name) ∙ split_joined (codes "chunkkeep") (all_behind f s name) refl (whole_plain f s name h is) ∙ head_is f s name
+pub head_splits : (f : Form) (s : Sizes) (name : Option (List ℕ)) → IsForm f → AreSizes s → IfSome name IsName → slice_split (λ b. b == 32) (head_text f s name) ≡ head_words f s name
+head_splits f s name form h is =
+    ap (slice_split (λ b. b == 32)) (is_joined f s name) ∙ split_joined (codes "chunkkeep") (all_behind f s name) refl (whole_plain f s name form h is) ∙ head_is f s name
 
-pub head_utf8 : (f : Form) (s : Sizes) (name : Option (List ℕ)) → AreSizes s → IfSome name IsName → IsUtf8 (head_text f s name)
-head_utf8 f s name h is =
+pub head_utf8 : (f : Form) (s : Sizes) (name : Option (List ℕ)) → IsForm f → AreSizes s → IfSome name IsName → IsUtf8 (head_text f s name)
+head_utf8 f s name form h is =
     IsUtf8-from_ascii (head_text f s name)
-    (subst IsAscii (sym (is_joined f s name)) (joined_ascii (codes "chunkkeep") (all_behind f s name) refl (whole_plain f s name h is)))
+    (subst IsAscii (sym (is_joined f s name)) (joined_ascii (codes "chunkkeep") (all_behind f s name) refl (whole_plain f s name form h is)))

@@ -11,6 +11,9 @@ pub const NAME_BYTES: usize = 16;
 /// How many bytes its text has.
 pub const NAME_DIGITS: usize = 2 * NAME_BYTES;
 
+/// How many words of a first line tell its name.
+pub(crate) const NAME_WORDS: usize = 2;
+
 /// What tells a log from all others: bytes that were drawn when it was made. Its text has two hexadecimal digits for each, in lower case.
 #[derive(Clone, Copy, Debug, PartialEq, Eq)]
 pub struct LogName {
@@ -57,7 +60,7 @@ fn called(word: &str, digits: &str) -> Option<LogName>
 pub(crate) fn name_in(words: &[&str]) -> Option<LogName>
     ensures { CalledAs result (words_name (map (λ w. w.now) words.now)) }
 {
-    if words.len() != 2 {
+    if words.len() != NAME_WORDS {
         return None;
     }
     called(words[0], words[1])

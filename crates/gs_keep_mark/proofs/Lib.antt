@@ -1,3 +1,4 @@
 pub mod Lines
 mod Texts
 mod Starts
+mod Same

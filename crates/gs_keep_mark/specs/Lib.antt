@@ -1,3 +1,4 @@
 pub mod Marks
 pub mod Ledgers
 pub mod Started
+pub mod Before

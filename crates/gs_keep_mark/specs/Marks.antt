@@ -15,9 +15,14 @@ pub record Totals : Type 0 where
   pub text : List ℕ
   pub answers : List ℕ
 
--- of a log that has its first line alone
+-- Of a log that has its first line alone, and begins from an image behind so many lines. The logs before have these. That line holds the digests
+-- of what they are, so the text that marks speak of begins with it, and the answers begin anew.
+abbrev pub begins_from : List ℕ → ℕ → Totals
+begins_from head before = record { count = before; text = head; answers = [] }
+
+-- of a log that has its first line alone, and no log before
 abbrev pub beginning : List ℕ → Totals
-beginning head = record { count = 0; text = head; answers = [] }
+beginning head = begins_from head 0
 
 -- with a line more
 abbrev pub noted : Totals → Entry → Totals
@@ -101,3 +106,7 @@ listed = record { line = codes "ls /" ++ 10 ∷ []; answer = codes "ok" }
 a_batch_is_counted : (with_batch (beginning (codes "head" ++ 10 ∷ [])) (listed ∷ [])) ≡ record { count = 1; text = codes "head" ++ 10 ∷ codes "ls /" ++ 10 ∷ []; answers = codes "ok" ++ 10 ∷ [] }
 unfolding listed
 a_batch_is_counted = refl
+
+lines_before_are_counted : (with_batch (begins_from (codes "head" ++ 10 ∷ []) 7) (listed ∷ [])) ≡ record { count = 8; text = codes "head" ++ 10 ∷ codes "ls /" ++ 10 ∷ []; answers = codes "ok" ++ 10 ∷ [] }
+unfolding listed
+lines_before_are_counted = refl

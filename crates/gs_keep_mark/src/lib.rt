@@ -3,7 +3,7 @@
 
 ghost use Rattle.std.specs.Prelude.{◌≡◌, ◌==◌, ◌++◌, ℕ, List, false, length, IfOk, OnOk};
 ghost use Rattle.sha2.specs.Hashers.{Holds256};
-ghost use Rattle.gs_keep_mark.specs.Marks.{Totals, beginning, digest, digits_of, is_whole_mark, mark_of, noted, passed, starts_mark};
+ghost use Rattle.gs_keep_mark.specs.Marks.{Totals, beginning, begins_from, digest, digits_of, is_whole_mark, mark_of, noted, passed, starts_mark};
 ghost use Rattle.gs_keep_mark.specs.Ledgers.{IsLedger, is_full};
 
 use sha2::{Digest as _, Sha256};
@@ -11,7 +11,7 @@ use std::alloc::{AllocError, Global};
 
 mod promises;
 
-pub use promises::a_start_runs_what_was_answered;
+pub use promises::{a_start_runs_what_was_answered, logs_that_are_told_alike_are_the_same};
 
 /// What a mark says of a log, as far as the log has grown: how many lines it has, and the digests of its bytes and of the answers to its lines.
 #[derive(Drop)]
@@ -60,14 +60,21 @@ pub fn is_whole_mark(line: &[u8]) -> bool
 }
 
 impl Ledger {
-    /// That of a log that has its first line alone.
+    /// That of a log that has its first line alone, and no log before.
     pub fn new(head: &[u8]) -> Ledger
         ensures { IsLedger result (beginning head.now) }
+    {
+        Ledger::of(head, 0)
+    }
+
+    /// That of a log that has its first line alone, and begins from an image. The logs before have so many lines, and `head` tells what they are.
+    pub fn of(head: &[u8], before: u64) -> Ledger
+        ensures { IsLedger result (begins_from head.now before) }
     {
         let mut text = Sha256::new();
         text.update(head);
         Ledger {
-            lines: 0,
+            lines: before,
             text,
             answers: Sha256::new(),
         }

@@ -8,7 +8,7 @@ ghost use Rattle.gs_laws_chunks.specs.answers.Answered.{AnswersAreMade};
 ghost use Rattle.gs_laws_chunks.specs.answers.Asked.{BeginsAsked, ScriptsAsked, StaysAsked, StaysAskedUnarmed};
 ghost use Rattle.gs_laws_chunks.specs.answers.Behind.{ListsAreByCommits};
 ghost use Rattle.gs_laws_chunks.specs.answers.Calm.{CommitsAreCalm, StaysCalm};
-ghost use Rattle.gs_laws_chunks.specs.answers.Changed.{ChangesLeaveStill, ChangesStayCalm, ChangesStayUnderWay, RefusedChangesLeaveStill};
+ghost use Rattle.gs_laws_chunks.specs.answers.Changed.{ChangesAreNeverOld, ChangesLeaveStill, ChangesStayCalm, ChangesStayUnderWay, RefusedChangesLeaveStill};
 ghost use Rattle.gs_laws_chunks.specs.answers.Replied.{BeginsReplied, StaysReplied};
 ghost use Rattle.gs_laws_chunks.specs.answers.Resting.{StaysStill};
 ghost use Rattle.gs_laws_chunks.specs.answers.Served.{BeginsServed, CallsAreForTheMaster, RefusalsAreMade, ScriptsServed, StaysServed};
@@ -89,11 +89,12 @@ fn a_call_that_is_answered_by_itself_has_its_reply<D>()
 
 /// A client asks for a new directory, a new file, a rename, a deletion or an undelete where no call waits, and all that was called before has a number that it has had. As long as it asks nothing else but look-ups, the old names stand at the master, or the new ones with the number of the call had.
 /// Once it has the answer, the new names stand, with the phase and the epoch of before, no call waits, and all that was called has a number that the client has had. Once it has a refusal that is kept and is sure, the old names stand so. No prepare is begun meanwhile, unless a disk fails, where none was.
-/// A deletion is of the moment of a step since it was asked, and takes the number of the next one.
+/// It isn't refused since its request is an old one (19), as long as the client asks nothing else. A deletion is of the moment of a step since it was asked, and takes the number of the next one.
 /// So it is whatever else comes, how often, and in which order, and whatever disks fail.
 fn a_change_of_the_tree_leaves_a_store_still<D>()
     ensures under_way { (seen : D → List ℕ) (failures : D → ℕ) (armed : DiskId → ℕ → MasterPlace D → MasterPlace D) → ChangesStayUnderWay seen failures armed }
     ensures answered { (seen : D → List ℕ) (failures : D → ℕ) (armed : DiskId → ℕ → MasterPlace D → MasterPlace D) → ChangesLeaveStill seen failures armed }
     ensures refused { (seen : D → List ℕ) (failures : D → ℕ) (armed : DiskId → ℕ → MasterPlace D → MasterPlace D) → RefusedChangesLeaveStill seen failures armed }
+    ensures new { (seen : D → List ℕ) (failures : D → ℕ) (armed : DiskId → ℕ → MasterPlace D → MasterPlace D) → ChangesAreNeverOld seen failures armed }
     ensures calm { (seen : D → List ℕ) (failures : D → ℕ) (armed : DiskId → ℕ → MasterPlace D → MasterPlace D) → ChangesStayCalm seen failures armed }
 {}

@@ -145,6 +145,10 @@ module _ {D : Type 0} (seen : D → List ℕ) (failures : D → ℕ) (armed : Di
   RefusedChangesLeaveStill = (d : Durable) (client : ClientId) (number : ℕ) (old mid : History D) (call : Call) (refusal : Refusal) → is_change call ≡ true → AreAsked seen old → AreServed old → KeepsTypes old → LastsThrough seen old.nodes.master →
       IsStill d client number old → (c : HasRefusal client old call refusal mid) → is_kept refusal ≡ true → (refusal ≡ refusals.Unsure → ⊥) → IsLeft d client number c.req call refusal c.steps mid
 
+  -- No such call is told that its request is an old one, where its client has asked nothing since.
+  abbrev pub ChangesAreNeverOld : Type 0
+  ChangesAreNeverOld = (client : ClientId) (old mid : History D) (call : Call) → is_change call ≡ true → AreAsked seen old → AreServed old → KeepsTypes old → LastsThrough seen old.nodes.master → HasRefusal client old call refusals.Old mid → ⊥
+
   -- No prepare is begun meanwhile, where none was.
   abbrev pub ChangesStayCalm : Type 0
   ChangesStayCalm = (d : Durable) (client : ClientId) (number : ℕ) (old asked new : History D) (moment : Moment) (req : ReqId) (call : Call) (steps : List Step) → is_change call ≡ true → AreAsked seen old → KeepsTypes old → LastsThrough seen old.nodes.master →

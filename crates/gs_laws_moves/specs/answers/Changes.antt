@@ -5,6 +5,7 @@ use Rattle.gs_base.specs.declared.config.Config.{Config}
 use Rattle.gs_base.specs.declared.numbers.Moment.{Moment}
 use Rattle.gs_base.specs.declared.numbers.ReqId.{ReqId}
 use Rattle.gs_base.specs.declared.refusal.Refusal.{Refusal}
+use Rattle.gs_base.specs.declared.refusal.Refusal.TheVariants as refusals
 use Rattle.gs_edit.specs.View.{NamesView}
 use Rattle.gs_msg.specs.declared.answer.Answer.{Answer}
 use Rattle.gs_msg.specs.declared.call.Call.{Call}
@@ -68,6 +69,10 @@ ChangesAreMade = (config : Config) (s : State) (req : ReqId) (moment : Moment) (
 -- Where it is refused nothing changes but what is kept of it.
 abbrev pub RefusedChangesLeaveNames : Type 0
 RefusedChangesLeaveNames = (config : Config) (s : State) (req : ReqId) (moment : Moment) (call : Call) (refusal : Refusal) → is_change call ≡ true → OneSays req (Err refusal) (new_call config s req moment call).sent → LeavesNames s req (new_call config s req moment call)
+
+-- None is told that its request is an old one, where it is judged.
+abbrev pub ChangesAreNotOld : Type 0
+ChangesAreNotOld = (config : Config) (s : State) (req : ReqId) (moment : Moment) (call : Call) → is_change call ≡ true → OneSays req (Err refusals.Old) (new_call config s req moment call).sent → ⊥
 
 -- ---- examples
 

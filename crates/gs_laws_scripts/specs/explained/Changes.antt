@@ -45,10 +45,9 @@ abbrev pub ChangesAreTold : Type 0
 ChangesAreTold = (config : Config) (s : State) (req : ReqId) (moment : Moment) (m : Machine) (call : Call) (result : Result Said Refusal) → ShowsNames s.durable m → m.moment ≡ moment.0 → is_change call ≡ true → Replies config s req moment call result →
     ((said : Said) → result ≡ Ok said → Changes s req (edit_for s.durable moment call) (new_call config s req moment call)) → IsChangeTold (new_call config s req moment call).after.durable call m result
 
--- What came of a change is known: nobody is unsure of it, and its request isn't told to be an old one.
-pub record IsOver (result : Result Said Refusal) : Type 0 where
-  pub sure : result ≡ Err refusals.Unsure → ⊥
-  pub new : result ≡ Err refusals.Old → ⊥
+-- What came of a change is known: nobody is unsure of it.
+abbrev pub IsOver : Result Said Refusal → Type 0
+IsOver result = result ≡ Err refusals.Unsure → ⊥
 
 -- Such a change that a desk carries for its client, and that is over, is done as the machine does it, or the store refuses it. After it the desk stands for the machine, with its late calls overtaken where it is accepted.
 abbrev pub ChangesAreExplainedThere : Type 0 → Type 0
@@ -66,9 +65,8 @@ is_change_line (Some (lines.Rm p recursive)) = true
 is_change_line (Some (lines.Undelete p)) = true
 is_change_line asked = false
 
--- The answer tells what came of the line: it isn't that the request is an old one (19), that nobody is sure (29), or that memory is wanting (33).
+-- The answer tells what came of the line: it isn't that nobody is sure (29), or that memory is wanting (33).
 pub record IsSure (text : List ℕ) : Type 0 where
-  pub new : text ≡ refusal_text refusals.Old → ⊥
   pub sure : text ≡ refusal_text refusals.Unsure → ⊥
   pub told : text ≡ refusal_text refusals.Memory → ⊥
 
@@ -100,15 +98,15 @@ CalmLinesAreExplained D = (seen : D → List ℕ) (failures : D → ℕ) (config
 -- ---- Worked: a directory is made, and made again; it is moved, and a move of what isn't there is refused; it is removed, and nothing is there to be removed then; a look at what is no path is refused
 pub an_answer_is_sure : IsSure (codes "ok")
 unfolding digits
-an_answer_is_sure = record { new = λ is. absurd (cc); sure = λ is. absurd (cc); told = λ is. absurd (cc) }
+an_answer_is_sure = record { sure = λ is. absurd (cc); told = λ is. absurd (cc) }
 
 pub a_refusal_is_sure : IsSure (codes "refused 4 Exists")
 unfolding digits
-a_refusal_is_sure = record { new = λ is. absurd (cc); sure = λ is. absurd (cc); told = λ is. absurd (cc) }
+a_refusal_is_sure = record { sure = λ is. absurd (cc); told = λ is. absurd (cc) }
 
 what_is_not_there_is_sure : IsSure (codes "refused 3 NotFound")
 unfolding digits
-what_is_not_there_is_sure = record { new = λ is. absurd (cc); sure = λ is. absurd (cc); told = λ is. absurd (cc) }
+what_is_not_there_is_sure = record { sure = λ is. absurd (cc); told = λ is. absurd (cc) }
 
 -- of texts that are accepted
 abbrev first_letter : List ℕ → ℕ
@@ -117,7 +115,7 @@ first_letter (letter ∷ letters) = letter
 
 an_accepted_one_is_sure : (rest : List ℕ) → IsSure (111 ∷ rest)
 unfolding digits
-an_accepted_one_is_sure rest = record { new = λ is. another (ap first_letter is); sure = λ is. another (ap first_letter is); told = λ is. another (ap first_letter is) }
+an_accepted_one_is_sure rest = record { sure = λ is. another (ap first_letter is); told = λ is. another (ap first_letter is) }
   where
     another : ◌≡◌ {A = ℕ} 111 114 → ⊥
     another is = omega (arith, is)

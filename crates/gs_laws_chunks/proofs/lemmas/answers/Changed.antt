@@ -35,7 +35,7 @@ use Rattle.gs_laws_moves.specs.answers.Resting.{HasHad, LeavesNames}
 use Rattle.gs_laws_moves.specs.moves.Epochs.{EndsOnce}
 use Rattle.gs_laws_moves.specs.moves.ForCalls.{IsMadeWellFor}
 use Rattle.gs_laws_moves.specs.moves.Laws.{said_from}
-use Rattle.gs_laws_moves.proofs.lemmas.answers.Changes.{changes_at_once, refused_changes_leave}
+use Rattle.gs_laws_moves.proofs.lemmas.answers.Changes.{changes_are_not_old, changes_at_once, refused_changes_leave}
 use Rattle.gs_laws_moves.proofs.lemmas.answers.Concerning.{ticks_concerned}
 use Rattle.gs_laws_moves.proofs.lemmas.answers.Resting.{had_not_new}
 use Rattle.gs_laws_moves.proofs.lemmas.moves.Stands.{events_stand_for}
@@ -51,7 +51,7 @@ use Rattle.gs_laws_chunks.specs.answers.Answered.{AsksFresh, WasSaid}
 use Rattle.gs_laws_chunks.specs.answers.Asked.{AreAsked, HasAsked, SaysOf}
 use Rattle.gs_laws_chunks.specs.answers.Behind.{HasAnswer, asks_call}
 use Rattle.gs_laws_chunks.specs.answers.Calm.{IsCalm, IsCalmAt}
-use Rattle.gs_laws_chunks.specs.answers.Changed.{CallsSo, ChangesLeaveStill, ChangesStayCalm, ChangesStayUnderWay, HasRefusal, IsAt, IsChanged, IsEdited, IsLeft, IsOwnLooksOrOld, IsSo, IsUnderWay, RefusedChangesLeaveStill, StandsEither, StandsSo}
+use Rattle.gs_laws_chunks.specs.answers.Changed.{CallsSo, ChangesAreNeverOld, ChangesLeaveStill, ChangesStayCalm, ChangesStayUnderWay, HasRefusal, IsAt, IsChanged, IsEdited, IsLeft, IsOwnLooksOrOld, IsSo, IsUnderWay, RefusedChangesLeaveStill, StandsEither, StandsSo}
 use Rattle.gs_laws_chunks.specs.answers.Resting.{AsksLooks, IsLooking, IsOldOrLooks, IsStill, StandsStill, StandsStillAt}
 use Rattle.gs_laws_chunks.specs.answers.Served.{AreServed, IsUnjudged}
 use Rattle.gs_laws_chunks.proofs.lemmas.answers.Answered.{lone_answers_are_made}
@@ -403,9 +403,32 @@ module _ {D : Type 0} (seen : D → List ℕ) (failures : D → ℕ) (armed : Di
         ]
       where
         judged : IsUnjudged refusal → ⊥
-        judged (inl same) = not_kept refusals.Old refl same
-        judged (inr (inl same)) = not_kept refusals.Device refl same
-        judged (inr (inr same)) = sure same
+        judged (inl same) = not_kept refusals.Device refl same
+        judged (inr same) = sure same
+
+  -- it isn't told to be an old one
+  module _ (client : ClientId) (old mid : History D) (call : Call) (is : is_change call ≡ true) (are : AreAsked seen old) (served : AreServed old) (types : KeepsTypes old) (lasts : LastsThrough seen old.nodes.master) (c : HasRefusal seen failures armed client old call refusals.Old mid) where
+    other_refusal : {a b : Refusal} → ◌≡◌ {A = Result Answer Refusal} (Err a) (Err b) → a ≡ b
+    other_refusal same = cc
+
+    judged_old : IsUnjudged refusals.Old → ⊥
+    judged_old (inl same) = absurd (cc)
+    judged_old (inr same) = absurd (cc)
+
+    said_old : (was : WasSaid seen failures armed c.steps c.asked mid c.req call (Err refusals.Old)) → SaidOrFailed seen failures armed was.now was.event.moment was.answers.master c.req call (Err refusals.Old) was.next.nodes → ⊥
+    said_old was (inl unsure) = judged_old (inr (other_refusal unsure))
+    said_old was (inr (inl failed)) = judged_old (inl (other_refusal failed))
+    said_old was (inr (inr there)) = changes_are_not_old was.answers.master.config was.answers.master.state c.req was.event.moment call is there.says
+
+    never_old : ⊥
+    never_old = elim (lone_refusals_are_made seen failures armed old c.asked mid c.moment c.req call c.steps c.node refusals.Old are served types lasts c.asks (change_alone call is) c.runs (all_spare client c.steps c.looking) c.within
+        (subst (λ k. client_in mid.nodes.clients k ≡ Some c.node) (sym c.own) c.there) c.last c.reply) [
+          | inl unjudged ↦ judged_old unjudged
+          | inr made ↦ said_old made.0 (said_there seen failures armed made.0.now made.0.event made.0.said made.0.next made.0.happens c.req call (Err refusals.Old) made.0.answers)
+        ]
+
+pub changes_are_never_old : {D : Type 0} (seen : D → List ℕ) (failures : D → ℕ) (armed : DiskId → ℕ → MasterPlace D → MasterPlace D) → ChangesAreNeverOld seen failures armed
+changes_are_never_old seen failures armed client old mid call is are served types lasts c = never_old seen failures armed client old mid call is are served types lasts c
 
 pub changes_stay_under_way : {D : Type 0} (seen : D → List ℕ) (failures : D → ℕ) (armed : DiskId → ℕ → MasterPlace D → MasterPlace D) → ChangesStayUnderWay seen failures armed
 changes_stay_under_way seen failures armed d client number old asked new moment req call steps is are types lasts still mine x runs within looking =

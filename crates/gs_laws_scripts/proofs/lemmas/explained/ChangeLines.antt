@@ -242,10 +242,7 @@ deleted_shown size p recursive old mid said (payments, inr (refusal, refused, re
 
 -- a reply whose answer is told is over
 told_over : (text : List ℕ) → IsSure text → (shows : Result Said Refusal → Result Answer Refusal) → ((refusal : Refusal) → shows (Err refusal) ≡ Err refusal) → (said : Result Said Refusal) → text ≡ answer_text (shows said) → IsOver said
-told_over text sure shows as_it_is said is = record {
-  sure = λ unsure. sure.sure (is ∙ ap (λ s. answer_text (shows s)) unsure ∙ ap answer_text (as_it_is refusals.Unsure));
-  new = λ old. sure.new (is ∙ ap (λ s. answer_text (shows s)) old ∙ ap answer_text (as_it_is refusals.Old));
-}
+told_over text sure shows as_it_is said is unsure = sure.sure (is ∙ ap (λ s. answer_text (shows s)) unsure ∙ ap answer_text (as_it_is refusals.Unsure))
 
 -- ---- a line
 

@@ -114,7 +114,7 @@ module _ {D : Type 0} (seen : D → List ℕ) (failures : D → ℕ) (config : C
   explained : (reply : Reply) → LooksUp seen failures old call reply new → IsOver (changed reply) → (mid : Machine) × Asks size call m (changed reply) mid × Stands seen config new (overtaken call (changed reply, mid))
   explained (replies.Answer said) carried over = answer_explained said carried
   explained (replies.Refused refusal) carried over = refusal_explained seen failures config size old new m call st is may refusal over carried
-  explained replies.Lost carried over = absurd (over.sure refl)
+  explained replies.Lost carried over = absurd (over refl)
   explained (replies.Given given) carried over = absurd (no_server_replies seen failures config size old new m call st is may (replies.Given given) tt carried)
   explained (replies.Outcome outcome) carried over = absurd (no_server_replies seen failures config size old new m call st is may (replies.Outcome outcome) tt carried)
 

@@ -18,7 +18,7 @@ use Rattle.gs_client.specs.declared.client.Client.{Client}
 use Rattle.gs_client.specs.declared.link.Reply.{Reply}
 use Rattle.gs_client.specs.declared.link.Reply.TheVariants as replies
 use Rattle.gs_laws_chunks.proofs.lemmas.answers.Behind.{all_spare}
-use Rattle.gs_laws_chunks.proofs.lemmas.answers.Changed.{refused_changes_leave_still}
+use Rattle.gs_laws_chunks.proofs.lemmas.answers.Changed.{changes_are_never_old, refused_changes_leave_still}
 use Rattle.gs_laws_chunks.proofs.lemmas.answers.Served.{lone_calls_are_for_the_master}
 use Rattle.gs_laws_chunks.specs.answers.Changed.{HasRefusal, IsAt, IsLeft}
 use Rattle.gs_laws_chunks.specs.answers.Served.{IsOfServer}
@@ -56,22 +56,18 @@ use Rattle.gs_laws_scripts.specs.explained.Standing.{IsUndisturbed, Stands, the_
 
 -- ---- what is sure
 
-not_over : {Z : Type 0} (refusal : Refusal) → IsOver (Err refusal) → (refusal ≡ refusals.Unsure) ⊎ (refusal ≡ refusals.Old) → Z
-not_over refusal over (inl is) = absurd (over.sure (ap (λ r. Err r) is))
-not_over refusal over (inr is) = absurd (over.new (ap (λ r. Err r) is))
-
 -- a refusal that is over is told as it is
 told_as : (refusal : Refusal) → IsOver (Err (unsure_or refusal)) → unsure_or refusal ≡ refusal
-told_as refusals.Device over = not_over refusals.Unsure over (inl refl)
-told_as refusals.Memory over = not_over refusals.Unsure over (inl refl)
+told_as refusals.Device over = absurd (over refl)
+told_as refusals.Memory over = absurd (over refl)
 told_as refusal over = refl
 
--- and the master keeps it
-kept_then : (refusal : Refusal) → IsOver (Err refusal) → unsure_or refusal ≡ refusal → is_kept refusal ≡ true
-kept_then refusals.Old over same = not_over refusals.Old over (inr refl)
-kept_then refusals.Device over same = not_over refusals.Device over (inl (sym same))
-kept_then refusals.Memory over same = not_over refusals.Memory over (inl (sym same))
-kept_then refusal over same = refl
+-- and the master keeps it, unless it is that the request is an old one
+kept_then : (refusal : Refusal) → IsOver (Err refusal) → unsure_or refusal ≡ refusal → (is_kept refusal ≡ true) ⊎ (refusal ≡ refusals.Old)
+kept_then refusals.Old over same = inr refl
+kept_then refusals.Device over same = absurd (over (ap (λ r. Err r) (sym same)))
+kept_then refusals.Memory over same = absurd (over (ap (λ r. Err r) (sym same)))
+kept_then refusal over same = inl refl
 
 -- ---- late calls: a refused one overtakes none
 
@@ -247,9 +243,16 @@ module _ {D : Type 0} (seen : D → List ℕ) (failures : D → ℕ) (config : C
           it : HasRefusal seen failures unarmed the_client before call refusal mid
           it = record { moment = s.moment; req = s.req; own = s.own; asked = s.asked; asks = s.asks; steps = s.steps; runs = s.runs; within = s.within; looking = s.looking; node = w.last; there = w.found; last = w.number; reply = has }
 
+          kept : is_kept refusal ≡ true
+          kept = elim (kept_then refusal over same_told) [
+            | inl is ↦ is
+            | inr old ↦
+                absurd (changes_are_never_old seen failures unarmed the_client before mid call is st.rests.asked st.rests.served st.rests.types st.rests.lasts (subst (λ e. HasRefusal seen failures unarmed the_client before call e mid) old it))
+          ]
+
           left : IsLeft st.durable the_client st.number w.req call refusal w.behind.steps mid
-          left = refused_changes_leave_still seen failures unarmed st.durable the_client st.number before mid call refusal is st.rests.asked st.rests.served st.rests.types st.rests.lasts st.rests.still it (kept_then refusal over same_told)
-              (λ unsure. not_over refusal over (inl unsure))
+          left = refused_changes_leave_still seen failures unarmed st.durable the_client st.number before mid call refusal is st.rests.asked st.rests.served st.rests.types st.rests.lasts st.rests.still it kept
+              (λ unsure. over (ap (λ r. Err r) unsure))
 
           never : {said : Said} → ◌≡◌ {A = Result Said Refusal} (Err refusal) (Ok said) → ⊥
           never e = cc
