@@ -58,7 +58,8 @@ def one_line(chance):
         f"create {path}": 12,
         f"write {path} {chance.randint(0, 20)} {some_bytes}": 30,
         f"append {path} {some_bytes}": 20,
-        f"read {path} 0 40": 10,
+        f"read {path} 0 40": 9,
+        "tick": 1,
         f"mv {path} {path}x": 3,
         f"mv {path}x {path}": 2,
         f"rm {path}": 3,
@@ -1059,8 +1060,8 @@ def is_read_only(program, path, chance):
     text = KEPT + b"mkd"
     kept_file(path, text)
     before = sorted(os.listdir(os.path.dirname(path)))
-    script = b"ls /\nmkdir /c\nrollingUpgrade query\nwhat\nrestart master\nls /\n"
-    wanted = [b"ok a/ b/", b"refused 40 ReadOnly", b"ok", b"refused 34 BadLine", b"refused 40 ReadOnly", b"ok a/ b/"]
+    script = b"ls /\nmkdir /c\nrollingUpgrade query\nwhat\nrestart master\ntick\nls /\n"
+    wanted = [b"ok a/ b/", b"refused 40 ReadOnly", b"ok", b"refused 34 BadLine", *[b"refused 40 ReadOnly"] * 2, b"ok a/ b/"]
     pipe = subprocess.PIPE
     run = subprocess.run([program, path, "--read-only"], input=script, stdout=pipe, stderr=pipe, timeout=60, preexec_fn=limit)
     answers = run.stdout.splitlines()
@@ -1118,10 +1119,13 @@ def needs_a_lab(program, path, chance):
     wrong = unlike(path, KEPT)
     if wrong:
         return wrong
+    status, answered, said = ended(program, [path], b"tick\n")
+    if status or answered != b"ok\n":
+        return f"of a line that harms nothing the status is {status}: {answered!r} {said}"
     status, answered, said = ended(program, [path, "--lab"], b"restart master\n")
     if status or b"NeedsLab" in answered:
         return f"with --lab the status is {status}: {answered!r} {said}"
-    return lines_unlike(path, KEPT + b"restart master\n") or goes_on(program, path, "ab")
+    return lines_unlike(path, KEPT + b"tick\nrestart master\n") or goes_on(program, path, "ab")
 
 
 def no_memory_for_a_line(program, path, chance):

@@ -42,7 +42,7 @@ KINDS = (
 UPGRADES = ("query", "prepare", "finalize", "rollback")
 STEPS = ("prepare-begin", "prepare-commit", "rollback-begin", "rollback-commit")
 # Lines about nodes and messages, which a store in threads doesn't take.
-OF_NODES = ("beat", "restart", "lose", "damage", "hold", "deliver")
+OF_NODES = ("beat", "tick", "restart", "lose", "damage", "hold", "deliver")
 
 
 @dataclass(frozen=True)
@@ -79,6 +79,7 @@ ARGUMENTS: dict[str, tuple[Callable, ...]] = {
     "at": (number_of,),
     "scan": (),
     "beat": (number_of,),
+    "tick": (),
     "replicate": (),
     "lose": (number_of, number_of),
     "damage": (number_of, number_of, number_of),

@@ -39,6 +39,8 @@ HALVES = {"rollingUpgrade prepare": ("prepare-begin", "prepare-commit"), "rollin
 # Messages that are held back: four times in five of these kinds, since most lines have some. They are held for so many lines at most.
 OFTEN_HELD = 3 * ("call", "reply", "push", "edit", "forward", "ack", "done") + ("advance", "promised", "grant", "epoch", "learned")
 MOST_HELD_LINES = 3
+# Of the lines that look at one file, and that no later line hangs on, so many are a `tick` instead.
+TICKED = 0.2
 # Lines that are none, or whose path is none.
 STRAYS = (
     *("", "ls", "ls  /", "ls /a/", "LS /", "at +7", "append /a 6", "rm -R /a", "scan 1", "hold on nothing", "restart Master"),
@@ -237,12 +239,18 @@ class Writer:
         self.lines.append(self.chance.choice(STRAYS))
 
 
+def with_ticks(lines: list[str], chance: random.Random) -> list[str]:
+    """The same lines, where all nodes tick in the place of some looks. No other line of a seed changes for it."""
+    return ["tick" if line.startswith(("stat ", "digest ")) and chance.random() < TICKED else line for line in lines]
+
+
 def random_script(seed: int, length: int, in_threads: bool) -> tuple[Sizes, list[str]]:
     """The sizes and the lines of a seed. In one script of four nothing goes wrong, and in one calls are late alone."""
     chance = random.Random(seed)
     servers, block = chance.randint(1, 5), chance.choice((2, 4))
     sizes = Sizes(servers, chance.randint(1, 3), chance.randint(1, min(servers, 3)), block * 4, block, in_threads)
-    return sizes, Writer(chance, sizes, chance.choice((CALM, TROUBLED, TROUBLED, LATE))).script(length)
+    lines = Writer(chance, sizes, chance.choice((CALM, TROUBLED, TROUBLED, LATE))).script(length)
+    return sizes, with_ticks(lines, random.Random(f"{seed} ticks"))
 
 
 # ---- answers that are turned

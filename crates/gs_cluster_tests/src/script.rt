@@ -100,8 +100,8 @@ const SCRIPTS: [(&'static [u8], &'static str); 7] = [
     ),
     // Lines that are refused, those about nodes and messages among them.
     (
-        b"frob\nmkdir\nwrite /f 0 6\nrm /x\nrm /\nread /x 0 1\nundelete /x\nmkdir /a/b\nrm /a\nhold on forward\nbeat 0\nrestart master\nlose 0 1\n",
-        "refused 34 BadLine\nrefused 34 BadLine\nrefused 34 BadLine\nok false\nrefused 9 IsRoot\nrefused 3 NotFound\nrefused 38 NotHidden\nok\nrefused 7 NotEmpty\nrefused 34 BadLine\nrefused 34 BadLine\nrefused 34 BadLine\nrefused 34 BadLine\n",
+        b"frob\nmkdir\nwrite /f 0 6\nrm /x\nrm /\nread /x 0 1\nundelete /x\nmkdir /a/b\nrm /a\nhold on forward\nbeat 0\ntick\nrestart master\nlose 0 1\n",
+        "refused 34 BadLine\nrefused 34 BadLine\nrefused 34 BadLine\nok false\nrefused 9 IsRoot\nrefused 3 NotFound\nrefused 38 NotHidden\nok\nrefused 7 NotEmpty\nrefused 34 BadLine\nrefused 34 BadLine\nrefused 34 BadLine\nrefused 34 BadLine\nrefused 34 BadLine\n",
     ),
 ];
 

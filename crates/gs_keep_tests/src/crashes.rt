@@ -215,13 +215,19 @@ fn each_crash_is_gone_on_from(rt: HostRuntime) -> Result<(), Fail> {
     Ok(())
 }
 
-// A line that harms the store isn't taken, and isn't logged.
+// A line that harms the store isn't taken, and isn't logged. One that has all nodes tick is.
 #[test]
 fn a_line_that_harms_is_turned_away(rt: HostRuntime) -> Result<(), Fail> {
-    let ran = kept_on(rt.alloc(), b"", b"restart master\nmkdir /a\n", 64, NO_FAULT)?;
-    assert!(rt; ran.answers.starts_with(b"refused 39 NeedsLab\nok\n"));
+    let ran = kept_on(
+        rt.alloc(),
+        b"",
+        b"restart master\ntick\nmkdir /a\n",
+        64,
+        NO_FAULT,
+    )?;
+    assert!(rt; ran.answers.starts_with(b"refused 39 NeedsLab\nok\nok\n"));
     let log = ran.log.left(0)?;
-    assert!(rt; unmarked(rt.alloc(), &log)?.starts_with(b"mkdir /a\n"));
+    assert!(rt; unmarked(rt.alloc(), &log)?.starts_with(b"tick\nmkdir /a\n"));
     Ok(())
 }
 

@@ -8,7 +8,7 @@ ghost use Rattle.gs_laws_chunks.specs.answers.Answered.{AnswersAreMade};
 ghost use Rattle.gs_laws_chunks.specs.answers.Asked.{BeginsAsked, ScriptsAsked, StaysAsked, StaysAskedUnarmed};
 ghost use Rattle.gs_laws_chunks.specs.answers.Behind.{ListsAreByCommits};
 ghost use Rattle.gs_laws_chunks.specs.answers.Calm.{CommitsAreCalm, StaysCalm};
-ghost use Rattle.gs_laws_chunks.specs.answers.Changed.{ChangesLeaveStill, ChangesStayCalm, ChangesStayUnderWay, RefusedChangesLeaveStill};
+ghost use Rattle.gs_laws_chunks.specs.answers.Changed.{ChangesAreNeverOld, ChangesLeaveStill, ChangesStayCalm, ChangesStayUnderWay, RefusedChangesLeaveStill};
 ghost use Rattle.gs_laws_chunks.specs.answers.Replied.{BeginsReplied, StaysReplied};
 ghost use Rattle.gs_laws_chunks.specs.answers.Resting.{StaysStill};
 ghost use Rattle.gs_laws_chunks.specs.answers.Served.{BeginsServed, CallsAreForTheMaster, RefusalsAreMade, ScriptsServed, StaysServed};
@@ -79,7 +79,7 @@ fn what_is_listed_behind_a_commit_is_by_the_names_then<D>()
     ensures { (seen : D → List ℕ) (failures : D → ℕ) (armed : DiskId → ℕ → MasterPlace D → MasterPlace D) → ListsAreByCommits seen failures armed }
 {}
 
-/// The same three laws hold of each call that is answered by itself: of which each new one gets one reply by the event that brings it, while no other call is answered, and none begins to wait. So they hold of a new directory, a new file, a rename and an undelete too.
+/// The same three laws hold of each call that is answered by itself: of which each new one gets one reply by the event that brings it, while no other call is answered, and none begins to wait. So they hold of a new directory, a new file, a rename, a deletion and an undelete too.
 /// An answer was made for its call, since the client asked. A refusal was told in the turn of its call, or the master tells it without judging the call. And the client has no reply of a server.
 fn a_call_that_is_answered_by_itself_has_its_reply<D>()
     ensures answers { (seen : D → List ℕ) (failures : D → ℕ) (armed : DiskId → ℕ → MasterPlace D → MasterPlace D) → LoneAnswersAreMade seen failures armed }
@@ -87,12 +87,14 @@ fn a_call_that_is_answered_by_itself_has_its_reply<D>()
     ensures servers { (seen : D → List ℕ) (failures : D → ℕ) (armed : DiskId → ℕ → MasterPlace D → MasterPlace D) → LoneCallsAreForTheMaster seen failures armed }
 {}
 
-/// A client asks for a new directory, a new file, a rename or an undelete where no call waits, and all that was called before has a number that it has had. As long as it asks nothing else but look-ups, the old names stand at the master, or the new ones with the number of the call had.
+/// A client asks for a new directory, a new file, a rename, a deletion or an undelete where no call waits, and all that was called before has a number that it has had. As long as it asks nothing else but look-ups, the old names stand at the master, or the new ones with the number of the call had.
 /// Once it has the answer, the new names stand, with the phase and the epoch of before, no call waits, and all that was called has a number that the client has had. Once it has a refusal that is kept and is sure, the old names stand so. No prepare is begun meanwhile, unless a disk fails, where none was.
+/// It isn't refused since its request is an old one (19), as long as the client asks nothing else. A deletion is of the moment of a step since it was asked, and takes the number of the next one.
 /// So it is whatever else comes, how often, and in which order, and whatever disks fail.
 fn a_change_of_the_tree_leaves_a_store_still<D>()
     ensures under_way { (seen : D → List ℕ) (failures : D → ℕ) (armed : DiskId → ℕ → MasterPlace D → MasterPlace D) → ChangesStayUnderWay seen failures armed }
     ensures answered { (seen : D → List ℕ) (failures : D → ℕ) (armed : DiskId → ℕ → MasterPlace D → MasterPlace D) → ChangesLeaveStill seen failures armed }
     ensures refused { (seen : D → List ℕ) (failures : D → ℕ) (armed : DiskId → ℕ → MasterPlace D → MasterPlace D) → RefusedChangesLeaveStill seen failures armed }
+    ensures new { (seen : D → List ℕ) (failures : D → ℕ) (armed : DiskId → ℕ → MasterPlace D → MasterPlace D) → ChangesAreNeverOld seen failures armed }
     ensures calm { (seen : D → List ℕ) (failures : D → ℕ) (armed : DiskId → ℕ → MasterPlace D → MasterPlace D) → ChangesStayCalm seen failures armed }
 {}

@@ -1,7 +1,7 @@
 //! Whom the master answers: each reply that it sends, keeps or records is to the call that comes, or to one that has waited.
 
 ghost use Rattle.gs_laws_moves.specs.answers.AtOnce.{AnswersAtOnce};
-ghost use Rattle.gs_laws_moves.specs.answers.Changes.{ChangesAnswerAtOnce, ChangesAreMade, RefusedChangesLeaveNames};
+ghost use Rattle.gs_laws_moves.specs.answers.Changes.{ChangesAnswerAtOnce, ChangesAreMade, RefusedChangesLeaveNames, ChangesAreNotOld};
 ghost use Rattle.gs_laws_moves.specs.answers.Concerned.{CheckpointsAnswerNobody, KeptAreTold, MessagesAnswerConcerned, StepsAnswerConcerned, TicksAnswerConcerned};
 ghost use Rattle.gs_laws_moves.specs.answers.Resting.{CommitsAreHad, ListsAreAnswered, LooksLeaveNames};
 
@@ -34,10 +34,11 @@ fn looks_leave_names_and_commits_are_had()
     ensures commits { CommitsAreHad }
 {}
 
-/// A new directory, a new file, a rename and an undelete are answered at once where they are new: such a call gets one reply by the event that brings it, no other call is answered, and none begins to wait. Where it is accepted, and its record fits,
-/// the names are those of its edit, the phase and the epoch are what they were, and its client has had its reply. Where it is refused nothing changes but what is kept of it.
+/// A new directory, a new file, a rename, a deletion and an undelete are answered at once where they are new: such a call gets one reply by the event that brings it, no other call is answered, and none begins to wait. Where it is accepted, and its record fits,
+/// the names are those of its edit, the phase and the epoch are what they were, and its client has had its reply. A deletion takes a number, unless nothing stands at its path: then the names stay. Where it is refused nothing changes but what is kept of it. None that is judged is told that its request is an old one.
 fn changes_are_answered_at_once_and_had()
     ensures at_once { ChangesAnswerAtOnce }
     ensures made { ChangesAreMade }
     ensures refused { RefusedChangesLeaveNames }
+    ensures new { ChangesAreNotOld }
 {}

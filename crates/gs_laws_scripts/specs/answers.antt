@@ -1,3 +1,4 @@
 pub mod Meeting
 pub mod Plain
 pub mod Laws
+pub mod Room

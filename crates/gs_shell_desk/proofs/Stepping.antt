@@ -12,6 +12,7 @@ use Rattle.gs_shell_grammar.specs.declared.command.Command.TheVariants as comman
 -- what none of the lines is that are about nodes and messages asks something
 pub asks_something : (size : ℕ) (c : Command) (none other : Type 0) (some : Call Answer → Type 0)
     → ((n : ℕ) → c ≡ command.Beat n → ⊥)
+    → (c ≡ command.Tick → ⊥)
     → ((n : ℕ) → c ≡ command.At n → ⊥)
     → ((n : Restarted) → c ≡ command.Restart n → ⊥)
     → ((n : ℕ) (h : ℕ) → c ≡ command.Lose n h → ⊥)
@@ -19,26 +20,27 @@ pub asks_something : (size : ℕ) (c : Command) (none other : Type 0) (some : Ca
     → ((k : Option Kind) → c ≡ command.Hold k → ⊥)
     → ((n : ℕ) → c ≡ command.Deliver n → ⊥)
     → MatchOption (asked_by size (request_of c)) none some → MatchOption (asked_by size (request_of c)) other some
-asks_something size (command.Mkdir p) none other some beat moment restart lose damage hold deliver so = so
-asks_something size (command.Create p) none other some beat moment restart lose damage hold deliver so = so
-asks_something size (command.Ls p) none other some beat moment restart lose damage hold deliver so = so
-asks_something size (command.Stat p) none other some beat moment restart lose damage hold deliver so = so
-asks_something size (command.Mv p q) none other some beat moment restart lose damage hold deliver so = so
-asks_something size (command.Rm p r) none other some beat moment restart lose damage hold deliver so = so
-asks_something size (command.Undelete p) none other some beat moment restart lose damage hold deliver so = so
-asks_something size (command.Snapshot p q) none other some beat moment restart lose damage hold deliver so = so
-asks_something size (command.Write p o b) none other some beat moment restart lose damage hold deliver so = so
-asks_something size (command.Append p b) none other some beat moment restart lose damage hold deliver so = so
-asks_something size (command.Read p o m) none other some beat moment restart lose damage hold deliver so = so
-asks_something size (command.Digest p k b) none other some beat moment restart lose damage hold deliver so = so
-asks_something size command.Scan none other some beat moment restart lose damage hold deliver so = so
-asks_something size command.Replicate none other some beat moment restart lose damage hold deliver so = so
-asks_something size (command.Upgrade u) none other some beat moment restart lose damage hold deliver so = so
-asks_something size (command.Step u) none other some beat moment restart lose damage hold deliver so = so
-asks_something size (command.Beat n) none other some beat moment restart lose damage hold deliver so = absurd (beat n refl)
-asks_something size (command.At n) none other some beat moment restart lose damage hold deliver so = absurd (moment n refl)
-asks_something size (command.Restart n) none other some beat moment restart lose damage hold deliver so = absurd (restart n refl)
-asks_something size (command.Lose n h) none other some beat moment restart lose damage hold deliver so = absurd (lose n h refl)
-asks_something size (command.Damage n h b) none other some beat moment restart lose damage hold deliver so = absurd (damage n h b refl)
-asks_something size (command.Hold k) none other some beat moment restart lose damage hold deliver so = absurd (hold k refl)
-asks_something size (command.Deliver n) none other some beat moment restart lose damage hold deliver so = absurd (deliver n refl)
+asks_something size (command.Mkdir p) none other some beat tick moment restart lose damage hold deliver so = so
+asks_something size (command.Create p) none other some beat tick moment restart lose damage hold deliver so = so
+asks_something size (command.Ls p) none other some beat tick moment restart lose damage hold deliver so = so
+asks_something size (command.Stat p) none other some beat tick moment restart lose damage hold deliver so = so
+asks_something size (command.Mv p q) none other some beat tick moment restart lose damage hold deliver so = so
+asks_something size (command.Rm p r) none other some beat tick moment restart lose damage hold deliver so = so
+asks_something size (command.Undelete p) none other some beat tick moment restart lose damage hold deliver so = so
+asks_something size (command.Snapshot p q) none other some beat tick moment restart lose damage hold deliver so = so
+asks_something size (command.Write p o b) none other some beat tick moment restart lose damage hold deliver so = so
+asks_something size (command.Append p b) none other some beat tick moment restart lose damage hold deliver so = so
+asks_something size (command.Read p o m) none other some beat tick moment restart lose damage hold deliver so = so
+asks_something size (command.Digest p k b) none other some beat tick moment restart lose damage hold deliver so = so
+asks_something size command.Scan none other some beat tick moment restart lose damage hold deliver so = so
+asks_something size command.Replicate none other some beat tick moment restart lose damage hold deliver so = so
+asks_something size (command.Upgrade u) none other some beat tick moment restart lose damage hold deliver so = so
+asks_something size (command.Step u) none other some beat tick moment restart lose damage hold deliver so = so
+asks_something size (command.Beat n) none other some beat tick moment restart lose damage hold deliver so = absurd (beat n refl)
+asks_something size command.Tick none other some beat tick moment restart lose damage hold deliver so = absurd (tick refl)
+asks_something size (command.At n) none other some beat tick moment restart lose damage hold deliver so = absurd (moment n refl)
+asks_something size (command.Restart n) none other some beat tick moment restart lose damage hold deliver so = absurd (restart n refl)
+asks_something size (command.Lose n h) none other some beat tick moment restart lose damage hold deliver so = absurd (lose n h refl)
+asks_something size (command.Damage n h b) none other some beat tick moment restart lose damage hold deliver so = absurd (damage n h b refl)
+asks_something size (command.Hold k) none other some beat tick moment restart lose damage hold deliver so = absurd (hold k refl)
+asks_something size (command.Deliver n) none other some beat tick moment restart lose damage hold deliver so = absurd (deliver n refl)

@@ -17,7 +17,7 @@ use Rattle.gs_server.specs.Servers as servers
 use Rattle.gs_nodes.specs.Happenings.{AtServer, Reopens}
 use Rattle.gs_nodes.specs.Nodes.{Nodes, with_master}
 use Rattle.gs_nodes.specs.declared.place.MasterPlace.{MasterPlace}
-use Rattle.gs_shell_desk.specs.Ways.{Carries, DeliversWhole, Ends, IsDelivered, Sends, Way, shortened, way_of, with_nodes}
+use Rattle.gs_shell_desk.specs.Ways.{Carries, DeliversWhole, Ends, IsDelivered, Sends, TicksWhole, Way, shortened, way_of, with_nodes}
 use Rattle.gs_shell_desk.specs.declared.desk.Desk.{Desk}
 use Rattle.gs_shell_desk.specs.declared.wire.Wire.{Wire}
 use Rattle.gs_shell_calls.specs.Asked.{answered, asked_by, done}
@@ -109,6 +109,7 @@ BeatsAt seen failures number old result new = ForServer number (BeatsOf seen fai
 abbrev pub NodesDo : {D : Type 0} → (D → List ℕ) → (D → ℕ) → Request → Way D → Result Answer Refusal → Way D → Type 0
 NodesDo {D} seen failures (lines.Beat number) old result new =
     (drops : Result ℕ Refusal) × BeatsAt seen failures number old drops new × (result ≡ answered answers.Number drops)
+NodesDo seen failures lines.Tick old result new = (result ≡ Ok answers.Done) × TicksWhole seen failures old new
 NodesDo seen failures (lines.At moment) old result new = (result ≡ Ok answers.Done) × (new ≡ record old { moment = record { 0 = moment } })
 NodesDo seen failures (lines.Hold kind) old result new = (result ≡ Ok answers.Done) × (new ≡ record old { kind = kind })
 NodesDo seen failures (lines.Restart node) old result new = IsDone (Restarts seen failures node old) result new

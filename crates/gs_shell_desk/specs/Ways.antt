@@ -154,6 +154,10 @@ ServersTick {D} (suc server) old new = (mid : Way D) × ServersTick server old m
 abbrev pub AllTick : {D : Type 0} → (D → List ℕ) → (D → ℕ) → Way D → Way D → Type 0
 AllTick {D} seen failures old new = (mid : Way D) × MasterTicked seen failures old mid × ServersTick (min (length old.nodes.servers) 16) mid new
 
+-- all tick once, and what follows is delivered
+abbrev pub TicksWhole : {D : Type 0} → (D → List ℕ) → (D → ℕ) → Way D → Way D → Type 0
+TicksWhole {D} seen failures old new = (mid : Way D) × AllTick seen failures old mid × DeliversWhole seen failures mid new
+
 -- ---- a request
 
 -- what came back, if something did
@@ -169,7 +173,7 @@ Waits client w waits = MatchOption (client_in w.nodes.clients client) (waits ≡
 -- where there is no answer all tick once, and again all is delivered
 abbrev pub TicksIf : {D : Type 0} → (D → List ℕ) → (D → ℕ) → Bool → Way D → Way D → Type 0
 TicksIf seen failures false old new = new ≡ old
-TicksIf {D} seen failures true old new = (mid : Way D) × AllTick seen failures old mid × DeliversWhole seen failures mid new
+TicksIf seen failures true old new = TicksWhole seen failures old new
 
 abbrev pub Waited : {D : Type 0} → (D → List ℕ) → (D → ℕ) → ClientId → Way D → Way D → Type 0
 Waited seen failures client old new = (waits : Bool) × Waits client old waits × TicksIf seen failures waits old new

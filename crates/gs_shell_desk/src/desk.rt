@@ -87,6 +87,7 @@ impl<D: Disk + Drop> Desk<D> {
     {
         match command {
             Command::Beat(server) => self.beat(server),
+            Command::Tick => self.tick(),
             Command::At(moment) => self.set_moment(moment),
             Command::Restart(node) => self.restart(node),
             Command::Lose { server, handle } => self.lose(server, handle),

@@ -2,7 +2,7 @@
 ghost use Rattle.std.specs.Prelude.{◌≡◌, ◌⊎◌, Ok, Err, MatchOption, IfSome, IfNone, true, false};
 ghost use Rattle.gs_base.specs.declared.refusal.Refusal.TheVariants as refusals;
 ghost use Rattle.gs_shell_desk.specs.Lines.{BeatsAt, Damages, HandsOverAt, Loses, MasterRestarts, NodesDo, Restarts, held_at, is_server};
-ghost use Rattle.gs_shell_desk.specs.Ways.{way_of};
+ghost use Rattle.gs_shell_desk.specs.Ways.{TicksWhole, way_of};
 ghost use Rattle.gs_shell_grammar.specs.Grammar as lines;
 
 use crate::desk::Desk;
@@ -42,6 +42,14 @@ impl<D: Disk + Drop> Desk<D> {
         ensures does { NodesDo D.seen D.failures (lines.Beat server) (way_of self.old.wire) result (way_of self.new.wire) }
     {
         gs_shell_calls::number(self.wire.beat(server))
+    }
+
+    pub(crate) fn tick(&mut self) -> Result<Answer, Refusal>
+        ensures client { self.new.caller.client ≡ self.old.caller.client }
+        ensures does { NodesDo D.seen D.failures lines.Tick (way_of self.old.wire) result (way_of self.new.wire) }
+    {
+        self.wire.tick();
+        Ok(Answer::Done)
     }
 
     pub(crate) fn restart(&mut self, node: Restarted) -> Result<Answer, Refusal>
@@ -128,6 +136,14 @@ impl<D: Disk + Drop> Wire<D> {
         self.send(report);
         self.deliver_all();
         Ok(self.drops)
+    }
+
+    /// All nodes tick once, the master first, and what follows is delivered. What a node refuses isn't told, but that memory was wanting is noted.
+    fn tick(&mut self)
+        ensures { TicksWhole D.seen D.failures (way_of self.old) (way_of self.new) }
+    {
+        self.tick_all();
+        self.deliver_all();
     }
 
     fn restart(&mut self, node: Restarted) -> Result<(), Refusal>

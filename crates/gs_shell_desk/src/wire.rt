@@ -225,7 +225,7 @@ impl<D: Disk + Drop> Wire<D> {
     }
 
     /// The master and all servers tick once, in this order.
-    fn tick_all(&mut self)
+    pub(crate) fn tick_all(&mut self)
         ensures { AllTick D.seen D.failures (way_of self.old) (way_of self.new) }
     {
         let many = self.nodes.servers.len().min(16) as u64;

@@ -39,6 +39,7 @@ asks_as_ever size (command.Upgrade u) stays some old new result moment upgrade s
 asks_as_ever size (command.Step s) stays some old new result moment upgrade step so = absurd (step s refl)
 asks_as_ever size (command.At n) stays some old new result moment upgrade step so = absurd (moment n refl)
 asks_as_ever size (command.Beat n) stays some old new result moment upgrade step so = (so.1, (so.0, so.2))
+asks_as_ever size command.Tick stays some old new result moment upgrade step so = (so.1, (so.0, so.2))
 asks_as_ever size (command.Restart n) stays some old new result moment upgrade step so = (so.1, (so.0, so.2))
 asks_as_ever size (command.Lose n h) stays some old new result moment upgrade step so = (so.1, (so.0, so.2))
 asks_as_ever size (command.Damage n h b) stays some old new result moment upgrade step so = (so.1, (so.0, so.2))

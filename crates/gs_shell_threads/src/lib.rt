@@ -75,7 +75,7 @@ fn serve<
 ///
 /// A line is answered when all that it asks of the nodes has come back, however long they work on it. Where nothing comes of a request, since a
 /// node has no memory for it, it is given up when nothing is under way any more. Lines about nodes and messages (`hold`, `deliver`, `beat`,
-/// `restart`, `lose`, `damage`) are `refused 34 BadLine`. Where a prepare or a rollback can't be committed yet, since a
+/// `tick`, `restart`, `lose`, `damage`) are `refused 34 BadLine`. Where a prepare or a rollback can't be committed yet, since a
 /// chunk isn't quiet or nobody has named it, the commit is asked for again, up to 10,000 times in all.
 ///
 /// A read or a write that fails ends the run as [`gs_shell_script::run`] says; the store is ended then too. Where memory or a thread is

@@ -347,6 +347,22 @@ const LOST_AND_HELD_MESSAGES: [Row<'static>; 5] = [
     ),
 ];
 
+/// Lines that have all nodes tick.
+const TICKS: [Row<'static>; 3] = [
+    // A new store has nothing to do. Two words are no such line.
+    (b"tick\ntick 0\nls /\n", "ok\nrefused 34 BadLine\nok\n"),
+    // At the master: a copy that waits for servers which haven't answered is given up, and its lock with it.
+    (
+        b"create /f\nwrite /f 0 61\nhold on call\nsnapshot /f /g\nhold on advance\ndeliver 1\nls /f\ntick\nls /\n",
+        "ok\nok\nok\nrefused 29 Unsure\nok\nok\nrefused 10 Locked\nok\nok f\n",
+    ),
+    // At a server: an edit that stands at the primary alone goes to the others, and is read there.
+    (
+        b"create /f\nwrite /f 0 61\nhold on forward\nwrite /f 1 62\nhold off\ntick\nlose 0 1\nread /f 0 2\n",
+        "ok\nok\nok\nrefused 29 Unsure\nok\nok\nok\nok 6162\n",
+    ),
+];
+
 /// Nodes that begin again.
 const RESTARTS: [Row<'static>; 2] = [
     // A server begins again, and goes on with the replica that it kept.
@@ -399,6 +415,7 @@ fn scripts_are_answered(rt: HostRuntime) -> Result<(), Fail> {
         ("copies", (3, 4), COPIES.as_slice()),
         ("two of three", (2, 4), TWO_OF_THREE.as_slice()),
         ("lost and held", (3, 4), LOST_AND_HELD_MESSAGES.as_slice()),
+        ("ticks", (3, 4), TICKS.as_slice()),
         ("restarts", (3, 4), RESTARTS.as_slice()),
         ("bad lines", (3, 4), BAD_LINES.as_slice()),
     ] {

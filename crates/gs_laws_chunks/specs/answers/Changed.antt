@@ -16,19 +16,17 @@ use Rattle.gs_msg.specs.declared.call.Call.{Call}
 use Rattle.gs_msg.specs.declared.event.DiskId.{DiskId}
 use Rattle.gs_msg.specs.declared.message.Message.{Message}
 use Rattle.gs_msg.specs.declared.message.MsgId.{MsgId}
-use Rattle.gs_master_record.specs.Plain.{PlainEdit}
 use Rattle.gs_master_spec.specs.Durable.{Durable}
 use Rattle.gs_master_spec.specs.Handling.{new_call}
 use Rattle.gs_master_spec.specs.State.{State, is_kept}
-use Rattle.gs_master_spec.specs.Undoing.{edited_names}
 use Rattle.gs_laws_moves.specs.answers.AtOnce.{OneSays}
-use Rattle.gs_laws_moves.specs.answers.Changes.{Changes, edit_for}
+use Rattle.gs_laws_moves.specs.answers.Changes.{Changes, edit_for, number_after, is_change, names_after}
 use Rattle.gs_laws_moves.specs.answers.Resting.{is_look}
 use Rattle.gs_nodes.specs.Happenings.{client_in}
 use Rattle.gs_nodes.specs.declared.place.MasterPlace.{MasterPlace}
 use Rattle.gs_nodes.specs.declared.place.MasterPlace.TheVariants.{Standing}
 use Rattle.gs_world.specs.Histories.{History}
-use Rattle.gs_world.specs.Runs.{RunsTo, Step}
+use Rattle.gs_world.specs.Runs.{Comes, RunsTo, Step, Takes}
 use Rattle.gs_world.specs.Sent.{message_of}
 use Rattle.gs_laws_chunks.specs.answers.Answered.{AsksFresh}
 use Rattle.gs_laws_chunks.specs.answers.Asked.{AreAsked, IsNumbered}
@@ -59,16 +57,18 @@ pub record IsSo {D : Type 0} (So : ReqId → Call → Type 0) (Such : State → 
 
 -- ---- a change that is under way
 
--- The names are those that an edit makes of others, and the phase and the epoch are what they were.
-pub record IsEdited (edit : PlainEdit) (d e : Durable) : Type 0 where
-  pub names : edited_names edit d.names ≡ Ok e.names
+-- The names are those that a call makes of others at a moment, and so is the number of the next deletion. The phase and the epoch are what they were.
+pub record IsEdited (moment : Moment) (call : Call) (d e : Durable) : Type 0 where
+  pub names : names_after (edit_for d moment call) d.names ≡ Ok e.names
+  pub hidden : e.next_hidden ≡ number_after (edit_for d moment call) d.next_hidden
   pub phase : e.phase ≡ d.phase
   pub epoch : e.epoch ≡ d.epoch
 
--- Such names stand, no call waits, and the client has had its request of this number, or a later one.
-pub record StandsEdited (d : Durable) (edit : PlainEdit) (client : ClientId) (number : ℕ) (s : State) : Type 0 where
+-- Such names stand, of some moment, no call waits, and the client has had its request of this number, or a later one.
+pub record StandsEdited (d : Durable) (call : Call) (client : ClientId) (number : ℕ) (s : State) : Type 0 where
   pub durable : Durable
-  pub edited : IsEdited edit d durable
+  pub moment : Moment
+  pub edited : IsEdited moment call d durable
   pub still : StandsStill durable client number s
 
 -- a call is of this client: it is the one that was asked, or it looks, or it is older
@@ -76,32 +76,38 @@ abbrev pub IsOwnLooksOrOld : ClientId → ℕ → ReqId → Call → ReqId → C
 IsOwnLooksOrOld client number req call other said = (other.client ≡ client) × (((other.number ≤ number) × (other.number ≤ req.number)) ⊎ ((is_look said ≡ true) ⊎ ((other ≡ req) × (said ≡ call))))
 
 -- The old names stand, or the new ones with the number had.
-abbrev pub StandsEither : Durable → PlainEdit → ClientId → ℕ → ReqId → State → Type 0
-StandsEither d edit client number req s = StandsStill d client number s ⊎ StandsEdited d edit client req.number s
+abbrev pub StandsEither : Durable → ClientId → ℕ → ReqId → Call → State → Type 0
+StandsEither d client number req call s = StandsStill d client number s ⊎ StandsEdited d call client req.number s
 
-abbrev pub IsUnderWay : {D : Type 0} → Durable → PlainEdit → ClientId → ℕ → ReqId → Call → History D → Type 0
-IsUnderWay d edit client number req call h = IsSo (IsOwnLooksOrOld client number req call) (StandsEither d edit client number req) h
+abbrev pub IsUnderWay : {D : Type 0} → Durable → ClientId → ℕ → ReqId → Call → History D → Type 0
+IsUnderWay d client number req call h = IsSo (IsOwnLooksOrOld client number req call) (StandsEither d client number req call) h
 
 -- ---- behind its reply
 
--- The call had its turn as a new one, where the old names stood, and this was said to it.
-pub record HadItsTurn (d : Durable) (client : ClientId) (number : ℕ) (req : ReqId) (call : Call) (result : Result Answer Refusal) : Type 0 where
+-- a step is at this moment, or it is of no moment
+abbrev pub IsAt : Moment → Step → Type 0
+IsAt now (Comes event) = event.moment ≡ now
+IsAt now (Takes client) = Unit {0}
+
+-- The call had its turn as a new one, where the old names stood, and this was said to it. Its moment is that of one of the steps since it was asked.
+pub record HadItsTurn (d : Durable) (client : ClientId) (number : ℕ) (req : ReqId) (call : Call) (result : Result Answer Refusal) (steps : List Step) : Type 0 where
   pub config : Config
   pub state : State
   pub moment : Moment
   pub stood : StandsStill d client number state
   pub says : OneSays req result (new_call config state req moment call).sent
+  pub since : (now : Moment) → AllByRecursion (IsAt now) steps → moment ≡ now
 
--- Behind that turn the names are those of the edit. They are what stands, and nothing of before changes them.
-pub record IsChanged {D : Type 0} (d : Durable) (edit : PlainEdit) (client : ClientId) (number : ℕ) (req : ReqId) (call : Call) (answer : Answer) (h : History D) : Type 0 where
-  pub turn : HadItsTurn d client number req call (Ok answer)
-  pub changes : Changes turn.state req edit (new_call turn.config turn.state req turn.moment call)
-  pub edited : IsEdited edit d (new_call turn.config turn.state req turn.moment call).after.durable
+-- Behind that turn the names are those that the call makes. They are what stands, and nothing of before changes them.
+pub record IsChanged {D : Type 0} (d : Durable) (client : ClientId) (number : ℕ) (req : ReqId) (call : Call) (answer : Answer) (steps : List Step) (h : History D) : Type 0 where
+  pub turn : HadItsTurn d client number req call (Ok answer) steps
+  pub changes : Changes turn.state req (edit_for turn.state.durable turn.moment call) (new_call turn.config turn.state req turn.moment call)
+  pub edited : IsEdited turn.moment call d (new_call turn.config turn.state req turn.moment call).after.durable
   pub still : IsStill (new_call turn.config turn.state req turn.moment call).after.durable client req.number h
 
 -- The old names are what stands, and nothing of before changes them.
-pub record IsLeft {D : Type 0} (d : Durable) (client : ClientId) (number : ℕ) (req : ReqId) (call : Call) (refusal : Refusal) (h : History D) : Type 0 where
-  pub turn : HadItsTurn d client number req call (Err refusal)
+pub record IsLeft {D : Type 0} (d : Durable) (client : ClientId) (number : ℕ) (req : ReqId) (call : Call) (refusal : Refusal) (steps : List Step) (h : History D) : Type 0 where
+  pub turn : HadItsTurn d client number req call (Err refusal) steps
   pub still : IsStill d client req.number h
 
 -- ---- what is to hold
@@ -125,22 +131,26 @@ module _ {D : Type 0} (seen : D → List ℕ) (failures : D → ℕ) (armed : Di
 
   -- A client asks for such a change where no call waits, and all that was called before has a number that it has had. From then on the old names stand, or the new ones with the number had, as long as the client asks nothing else but look-ups.
   abbrev pub ChangesStayUnderWay : Type 0
-  ChangesStayUnderWay = (d : Durable) (client : ClientId) (number : ℕ) (old asked new : History D) (moment : Moment) (req : ReqId) (call : Call) (edit : PlainEdit) (steps : List Step) → edit_for call ≡ Some edit → AreAsked seen old → KeepsTypes old → LastsThrough seen old.nodes.master →
+  ChangesStayUnderWay = (d : Durable) (client : ClientId) (number : ℕ) (old asked new : History D) (moment : Moment) (req : ReqId) (call : Call) (steps : List Step) → is_change call ≡ true → AreAsked seen old → KeepsTypes old → LastsThrough seen old.nodes.master →
       IsStill d client number old → req.client ≡ client → AsksFresh seen failures armed old moment req call asked → RunsTo seen failures armed steps asked new → AllByRecursion IsStepWithin (asks_call moment req call ∷ steps) → AllByRecursion (IsLooking client) steps →
-      IsUnderWay d edit client number req call new
+      IsUnderWay d client number req call new
 
   -- Where it has the answer, the new names stand, no call waits, and all that was called before has a number that the client has had.
   abbrev pub ChangesLeaveStill : Type 0
-  ChangesLeaveStill = (d : Durable) (client : ClientId) (number : ℕ) (old mid : History D) (call : Call) (edit : PlainEdit) (answer : Answer) → edit_for call ≡ Some edit → AreAsked seen old → KeepsTypes old → LastsThrough seen old.nodes.master → IsStill d client number old →
-      (c : HasAnswer seen failures armed client old call answer mid) → IsChanged d edit client number c.req call answer mid
+  ChangesLeaveStill = (d : Durable) (client : ClientId) (number : ℕ) (old mid : History D) (call : Call) (answer : Answer) → is_change call ≡ true → AreAsked seen old → KeepsTypes old → LastsThrough seen old.nodes.master → IsStill d client number old →
+      (c : HasAnswer seen failures armed client old call answer mid) → IsChanged d client number c.req call answer c.steps mid
 
   -- Where it has a refusal that the master keeps, and of which it is sure, the old names stand, and the client has had that number.
   abbrev pub RefusedChangesLeaveStill : Type 0
-  RefusedChangesLeaveStill = (d : Durable) (client : ClientId) (number : ℕ) (old mid : History D) (call : Call) (edit : PlainEdit) (refusal : Refusal) → edit_for call ≡ Some edit → AreAsked seen old → AreServed old → KeepsTypes old → LastsThrough seen old.nodes.master →
-      IsStill d client number old → (c : HasRefusal client old call refusal mid) → is_kept refusal ≡ true → (refusal ≡ refusals.Unsure → ⊥) → IsLeft d client number c.req call refusal mid
+  RefusedChangesLeaveStill = (d : Durable) (client : ClientId) (number : ℕ) (old mid : History D) (call : Call) (refusal : Refusal) → is_change call ≡ true → AreAsked seen old → AreServed old → KeepsTypes old → LastsThrough seen old.nodes.master →
+      IsStill d client number old → (c : HasRefusal client old call refusal mid) → is_kept refusal ≡ true → (refusal ≡ refusals.Unsure → ⊥) → IsLeft d client number c.req call refusal c.steps mid
+
+  -- No such call is told that its request is an old one, where its client has asked nothing since.
+  abbrev pub ChangesAreNeverOld : Type 0
+  ChangesAreNeverOld = (client : ClientId) (old mid : History D) (call : Call) → is_change call ≡ true → AreAsked seen old → AreServed old → KeepsTypes old → LastsThrough seen old.nodes.master → HasRefusal client old call refusals.Old mid → ⊥
 
   -- No prepare is begun meanwhile, where none was.
   abbrev pub ChangesStayCalm : Type 0
-  ChangesStayCalm = (d : Durable) (client : ClientId) (number : ℕ) (old asked new : History D) (moment : Moment) (req : ReqId) (call : Call) (edit : PlainEdit) (steps : List Step) → edit_for call ≡ Some edit → AreAsked seen old → KeepsTypes old → LastsThrough seen old.nodes.master →
+  ChangesStayCalm = (d : Durable) (client : ClientId) (number : ℕ) (old asked new : History D) (moment : Moment) (req : ReqId) (call : Call) (steps : List Step) → is_change call ≡ true → AreAsked seen old → KeepsTypes old → LastsThrough seen old.nodes.master →
       IsStill d client number old → IsCalmAt old.nodes.master → req.client ≡ client → AsksFresh seen failures armed old moment req call asked → RunsTo seen failures armed steps asked new → AllByRecursion IsStepWithin (asks_call moment req call ∷ steps) →
       AllByRecursion (IsLooking client) steps → IsCalmAt new.nodes.master

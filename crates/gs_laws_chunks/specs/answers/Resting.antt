@@ -25,9 +25,10 @@ use Rattle.gs_laws_chunks.specs.answers.Answered.{spares_master}
 use Rattle.gs_laws_chunks.specs.answers.Asked.{IsNumbered}
 use Rattle.std.specs.Prelude.{slice_get}
 
--- the names, the phase and the epoch are these, no call waits, and the client has had its request of this number, or a later one
+-- the names, the number of the next deletion, the phase and the epoch are these, no call waits, and the client has had its request of this number, or a later one
 pub record StandsStill (d : Durable) (client : ClientId) (number : ℕ) (s : State) : Type 0 where
   pub names : s.durable.names ≡ d.names
+  pub hidden : s.durable.next_hidden ≡ d.next_hidden
   pub phase : s.durable.phase ≡ d.phase
   pub epoch : s.durable.epoch ≡ d.epoch
   pub none : (req : ReqId) → is_pending s.volatile.pending req ≡ true → ⊥

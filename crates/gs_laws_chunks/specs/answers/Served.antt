@@ -58,9 +58,9 @@ IsOfServer (replies.Outcome outcome) = Unit {0}
 IsOfServer (replies.Given given) = Unit {0}
 IsOfServer reply = ⊥
 
--- The master tells these without judging the call: that it is an older one, that a disk has failed, or that one fails at its record.
+-- The master tells these without judging the call: that a disk has failed, or that one fails at its record.
 abbrev pub IsUnjudged : Refusal → Type 0
-IsUnjudged refusal = (refusal ≡ refusals.Old) ⊎ ((refusal ≡ refusals.Device) ⊎ (refusal ≡ refusals.Unsure))
+IsUnjudged refusal = (refusal ≡ refusals.Device) ⊎ (refusal ≡ refusals.Unsure)
 
 -- ---- what is to hold
 
@@ -109,4 +109,4 @@ a_part_is_told_by_a_server : (bytes : List ℕ) → IsOfServer (replies.Given (g
 a_part_is_told_by_a_server bytes = tt
 
 a_failed_disk_is_told_at_once : IsUnjudged refusals.Device
-a_failed_disk_is_told_at_once = inr (inl refl)
+a_failed_disk_is_told_at_once = inl refl

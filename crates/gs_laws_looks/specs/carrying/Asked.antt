@@ -1,4 +1,5 @@
 -- What a desk carries for a client, whatever it asks: a call that waits and an edit too.
+use Rattle.std.proofs.Common.{inl, inr}
 use Rattle.std.specs.Prelude.{[], ◌<◌, ◌∷◌, ◌≡◌, ◌⊎◌, Err, List, Ok, Some, refl, unwrap_or, ℕ}
 use Rattle.std.specs.List.{AllByRecursion}
 use Rattle.gs_base.specs.Told.{IsNumber}
@@ -17,6 +18,7 @@ use Rattle.gs_shell_desk.specs.Ways.{Carries, Way}
 use Rattle.gs_world.specs.Histories.{Happens, History}
 use Rattle.gs_world.specs.Runs.{Comes, RunsTo, Step, Takes}
 use Rattle.gs_world.specs.Sent.{Sent}
+use Rattle.gs_laws_chunks.specs.answers.Changed.{IsAt}
 use Rattle.gs_laws_chunks.specs.desks.Reached.{Covers, history}
 use Rattle.gs_laws_world.specs.steady.Asking.{MayBeAsked, asks_at}
 use Rattle.gs_laws_world.specs.steady.Saying.{IsStepWithin}
@@ -71,12 +73,18 @@ module _ {D : Type 0} (seen : D → List ℕ) (failures : D → ℕ) where
   abbrev pub WasAskedAndTaken : (client : ClientId) (old : History D) (request : Request) (reply : Reply) (new : History D) → Type 0
   WasAskedAndTaken client old request reply new = (mid : History D) × WasAsked client old request reply mid × RunsTo seen failures unarmed (Takes client ∷ []) mid new
 
-  -- So it is in a store; and all that is under way then was sent.
+  -- it is asked at this moment, and all steps behind that are at it
+  abbrev pub IsAsOf : (now : Moment) (client : ClientId) (old : History D) (request : Request) (reply : Reply) (new : History D) → WasAskedAndTaken client old request reply new ⊎ WasRefused client old request reply new → Type 0
+  IsAsOf now client old request reply new (inl (mid, was, takes)) = (was.moment ≡ now) × AllByRecursion (IsAt now) was.behind.steps
+  IsAsOf now client old request reply new (inr refused) = Unit {0}
+
+  -- So it is in a store, all at one moment; and all that is under way then was sent.
   pub record IsAnswered (client : ClientId) (old : Way D) (sent : Sent) (request : Request) (reply : Reply) (new : Way D) : Type 0 where
     pub after : Sent
     pub went : WasAskedAndTaken client (history sent old) request reply (history after new) ⊎ WasRefused client (history sent old) request reply (history after new)
     pub covers : Covers after new
     pub moment : new.moment ≡ old.moment
+    pub moments : IsAsOf old.moment client (history sent old) request reply (history after new) went
 
   -- ---- what is to hold
 

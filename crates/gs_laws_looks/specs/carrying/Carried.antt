@@ -1,4 +1,5 @@
 -- What a desk carries for a client is a call with its answer.
+use Rattle.std.specs.List.{AllByRecursion}
 use Rattle.std.specs.Prelude.{[], ◌∷◌, ◌≡◌, List, ℕ}
 use Rattle.gs_base.specs.Told.{IsNumber}
 use Rattle.gs_base.specs.declared.numbers.ClientId.{ClientId}
@@ -11,6 +12,7 @@ use Rattle.gs_shell_desk.specs.Ways.{Carries, Way}
 use Rattle.gs_world.specs.Histories.{History}
 use Rattle.gs_world.specs.Runs.{RunsTo, Takes}
 use Rattle.gs_world.specs.Sent.{Sent}
+use Rattle.gs_laws_chunks.specs.answers.Changed.{IsAt}
 use Rattle.gs_laws_chunks.specs.answers.Behind.{HasAnswer}
 use Rattle.gs_laws_world.specs.steady.Asking.{MayBeAsked}
 use Rattle.gs_laws_chunks.specs.desks.Reached.{Covers, history}
@@ -25,6 +27,8 @@ module _ {D : Type 0} (seen : D → List ℕ) (failures : D → ℕ) where
     pub takes : RunsTo seen failures unarmed (Takes client ∷ []) mid (history after new)
     pub covers : Covers after new
     pub moment : new.moment ≡ old.moment
+    -- all steps behind the ask are at that moment
+    pub moments : AllByRecursion (IsAt old.moment) has.steps
 
   -- ---- what is to hold
 

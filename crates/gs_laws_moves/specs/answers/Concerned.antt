@@ -73,9 +73,10 @@ is_still entry = false
 abbrev pub KeepsOn : (ReqId → Type 0) → fin.FinMap client_cmp KeptReply → fin.FinMap client_cmp KeptReply → Type 0
 KeepsOn P old new = (client : ClientId) (reply : KeptReply) → fin.get new client ≡ Some reply → (fin.get old client ≡ Some reply) ⊎ P (answered_by client reply)
 
--- the names, the phase, the epoch and the replies on record are what they were
+-- the names, the number of the next deletion, the phase, the epoch and the replies on record are what they were
 pub record IsAtRest (d e : Durable) : Type 0 where
   pub names : e.names ≡ d.names
+  pub hidden : e.next_hidden ≡ d.next_hidden
   pub phase : e.phase ≡ d.phase
   pub epoch : e.epoch ≡ d.epoch
   pub replies : e.replies ≡ d.replies

@@ -28,9 +28,10 @@ pub record IsFrom (number : ℕ) (last : Option KeptReply) : Type 0 where
 abbrev pub HasHad : State → ClientId → ℕ → Type 0
 HasHad s client number = IsFrom number (last_reply s client)
 
--- the names, the phase and the epoch are what they were, and what its client has had
+-- the names, the number of the next deletion, the phase and the epoch are what they were, and what its client has had
 pub record LeavesNames (s : State) (req : ReqId) (t : Turn) : Type 0 where
   pub names : t.after.durable.names ≡ s.durable.names
+  pub hidden : t.after.durable.next_hidden ≡ s.durable.next_hidden
   pub phase : t.after.durable.phase ≡ s.durable.phase
   pub epoch : t.after.durable.epoch ≡ s.durable.epoch
   pub had : (number : ℕ) → HasHad s req.client number → HasHad t.after req.client number

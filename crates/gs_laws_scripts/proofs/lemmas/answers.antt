@@ -11,3 +11,4 @@ pub mod PlainStarts
 pub mod PlainSteady
 pub mod PlainWays
 pub mod PlainWritten
+pub mod Room

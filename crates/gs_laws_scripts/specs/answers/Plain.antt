@@ -160,6 +160,10 @@ servers_tick (suc id) p = server_ticks id (servers_tick id p)
 abbrev pub all_tick : Plain → Plain
 all_tick p = servers_tick (min (length p.servers) 16) (master_ticks p)
 
+-- all tick once, and what follows is delivered
+abbrev pub ticks_whole : Plain → Plain
+ticks_whole p = delivers_whole (all_tick p)
+
 -- ---- a request
 
 -- whether a client has no answer yet
@@ -170,7 +174,7 @@ is_waiting (Some n) = is_some n.waiting
 -- where there is no answer all tick once, and again all is delivered
 abbrev pub ticks_if : Bool → Plain → Plain
 ticks_if false p = p
-ticks_if true p = delivers_whole (all_tick p)
+ticks_if true p = ticks_whole p
 
 abbrev pub waited : ClientId → Plain → Plain
 waited client p = ticks_if (is_waiting (client_in p.clients client)) p
@@ -248,6 +252,7 @@ answered_by answer met = (answered answer met.0, met.1)
 -- what a line does that asks nothing of the store
 abbrev pub nodes_do : Request → Plain → Result Answer Refusal × Plain
 nodes_do (lines.Beat number) p = answered_by answers.Number (beats number p)
+nodes_do lines.Tick p = (Ok answers.Done, ticks_whole p)
 nodes_do (lines.At moment) p = (Ok answers.Done, record p { moment = record { 0 = moment } })
 nodes_do (lines.Hold kind) p = (Ok answers.Done, record p { kind = kind })
 nodes_do (lines.Restart node) p = answered_by done (restarts_node node p)
@@ -339,6 +344,10 @@ said request = (answers_as (Some request) (begins four)).0
 a_moment : said (lines.At 5) ≡ codes "ok"
 unfolding delivers
 a_moment = refl
+
+all_tick_once : said lines.Tick ≡ codes "ok"
+unfolding delivers
+all_tick_once = refl
 
 no_path : said (lines.Mkdir (codes "a")) ≡ codes "refused 1 BadPath"
 unfolding delivers digits

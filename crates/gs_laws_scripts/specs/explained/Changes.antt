@@ -1,6 +1,6 @@
 -- What the master answers to a change of the tree that is new to it, and what it leaves, where a machine shows what it stands on: refusals too. And how lines are explained that ask for such changes.
 use Rattle.std.specs.Prelude.{[], ◌∷◌, ◌≡◌, ◌⊎◌, ◌||◌, Bool, Err, List, Ok, Option, Result, Some, codes, false, is_ok, not, refl, true, ℕ}
-use Rattle.std.proofs.Common.{inl, inr}
+use Rattle.std.proofs.Common.{ap, arith, inl, inr}
 use Rattle.std.specs.Char.{encode_utf8}
 use Rattle.std.specs.Fmt.{digits}
 use Rattle.std.specs.Str.{chars, is_utf8}
@@ -12,9 +12,8 @@ use Rattle.gs_base.specs.declared.refusal.Refusal.{Refusal}
 use Rattle.gs_base.specs.declared.refusal.Refusal.TheVariants as refusals
 use Rattle.gs_client.specs.Replies.{changed}
 use Rattle.gs_client.specs.declared.link.Reply.{Reply}
-use Rattle.gs_laws_moves.specs.answers.Changes.{Changes, edit_for}
+use Rattle.gs_laws_moves.specs.answers.Changes.{Changes, edit_for, is_change}
 use Rattle.gs_laws_world.specs.steady.Asking.{MayBeAsked}
-use Rattle.gs_master_record.specs.Plain.{PlainEdit}
 use Rattle.gs_master_spec.specs.Durable.{Durable}
 use Rattle.gs_master_spec.specs.Handling.{new_call}
 use Rattle.gs_master_spec.specs.State.{State}
@@ -34,26 +33,25 @@ use Rattle.gs_laws_scripts.specs.explained.Machine.{Machine}
 use Rattle.gs_laws_scripts.specs.explained.Standing.{IsStillLine, ShowsNames, Stands}
 use Rattle.gs_laws_scripts.specs.plain.Machines.{asked_in}
 
--- An accepted change is done as the machine does it, and the machine shows what the master has then. A refused one is refused as the machine refuses it, or by the store, and the machine is as it was.
+-- An accepted change is done as the machine does it, and the machine shows what the master has then, at the moment that it had. A refused one is refused as the machine refuses it, or by the store, and the machine is as it was.
 abbrev pub IsChangeTold : Durable → Call → Machine → Result Said Refusal → Type 0
-IsChangeTold after call m (Ok said) = (new : Machine) × AsksNow call m (Ok said) new × ShowsNames after new
+IsChangeTold after call m (Ok said) = (new : Machine) × AsksNow call m (Ok said) new × ShowsNames after new × (new.moment ≡ m.moment)
 IsChangeTold after call m (Err refusal) = AsksNow call m (Err refusal) m
 
 -- ---- what is to hold
 
--- So it is of a new directory, a new file, a rename and an undelete. Where one is accepted, it leaves the names of its edit.
+-- So it is of a new directory, a new file, a rename, a deletion and an undelete, at the moment of the machine. Where one is accepted, it leaves the names of its edit.
 abbrev pub ChangesAreTold : Type 0
-ChangesAreTold = (config : Config) (s : State) (req : ReqId) (moment : Moment) (m : Machine) (call : Call) (edit : PlainEdit) (result : Result Said Refusal) → ShowsNames s.durable m → edit_for call ≡ Some edit → Replies config s req moment call result →
-    ((said : Said) → result ≡ Ok said → Changes s req edit (new_call config s req moment call)) → IsChangeTold (new_call config s req moment call).after.durable call m result
+ChangesAreTold = (config : Config) (s : State) (req : ReqId) (moment : Moment) (m : Machine) (call : Call) (result : Result Said Refusal) → ShowsNames s.durable m → m.moment ≡ moment.0 → is_change call ≡ true → Replies config s req moment call result →
+    ((said : Said) → result ≡ Ok said → Changes s req (edit_for s.durable moment call) (new_call config s req moment call)) → IsChangeTold (new_call config s req moment call).after.durable call m result
 
--- What came of a change is known: nobody is unsure of it, and its request isn't told to be an old one.
-pub record IsOver (result : Result Said Refusal) : Type 0 where
-  pub sure : result ≡ Err refusals.Unsure → ⊥
-  pub new : result ≡ Err refusals.Old → ⊥
+-- What came of a change is known: nobody is unsure of it.
+abbrev pub IsOver : Result Said Refusal → Type 0
+IsOver result = result ≡ Err refusals.Unsure → ⊥
 
 -- Such a change that a desk carries for its client, and that is over, is done as the machine does it, or the store refuses it. After it the desk stands for the machine, with its late calls overtaken where it is accepted.
 abbrev pub ChangesAreExplainedThere : Type 0 → Type 0
-ChangesAreExplainedThere D = (seen : D → List ℕ) (failures : D → ℕ) (config : Config) (size : ℕ) (old new : Desk D) (m : Machine) (call : Call) (edit : PlainEdit) (reply : Reply) → Stands seen config old m → edit_for call ≡ Some edit → MayBeAsked (requests.Call call) →
+ChangesAreExplainedThere D = (seen : D → List ℕ) (failures : D → ℕ) (config : Config) (size : ℕ) (old new : Desk D) (m : Machine) (call : Call) (reply : Reply) → Stands seen config old m → is_change call ≡ true → MayBeAsked (requests.Call call) →
     LooksUp seen failures old call reply new → IsOver (changed reply) → (mid : Machine) × Asks size call m (changed reply) mid × Stands seen config new (overtaken call (changed reply, mid))
 
 -- ---- lines
@@ -63,12 +61,12 @@ abbrev pub is_change_line : Option Request → Bool
 is_change_line (Some (lines.Mkdir p)) = true
 is_change_line (Some (lines.Create p)) = true
 is_change_line (Some (lines.Mv p q)) = true
+is_change_line (Some (lines.Rm p recursive)) = true
 is_change_line (Some (lines.Undelete p)) = true
 is_change_line asked = false
 
--- The answer tells what came of the line: it isn't that the request is an old one (19), that nobody is sure (29), or that memory is wanting (33).
+-- The answer tells what came of the line: it isn't that nobody is sure (29), or that memory is wanting (33).
 pub record IsSure (text : List ℕ) : Type 0 where
-  pub new : text ≡ refusal_text refusals.Old → ⊥
   pub sure : text ≡ refusal_text refusals.Unsure → ⊥
   pub told : text ≡ refusal_text refusals.Memory → ⊥
 
@@ -97,30 +95,48 @@ abbrev pub CalmLinesAreExplained : Type 0 → Type 0
 CalmLinesAreExplained D = (seen : D → List ℕ) (failures : D → ℕ) (config : Config) (size block : ℕ) (old new : Desk D) (all texts : List (List ℕ)) (m : Machine) → Stands seen config old m → AreCalmLines all texts →
     Runs (AnswersText seen failures) old all texts new → (end : Machine) × Runs (Explains size block) m all texts end × Stands seen config new end
 
--- ---- Worked: a directory is made, and made again; it is moved, and a move of what isn't there is refused; so is a look at what is no path
+-- ---- Worked: a directory is made, and made again; it is moved, and a move of what isn't there is refused; it is removed, and nothing is there to be removed then; a look at what is no path is refused
 pub an_answer_is_sure : IsSure (codes "ok")
 unfolding digits
-an_answer_is_sure = record { new = λ is. absurd (cc); sure = λ is. absurd (cc); told = λ is. absurd (cc) }
+an_answer_is_sure = record { sure = λ is. absurd (cc); told = λ is. absurd (cc) }
 
 pub a_refusal_is_sure : IsSure (codes "refused 4 Exists")
 unfolding digits
-a_refusal_is_sure = record { new = λ is. absurd (cc); sure = λ is. absurd (cc); told = λ is. absurd (cc) }
+a_refusal_is_sure = record { sure = λ is. absurd (cc); told = λ is. absurd (cc) }
 
 what_is_not_there_is_sure : IsSure (codes "refused 3 NotFound")
 unfolding digits
-what_is_not_there_is_sure = record { new = λ is. absurd (cc); sure = λ is. absurd (cc); told = λ is. absurd (cc) }
+what_is_not_there_is_sure = record { sure = λ is. absurd (cc); told = λ is. absurd (cc) }
+
+-- of texts that are accepted
+abbrev first_letter : List ℕ → ℕ
+first_letter [] = 0
+first_letter (letter ∷ letters) = letter
+
+an_accepted_one_is_sure : (rest : List ℕ) → IsSure (111 ∷ rest)
+unfolding digits
+an_accepted_one_is_sure rest = record { sure = λ is. another (ap first_letter is); told = λ is. another (ap first_letter is) }
+  where
+    another : ◌≡◌ {A = ℕ} 111 114 → ⊥
+    another is = omega (arith, is)
+
+a_hidden_path_is_sure : IsSure (codes "ok /.deleted.00000000000000000000.00000000000000000001.e")
+a_hidden_path_is_sure = an_accepted_one_is_sure _
+
+what_is_missing_is_sure : IsSure (codes "ok false")
+what_is_missing_is_sure = an_accepted_one_is_sure _
 
 nobody_is_sure : IsSure (codes "refused 29 Unsure") → ⊥
 unfolding digits
 nobody_is_sure text = text.sure refl
 
 abbrev some_lines : List (List ℕ)
-some_lines = codes "mkdir /d" ∷ codes "mkdir /d" ∷ codes "ls /" ∷ codes "mv /d /e" ∷ codes "mv /d /f" ∷ codes "stat f" ∷ []
+some_lines = codes "mkdir /d" ∷ codes "mkdir /d" ∷ codes "ls /" ∷ codes "mv /d /e" ∷ codes "mv /d /f" ∷ codes "rm /e" ∷ codes "rm -r /e" ∷ codes "stat f" ∷ []
 
 abbrev some_texts : List (List ℕ)
-some_texts = codes "ok" ∷ codes "refused 4 Exists" ∷ codes "ok d/" ∷ codes "ok" ∷ codes "refused 3 NotFound" ∷ codes "refused 1 BadPath" ∷ []
+some_texts = codes "ok" ∷ codes "refused 4 Exists" ∷ codes "ok d/" ∷ codes "ok" ∷ codes "refused 3 NotFound" ∷ codes "ok /.deleted.00000000000000000000.00000000000000000001.e" ∷ codes "ok false" ∷ codes "refused 1 BadPath" ∷ []
 
 some_lines_are_such : AreCalmLines some_lines some_texts
 unfolding one_word two_words three_words is_utf8 chars encode_utf8
 some_lines_are_such =
-    (inr (inl (refl, an_answer_is_sure)), (inr (inl (refl, a_refusal_is_sure)), (inl (refl, λ stat. absurd (cc)), (inr (inl (refl, an_answer_is_sure)), (inr (inl (refl, what_is_not_there_is_sure)), (inr (inr refl), tt))))))
+    (inr (inl (refl, an_answer_is_sure)), (inr (inl (refl, a_refusal_is_sure)), (inl (refl, λ stat. absurd (cc)), (inr (inl (refl, an_answer_is_sure)), (inr (inl (refl, what_is_not_there_is_sure)), (inr (inl (refl, a_hidden_path_is_sure)), (inr (inl (refl, what_is_missing_is_sure)), (inr (inr refl), tt))))))))

@@ -33,6 +33,7 @@ TextsAreAlike text other = (one : Result Answer Refusal) × (another : Result An
 abbrev pub is_of_nodes : Option Request → Bool
 is_of_nodes (Some lines.Replicate) = true
 is_of_nodes (Some (lines.Beat server)) = true
+is_of_nodes (Some lines.Tick) = true
 is_of_nodes (Some (lines.Restart node)) = true
 is_of_nodes (Some (lines.Lose server handle)) = true
 is_of_nodes (Some (lines.Damage server handle block)) = true

@@ -12,7 +12,7 @@ use Rattle.gs_msg.specs.declared.answer.ChunkStatus.{ChunkStatus}
 use Rattle.gs_msg.specs.declared.answer.Phase.TheVariants as phases
 use Rattle.gs_path.specs.Element.{twenty_digits}
 use Rattle.gs_shell_calls.specs.declared.answer.Answer.TheVariants as answers
-use Rattle.gs_shell_grammar.specs.Grammar.{append_line, damage_line, four_words, hold_line, number_line, one_word, read_line, restart_line, three_words, two_words, upgrade_line, write_line}
+use Rattle.gs_shell_grammar.specs.Grammar.{append_line, damage_line, four_words, hold_line, lose_line, number_line, one_word, read_line, restart_line, three_words, two_words, upgrade_line, write_line}
 use Rattle.gs_laws_scripts.specs.explained.Lines.{AreExplained}
 use Rattle.gs_laws_scripts.specs.explained.Machine as machines
 
@@ -241,6 +241,55 @@ an_unsure_record_is_explained = (
                 (
                   _,
                   inr (Ok (answers.Bytes (97 ∷ 98 ∷ 99 ∷ 100 ∷ [])), ([], _, refl, inr (refl, ([], [], refl, refl))), inl refl),
+                  refl,
+                ),
+              ),
+            ),
+          ),
+        ),
+      ),
+    ),
+  ),
+)
+
+-- ---- an edit that nobody was sure of is done where all nodes tick, and is read from another server
+
+abbrev a_tick : List (List ℕ)
+a_tick =
+    codes "create /f" ∷ codes "write /f 0 61" ∷ codes "hold on forward" ∷ codes "write /f 1 62" ∷ codes "hold off" ∷ codes "tick" ∷ codes "lose 0 1" ∷ codes "read /f 0 2" ∷ []
+
+abbrev a_tick_answers : List (List ℕ)
+a_tick_answers =
+    codes "ok" ∷ codes "ok" ∷ codes "ok" ∷ codes "refused 29 Unsure" ∷ codes "ok" ∷ codes "ok" ∷ codes "ok" ∷ codes "ok 6162" ∷ []
+
+a_tick_is_explained : AreExplained 16 4 a_tick a_tick_answers
+unfolding one_word two_words three_words four_words append_line hold_line write_line read_line lose_line number_line upgrade_line decode_pairs encode_with written twenty_digits is_utf8 chars encode_utf8 digits
+a_tick_is_explained = (
+  _,
+  (
+    _,
+    inr (Ok answers.Done, (_, _, ([], inl (refl, refl)), refl, refl), inl refl),
+    (
+      _,
+      inr (Ok answers.Done, ([], _, refl, inr (refl, ([], _, refl, inr (refl, ([], _, refl, inr (refl, (refl, refl))))))), inl refl),
+      (
+        _,
+        inr (Ok answers.Done, ([], refl), inl refl),
+        (
+          _,
+          inr (Err refusals.Unsure, ([], _, refl, inr (refl, ([], _, refl, inl (refusals.Unsure, refl, inr (refl, refl))))), inl refl),
+          (
+            _,
+            inr (Ok answers.Done, ([], refl), inl refl),
+            (
+              _,
+              inr (Ok answers.Done, (machines.Settles (codes "f" ∷ []) 0 0 ∷ [], refl), inl refl),
+              (
+                _,
+                inr (Ok answers.Done, ([], refl), inl refl),
+                (
+                  _,
+                  inr (Ok (answers.Bytes (97 ∷ 98 ∷ [])), ([], _, refl, inr (refl, ([], [], refl, refl))), inl refl),
                   refl,
                 ),
               ),

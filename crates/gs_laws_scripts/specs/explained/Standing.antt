@@ -1,4 +1,4 @@
--- What holds between two lines while nothing is asked that changes something, of the names and the phase alone; and lines that only look at these, or are about nodes.
+-- What holds between two lines while nothing is asked that changes something, of the names, the numbers of deletions, the moment and the phase alone; and lines that only look at these, or are about nodes.
 use Rattle.std.proofs.Common.{inl, inr}
 use Rattle.std.specs.Prelude.{[], ◌∷◌, ◌≡◌, ◌⊎◌, Bool, List, None, Ok, Option, Some, codes, false, length, refl, true, ℕ}
 use Rattle.std.specs.Char.{encode_utf8}
@@ -60,14 +60,19 @@ pub record IsUndisturbed {D : Type 0} (seen : D → List ℕ) (d : Durable) (num
   pub calm : IsCalmAt h.nodes.master
   pub one : length h.nodes.clients ≡ 1
 
--- The machine's tree has the names that are told, with some text in the place of each chunk: the same wherever the chunk stands. Its epoch and its phase are those that are told, and no prepare is begun.
+-- The number of the next deletion is that of the store, as long as that has one left.
+abbrev pub IsNumberOf : ℕ → ℕ → Type 0
+IsNumberOf shown number = (shown ≡ number) ⊎ (number ≡ 0)
+
+-- The machine's tree has the names that are told, with some text in the place of each chunk: the same wherever the chunk stands. The number of its next deletion, its epoch and its phase are those that are told, and no prepare is begun.
 pub record ShowsNames (d : Durable) (m : Machine) : Type 0 where
   pub text : ℕ → Text
   pub tree : m.plain.tree ≡ mapped_rows text (fin.entries d.names.tree)
+  pub hidden : IsNumberOf m.next_hidden d.next_hidden
   pub epoch : m.epoch ≡ d.epoch
   pub phase : m.phase ≡ told_phase false d.phase
 
--- So a desk stands for a machine.
+-- So a desk stands for a machine, at its moment.
 pub record Stands {D : Type 0} (seen : D → List ℕ) (config : Config) (desk : Desk D) (m : Machine) : Type 0 where
   pub sent : Sent
   pub covers : Covers sent (way_of desk.wire)
@@ -77,6 +82,7 @@ pub record Stands {D : Type 0} (seen : D → List ℕ) (config : Config) (desk :
   pub number : ℕ
   pub rests : IsUndisturbed seen durable number (history sent (way_of desk.wire))
   pub shows : ShowsNames durable m
+  pub now : m.moment ≡ desk.wire.moment.0
 
 -- ---- lines that leave it
 
@@ -94,6 +100,7 @@ is_still_line (Some (lines.RollingUpgrade upgrades.Query)) = true
 is_still_line (Some (lines.At moment)) = true
 is_still_line (Some (lines.Hold kind)) = true
 is_still_line (Some (lines.Beat server)) = true
+is_still_line (Some lines.Tick) = true
 is_still_line (Some (lines.Restart (restarted.Server number))) = true
 is_still_line (Some (lines.Lose server handle)) = true
 is_still_line (Some (lines.Damage server handle block)) = true
@@ -141,14 +148,14 @@ a_change_is_none = refl
 
 -- lines that are such, with their answers
 abbrev some_lines : List (List ℕ)
-some_lines = codes "ls /" ∷ codes "stat /photos" ∷ codes "stat /notes" ∷ codes "rollingUpgrade query" ∷ codes "lose 1 2" ∷ codes "at 7" ∷ codes "beat 1" ∷ codes "ls /x" ∷ codes "frob" ∷ []
+some_lines = codes "ls /" ∷ codes "stat /photos" ∷ codes "stat /notes" ∷ codes "rollingUpgrade query" ∷ codes "lose 1 2" ∷ codes "at 7" ∷ codes "beat 1" ∷ codes "tick" ∷ codes "ls /x" ∷ codes "frob" ∷ []
 
 abbrev some_texts : List (List ℕ)
-some_texts = codes "ok notes photos/" ∷ codes "ok dir" ∷ codes "ok file 0" ∷ codes "ok upgrade 1" ∷ codes "ok" ∷ codes "ok" ∷ codes "ok 0" ∷ codes "refused 3 NotFound" ∷ codes "refused 34 BadLine" ∷ []
+some_texts = codes "ok notes photos/" ∷ codes "ok dir" ∷ codes "ok file 0" ∷ codes "ok upgrade 1" ∷ codes "ok" ∷ codes "ok" ∷ codes "ok 0" ∷ codes "ok" ∷ codes "refused 3 NotFound" ∷ codes "refused 34 BadLine" ∷ []
 
 they_are_such : AreStillLines some_lines some_texts
 unfolding one_word two_words three_words upgrade_line number_line lose_line is_utf8 chars encode_utf8 digits
 they_are_such = (
   (refl, (λ stat. absurd (cc))),
-  ((refl, (λ stat. inl refl)), ((refl, (λ stat. inr refl)), ((refl, (λ stat. absurd (cc))), ((refl, (λ stat. absurd (cc))), ((refl, (λ stat. absurd (cc))), ((refl, (λ stat. absurd (cc))), ((refl, (λ stat. absurd (cc))), ((refl, (λ stat. absurd (cc))), tt)))))))),
+  ((refl, (λ stat. inl refl)), ((refl, (λ stat. inr refl)), ((refl, (λ stat. absurd (cc))), ((refl, (λ stat. absurd (cc))), ((refl, (λ stat. absurd (cc))), ((refl, (λ stat. absurd (cc))), ((refl, (λ stat. absurd (cc))), ((refl, (λ stat. absurd (cc))), ((refl, (λ stat. absurd (cc))), tt))))))))),
 )

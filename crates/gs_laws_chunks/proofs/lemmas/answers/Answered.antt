@@ -98,9 +98,9 @@ one_there req result (m ∷ messages) (inr one) = (let found = one_there req res
 
 -- ---- a request
 
--- the refusals that the master tells without a turn of the call's own
+-- the refusals that the master tells without a turn of the call's own, where its number isn't older than the last one
 abbrev pub IsAnyway : (Result Answer Refusal → Type 0) → Type 0
-IsAnyway Made = Made (Err refusals.Old) × Made (Err refusals.Device) × Made (Err refusals.Unsure)
+IsAnyway Made = Made (Err refusals.Device) × Made (Err refusals.Unsure)
 
 -- it is such a refusal
 abbrev pub SparedIn : (Refusal → Type 0) → Result Answer Refusal → Type 0
@@ -112,6 +112,11 @@ abbrev pub RefusesIf : ReqId → Type 0 → Body → Type 0
 RefusesIf req Given (bodies.Done other (Err refusal)) = other ≡ req → Given
 RefusesIf req Given (bodies.Bytes other (Err refusal)) = other ≡ req → Given
 RefusesIf req Given body = Unit {0}
+
+-- So it is of all that was sent. And where the master has the reply to a later one, it's given that the call is told to be an old one.
+abbrev pub IsFine : {D : Type 0} → ReqId → Type 0 → (Refusal → Type 0) → History D → Type 0
+IsFine {D} req Given Spared h =
+    AllSent (λ (m : Message). RefusesIf req Given m.body) h.sent × ((m : MasterOf D) → h.nodes.master ≡ Standing m → numbered (last_reply m.state req.client) req.number ≡ Older → Spared refusals.Old)
 
 module _ (req : ReqId) (call : Call) where
   -- what is said to this request, and called under it
@@ -322,33 +327,37 @@ module _ (req : ReqId) (call : Call) where
         by_replies (Some a) None in_durable in_memory h = by_one a (λ number. so.durable a in_durable number) h
         by_replies (Some a) (Some o) in_durable in_memory h = by_later (nat_lt a.number o.number) a o in_durable in_memory h
 
+    -- where its number is older, that is told
+    abbrev Older_told : State → Type 0
+    Older_told s = numbered (last_reply s req.client) req.number ≡ Older → Then (Err refusals.Old)
+
     module _ (anyway : IsAnyway Then) where
-      taken_own : (config : Config) (s : State) (moment : Moment) (how : Numbered) → IsAnsweredAlone call → numbered (last_reply s req.client) req.number ≡ how → is_pending s.volatile.pending req ≡ false → StateSo Made s
+      taken_own : (config : Config) (s : State) (moment : Moment) (how : Numbered) → IsAnsweredAlone call → numbered (last_reply s req.client) req.number ≡ how → is_pending s.volatile.pending req ≡ false → StateSo Made s → Older_told s
           → Now s (taken_as config s req moment call how) → Own s (taken_as config s req moment call how)
-      taken_own config s moment New once is apart so now = (let alone = once config s req moment in alone_own alone.0 s (new_call config s req moment call) alone.1 so (now apart is))
-      taken_own config s moment (Again result) once is apart so now = replied s result so (again_kept s result so is)
-      taken_own config s moment Older once is apart so now = replied s (Err refusals.Old) so anyway.0
+      taken_own config s moment New once is apart so older now = (let alone = once config s req moment in alone_own alone.0 s (new_call config s req moment call) alone.1 so (now apart is))
+      taken_own config s moment (Again result) once is apart so older now = replied s result so (again_kept s result so is)
+      taken_own config s moment Older once is apart so older now = replied s (Err refusals.Old) so (older is)
 
       still_own : (s : State) → StateSo Made s → Own s (waits_still s req)
       still_own s so = by_fault (is_failed s.fault)
         where
           by_fault : (b : Bool) → Own s (if b then replied_again s req (Err refusals.Device) else unmoved s)
-          by_fault true = replied s (Err refusals.Device) so anyway.1
+          by_fault true = replied s (Err refusals.Device) so anyway.0
           by_fault false = (state_more s so, tt)
 
-      pub call_own : (config : Config) (s : State) (moment : Moment) → IsAnsweredAlone call → StateSo Made s → Now s (call_turn config s req moment call) → Own s (call_turn config s req moment call)
-      call_own config s moment once so now = by_opened (is_unopened s.fault) now
+      pub call_own : (config : Config) (s : State) (moment : Moment) → IsAnsweredAlone call → StateSo Made s → Older_told s → Now s (call_turn config s req moment call) → Own s (call_turn config s req moment call)
+      call_own config s moment once so older now = by_opened (is_unopened s.fault) now
         where
           taken : Turn
           taken = taken_as config s req moment call (numbered (last_reply s req.client) req.number)
 
           by_waits : (b : Bool) → is_pending s.volatile.pending req ≡ b → Now s (if b then waits_still s req else taken_as config s req moment call (numbered (last_reply s req.client) req.number)) → Own s (if b then waits_still s req else taken_as config s req moment call (numbered (last_reply s req.client) req.number))
           by_waits true is now = still_own s so
-          by_waits false is now = taken_own config s moment (numbered (last_reply s req.client) req.number) once refl is so now
+          by_waits false is now = taken_own config s moment (numbered (last_reply s req.client) req.number) once refl is so older now
 
           by_opened : (b : Bool) → Now s (if b then replied_again s req (Err refusals.Device) else if is_pending s.volatile.pending req then waits_still s req else taken_as config s req moment call (numbered (last_reply s req.client) req.number))
               → Own s (if b then replied_again s req (Err refusals.Device) else if is_pending s.volatile.pending req then waits_still s req else taken_as config s req moment call (numbered (last_reply s req.client) req.number))
-          by_opened true now = replied s (Err refusals.Device) so anyway.1
+          by_opened true now = replied s (Err refusals.Device) so anyway.0
           by_opened false now = by_waits (is_pending s.volatile.pending req) refl now
 
       -- one record at most
@@ -396,7 +405,7 @@ module _ (req : ReqId) (call : Call) where
             let left = own (λ apart new result reply there says. now apart new result reply (subst (λ ms. Contains ms reply) (sym is.done.sends) there) says) in
             (subst (StateSo Then) (sym is.done.after) left.0, subst (AllSays Then) (sym is.done.sends) left.1)
         own_left t m after turn so own few now (inr (place, is)) =
-            (subst (StateSo Then) (sym is.cut.after) (own_cut m.state t place few is.cut.within so), subst (AllSays Then) (sym is.cut.sends) (unsure_says Then anyway.2 (Some req)))
+            (subst (StateSo Then) (sym is.cut.after) (own_cut m.state t place few is.cut.within so), subst (AllSays Then) (sym is.cut.sends) (unsure_says Then anyway.1 (Some req)))
 
         other_left : (caller : Option ReqId) (t : Turn) (m after : MasterOf D) (turn : Told_turn) → AnswersOnly (IsConcerned m.state caller) m.state t → StateSo Made m.state → (caller ≡ Some req → ⊥) → IsDone t turn.sent.items turn.said after.state → Left (Standing after) turn.sent.items
         other_left caller t m after turn only so apart is = (
@@ -408,7 +417,7 @@ module _ (req : ReqId) (call : Call) where
             → Left (Standing after) turn.sent.items
         other_cut_left caller t m after turn place only so apart is = (
           subst (StateSo Then) (sym is.after) (state_more (cut m.state t.records place) (other_cut Made m.state caller t place is.within only so apart)),
-          subst (AllSays Then) (sym is.sends) (unsure_says Then anyway.2 caller),
+          subst (AllSays Then) (sym is.sends) (unsure_says Then anyway.1 caller),
         )
 
         answers_other : (caller : Option ReqId) (t : Turn) (m after : MasterOf D) (turn : Told_turn) → AnswersOnly (IsConcerned m.state caller) m.state t → StateSo Made m.state → (caller ≡ Some req → ⊥) → MasterAnswers seen failures caller t m (Ok turn) after → Left (Standing after) turn.sent.items
@@ -446,10 +455,10 @@ module _ (req : ReqId) (call : Call) where
         unfolding handle
         is_call_turn config s message moment asks from = ap (λ (b : Body). from_node config s moment b message.from) asks ∙ ap (λ (n : NodeId). from_node config s moment (bodies.Call req call) n) from
 
-        own_hears : (message : Message) (moment : Moment) (m after : MasterOf D) (turn : Told_turn) → IsAnsweredAlone call → message.body ≡ bodies.Call req call → message.from ≡ nodes.Client req.client → StateSo Made m.state → Told_now m turn
+        own_hears : (message : Message) (moment : Moment) (m after : MasterOf D) (turn : Told_turn) → IsAnsweredAlone call → message.body ≡ bodies.Call req call → message.from ≡ nodes.Client req.client → StateSo Made m.state → Older_told m.state → Told_now m turn
             → MasterAnswers seen failures (caller_of message.body) (handle m.config m.state message moment) m (Ok turn) after → Left (Standing after) turn.sent.items
-        own_hears message moment m after turn once asks from so now answers =
-            own_left (call_turn m.config m.state req moment call) m after turn so (call_own m.config m.state moment once so) (call_few m.config m.state moment once) now
+        own_hears message moment m after turn once asks from so older now answers =
+            own_left (call_turn m.config m.state req moment call) m after turn so (call_own m.config m.state moment once so older) (call_few m.config m.state moment once) now
             (subst (λ (t : Turn). MasterAnswers seen failures (Some req) t m (Ok turn) after) (is_call_turn m.config m.state message moment asks from) (subst (λ (b : Body). MasterAnswers seen failures (caller_of b) (handle m.config m.state message moment) m (Ok turn) after) asks answers))
 
         -- who calls, if it isn't this one
@@ -474,12 +483,12 @@ module _ (req : ReqId) (call : Call) where
         hears_other message moment m after turn body is none so answers =
             answers_other (caller_of message.body) (handle m.config m.state message moment) m after turn (messages_concerned m.config m.state message moment) so (other_caller message.body (λ r c there same. none r c (sym is ∙ there))) answers
 
-        hears_one : (message : Message) (moment : Moment) (m after : MasterOf D) (turn : Told_turn) (body : Body) → message.body ≡ body → IsAnsweredAlone call → Says Made body → SaysOf (λ r. Unit {0}) message.from body → StateSo Made m.state
+        hears_one : (message : Message) (moment : Moment) (m after : MasterOf D) (turn : Told_turn) (body : Body) → message.body ≡ body → IsAnsweredAlone call → Says Made body → SaysOf (λ r. Unit {0}) message.from body → StateSo Made m.state → Older_told m.state
             → ((asks : message.body ≡ bodies.Call req call) (from : message.from ≡ nodes.Client req.client) → Told_now m turn) → MasterAnswers seen failures (caller_of message.body) (handle m.config m.state message moment) m (Ok turn) after → Left (Standing after) turn.sent.items
-        hears_one message moment m after turn (bodies.Call other calls) is once says of so now answers = elim (same_call other) [
+        hears_one message moment m after turn (bodies.Call other calls) is once says of so older now answers = elim (same_call other) [
           | inl same ↦
               let asks = is ∙ ap (λ r. bodies.Call r calls) same ∙ ap (λ c. bodies.Call req c) (says same) in
-              let from = of.0 ∙ ap (λ (r : ReqId). nodes.Client r.client) same in own_hears message moment m after turn once asks from so (now asks from) answers
+              let from = of.0 ∙ ap (λ (r : ReqId). nodes.Client r.client) same in own_hears message moment m after turn once asks from so older (now asks from) answers
           | inr apart ↦
               answers_other (caller_of message.body) (handle m.config m.state message moment) m after turn (messages_concerned m.config m.state message moment) so
               (other_caller message.body (λ r c there same. apart (call_is (sym is ∙ there) ∙ same))) answers
@@ -487,23 +496,23 @@ module _ (req : ReqId) (call : Call) where
           where
             call_is : {a b : ReqId} {c d : Call} → bodies.Call a c ≡ bodies.Call b d → a ≡ b
             call_is is = cc
-        hears_one message moment m after turn (bodies.Reply other result) is once says of so now answers = hears_other message moment m after turn (bodies.Reply other result) is (λ r c there. absurd cc) so answers
-        hears_one message moment m after turn (bodies.About chunk said) is once says of so now answers = hears_other message moment m after turn (bodies.About chunk said) is (λ r c there. absurd cc) so answers
-        hears_one message moment m after turn (bodies.Push other bytes) is once says of so now answers = hears_other message moment m after turn (bodies.Push other bytes) is (λ r c there. absurd cc) so answers
-        hears_one message moment m after turn (bodies.Done other result) is once says of so now answers = hears_other message moment m after turn (bodies.Done other result) is (λ r c there. absurd cc) so answers
-        hears_one message moment m after turn (bodies.Bytes other result) is once says of so now answers = hears_other message moment m after turn (bodies.Bytes other result) is (λ r c there. absurd cc) so answers
-        hears_one message moment m after turn (bodies.MakeCopy chunk at new_chunk stamp) is once says of so now answers = hears_other message moment m after turn (bodies.MakeCopy chunk at new_chunk stamp) is (λ r c there. absurd cc) so answers
-        hears_one message moment m after turn (bodies.Report epoch replicas) is once says of so now answers = hears_other message moment m after turn (bodies.Report epoch replicas) is (λ r c there. absurd cc) so answers
-        hears_one message moment m after turn (bodies.Epoch epoch end) is once says of so now answers = hears_other message moment m after turn (bodies.Epoch epoch end) is (λ r c there. absurd cc) so answers
-        hears_one message moment m after turn (bodies.Learned epoch handles) is once says of so now answers = hears_other message moment m after turn (bodies.Learned epoch handles) is (λ r c there. absurd cc) so answers
-        hears_one message moment m after turn (bodies.Behind epoch) is once says of so now answers = hears_other message moment m after turn (bodies.Behind epoch) is (λ r c there. absurd cc) so answers
+        hears_one message moment m after turn (bodies.Reply other result) is once says of so older now answers = hears_other message moment m after turn (bodies.Reply other result) is (λ r c there. absurd cc) so answers
+        hears_one message moment m after turn (bodies.About chunk said) is once says of so older now answers = hears_other message moment m after turn (bodies.About chunk said) is (λ r c there. absurd cc) so answers
+        hears_one message moment m after turn (bodies.Push other bytes) is once says of so older now answers = hears_other message moment m after turn (bodies.Push other bytes) is (λ r c there. absurd cc) so answers
+        hears_one message moment m after turn (bodies.Done other result) is once says of so older now answers = hears_other message moment m after turn (bodies.Done other result) is (λ r c there. absurd cc) so answers
+        hears_one message moment m after turn (bodies.Bytes other result) is once says of so older now answers = hears_other message moment m after turn (bodies.Bytes other result) is (λ r c there. absurd cc) so answers
+        hears_one message moment m after turn (bodies.MakeCopy chunk at new_chunk stamp) is once says of so older now answers = hears_other message moment m after turn (bodies.MakeCopy chunk at new_chunk stamp) is (λ r c there. absurd cc) so answers
+        hears_one message moment m after turn (bodies.Report epoch replicas) is once says of so older now answers = hears_other message moment m after turn (bodies.Report epoch replicas) is (λ r c there. absurd cc) so answers
+        hears_one message moment m after turn (bodies.Epoch epoch end) is once says of so older now answers = hears_other message moment m after turn (bodies.Epoch epoch end) is (λ r c there. absurd cc) so answers
+        hears_one message moment m after turn (bodies.Learned epoch handles) is once says of so older now answers = hears_other message moment m after turn (bodies.Learned epoch handles) is (λ r c there. absurd cc) so answers
+        hears_one message moment m after turn (bodies.Behind epoch) is once says of so older now answers = hears_other message moment m after turn (bodies.Behind epoch) is (λ r c there. absurd cc) so answers
 
-        pub hears_so : (message : Message) (moment : Moment) (old new : MasterPlace D) (turn : Told_turn) → IsAnsweredAlone call → Says Made message.body → SaysOf (λ r. Unit {0}) message.from message.body → PlaceSo Made old
+        pub hears_so : (message : Message) (moment : Moment) (old new : MasterPlace D) (turn : Told_turn) → IsAnsweredAlone call → Says Made message.body → SaysOf (λ r. Unit {0}) message.from message.body → PlaceSo Made old → ((m : MasterOf D) → old ≡ Standing m → Older_told m.state)
             → ((m : MasterOf D) → old ≡ Standing m → message.body ≡ bodies.Call req call → message.from ≡ nodes.Client req.client → Told_now m turn) → MasterHears seen failures message moment old (Ok turn) new → Left new turn.sent.items
-        hears_so message moment (Standing m) new turn once says of so now (after, is, answers) =
-            let left = hears_one message moment m after turn message.body refl once says of so (now m refl) answers in (subst (PlaceSo Then) (sym is) left.0, left.1)
-        hears_so message moment (Closed first second) new turn once says of so now meets = (subst (PlaceSo Then) (sym meets.0) tt, subst (AllSays Then) (sym meets.1) (refusal_says Then anyway.1 (caller_of message.body)))
-        hears_so message moment Away new turn once says of so now meets = (subst (PlaceSo Then) (sym meets.0) tt, subst (AllSays Then) (sym meets.1) (refusal_says Then anyway.1 (caller_of message.body)))
+        hears_so message moment (Standing m) new turn once says of so older now (after, is, answers) =
+            let left = hears_one message moment m after turn message.body refl once says of so (older m refl) (now m refl) answers in (subst (PlaceSo Then) (sym is) left.0, left.1)
+        hears_so message moment (Closed first second) new turn once says of so older now meets = (subst (PlaceSo Then) (sym meets.0) tt, subst (AllSays Then) (sym meets.1) (refusal_says Then anyway.0 (caller_of message.body)))
+        hears_so message moment Away new turn once says of so older now meets = (subst (PlaceSo Then) (sym meets.0) tt, subst (AllSays Then) (sym meets.1) (refusal_says Then anyway.0 (caller_of message.body)))
 
 -- ---- clients
 
@@ -589,7 +598,7 @@ module _ (req : ReqId) (call : Call) where
 
   module _ {D : Type 0} (seen : D → List ℕ) (failures : D → ℕ) (armed : DiskId → ℕ → MasterPlace D → MasterPlace D) (once : IsAnsweredAlone call) where
     module _ (Made Then : Result Answer Refusal → Type 0) (more : (result : Result Answer Refusal) → Made result → Then result) (anyway : IsAnyway Then) (Given : Type 0) (given : Given → (refusal : Refusal) → Then (Err refusal)) (old : History D) (refused : AllSent (λ (m : Message). RefusesIf req Given m.body) old.sent)
-        (f : Follows Made old) (moment : Moment) (happening : Happening) (outcome : Upshot) (now : (result : Result Answer Refusal) → SaysNow old (record { moment = moment; happening = happening }) outcome req call result → Then result) where
+        (older : (m : MasterOf D) → old.nodes.master ≡ Standing m → numbered (last_reply m.state req.client) req.number ≡ Older → Then (Err refusals.Old)) (f : Follows Made old) (moment : Moment) (happening : Happening) (outcome : Upshot) (now : (result : Result Answer Refusal) → SaysNow old (record { moment = moment; happening = happening }) outcome req call result → Then result) where
       at_master : (place : MasterPlace D) (new : Nodes D) (messages : List Message) → new ≡ with_master place old.nodes → sent_by outcome ≡ messages → PlaceSo req call Then place × AllSays req call Then messages → AllSaid Any messages → Leaves Then outcome new
       at_master place new messages same is left of = subst (Leaves Then outcome) (sym same) (record {
         said = subst (AllSays req call Then) (sym is) left.1;
@@ -737,7 +746,7 @@ module _ (req : ReqId) (call : Call) where
 
       leaves : (new : Nodes D) → spares_master (Comes (record { moment = moment; happening = happening })) ≡ true → Part seen failures armed old moment happening outcome new → Leaves Then outcome new
       leaves new spares (Heard id message turn place it was to hears is same) =
-          let left = hears_so req call Made Then more anyway seen failures message moment old.nodes.master place turn once (f.sent id message was).0 (f.sent id message was).1 f.master
+          let left = hears_so req call Made Then more anyway seen failures message moment old.nodes.master place turn once (f.sent id message was).0 (f.sent id message was).1 f.master older
           (λ m stands asks from apart new_call result reply there says. now result (record {
             id = id;
             message = message;
@@ -786,9 +795,10 @@ module _ (req : ReqId) (call : Call) where
     both_so Then messages says of = all_both (λ (m : Message). Says req call Then m.body) (λ (m : Message). SaysOf Any m.from m.body) (SoMessage Then) messages (λ m one two. (one, two)) says of
 
     pub event_follows : (Made Then : Result Answer Refusal → Type 0) → ((result : Result Answer Refusal) → Made result → Then result) → IsAnyway Then → (Given : Type 0) → (Given → (refusal : Refusal) → Then (Err refusal)) → (event : Event) (old new : History D) (said : Result (Unit {0}) Refusal) (h : Happens seen failures armed event old said new) → spares_master (Comes event) ≡ true
-        → AllSent (λ (m : Message). RefusesIf req Given m.body) old.sent → ((result : Result Answer Refusal) → SaysNow old event h.outcome req call result → Then result) → Follows Made old → Follows Then new
-    event_follows Made Then more anyway Given given event old new said h spares refused now f =
-        let left = leaves Made Then more anyway Given given old refused f event.moment event.happening h.outcome now new.nodes spares (part_of seen failures armed old event.moment event.happening h.by h.outcome new.nodes h.at) in record {
+        → AllSent (λ (m : Message). RefusesIf req Given m.body) old.sent → ((m : MasterOf D) → old.nodes.master ≡ Standing m → numbered (last_reply m.state req.client) req.number ≡ Older → Then (Err refusals.Old))
+        → ((result : Result Answer Refusal) → SaysNow old event h.outcome req call result → Then result) → Follows Made old → Follows Then new
+    event_follows Made Then more anyway Given given event old new said h spares refused older now f =
+        let left = leaves Made Then more anyway Given given old refused older f event.moment event.happening h.outcome now new.nodes spares (part_of seen failures armed old event.moment event.happening h.by h.outcome new.nodes h.at) in record {
           sent = posted_all (SoMessage Then) event.moment h.by (sent_by h.outcome) old.sent new.sent (posts event.moment h.by h.outcome old.sent said new.sent h.tells)
               (sent_then (SoMessage Made) (SoMessage Then) old.sent (λ m was. (says_more req call Made Then more m.body was.0, was.1)) f.sent) (both_so Then (sent_by h.outcome) left.said left.of);
           master = left.master;
@@ -851,12 +861,12 @@ module _ (req : ReqId) (call : Call) where
     none_behind (x ∷ xs) = ap (λ (ys : List Step). x ∷ ys) (none_behind xs)
 
     -- With each world on the way such. There refusals of servers are given, and of some refusals nothing is said.
-    module _ (Such : History D → Type 0) (Given : Type 0) (fine : (h : History D) → Such h → AllSent (λ (m : Message). RefusesIf req Given m.body) h.sent) (Spared : Refusal → Type 0) (spared : Spared refusals.Old × Spared refusals.Device × Spared refusals.Unsure) (given : Given → (refusal : Refusal) → Spared refusal) where
+    module _ (Such : History D → Type 0) (Given : Type 0) (Spared : Refusal → Type 0) (fine : (h : History D) → Such h → IsFine req Given Spared h) (spared : Spared refusals.Device × Spared refusals.Unsure) (given : Given → (refusal : Refusal) → Spared refusal) where
       abbrev Answered_by : List Step → History D → History D → Result Answer Refusal → Type 0
       Answered_by steps old new result = SparedIn Spared result ⊎ ((made : WasSaid seen failures armed steps old new req call result) × SaidBy seen failures armed Such steps old new req call result made)
 
       anyway : (steps : List Step) (old new : History D) → IsAnyway (Answered_by steps old new)
-      anyway steps old new = (inl spared.0, inl spared.1, inl spared.2)
+      anyway steps old new = (inl spared.0, inl spared.1)
 
       abbrev All_such : (steps : List Step) (old new : History D) → RunsTo seen failures armed steps old new → Type 0
       All_such steps old new runs = (h : History D) → Passes seen failures armed h steps old new runs → Such h
@@ -888,12 +898,12 @@ module _ (req : ReqId) (call : Call) where
       )
 
       abbrev AreFine : History D → Type 0
-      AreFine h = AllSent (λ (m : Message). RefusesIf req Given m.body) h.sent
+      AreFine h = IsFine req Given Spared h
 
       step_follows : (steps : List Step) (step : Step) (old mid new : History D) (runs : RunsTo seen failures armed steps old mid) → All_such steps old mid runs → AreFine mid → Goes seen failures armed step mid new → Such new → spares_master step ≡ true → Follows (Answered_by steps old mid) mid
           → Follows (Answered_by (steps ++ step ∷ []) old new) new
       step_follows steps (Comes event) old mid new runs all refused (said, h) is spares f =
-          event_follows (Answered_by steps old mid) (Answered_by (steps ++ Comes event ∷ []) old new) (further steps (Comes event) old mid new (said, h) is) (anyway (steps ++ Comes event ∷ []) old new) Given (λ so refusal. inl (given so refusal)) event mid new said h spares refused
+          event_follows (Answered_by steps old mid) (Answered_by (steps ++ Comes event ∷ []) old new) (further steps (Comes event) old mid new (said, h) is) (anyway (steps ++ Comes event ∷ []) old new) Given (λ so refusal. inl (given so refusal)) event mid new said h spares refused.0 (λ m at is. inl (refused.1 m at is))
           (λ result says. inr (record { before = steps; now = mid; event = event; said = said; next = new; after = []; parts = refl; first = runs; happens = h; rest = refl; answers = says }, record { first = all; next = is; rest = λ k never. absurd never })) f
       step_follows steps (Takes client) old mid new runs all refused goes is spares f =
           takes_follows (Answered_by steps old mid) (Answered_by (steps ++ Takes client ∷ []) old new) (further steps (Takes client) old mid new goes is) client mid new goes f
@@ -1001,13 +1011,12 @@ module _ {D : Type 0} (seen : D → List ℕ) (failures : D → ℕ) (armed : Di
   abbrev pub Such : History D → Type 0
   Such h = Passes seen failures armed h steps asked new runs
 
-  pub says_are_made : (Given : Type 0) (Spared : Refusal → Type 0) → Spared refusals.Old × Spared refusals.Device × Spared refusals.Unsure → (Given → (refusal : Refusal) → Spared refusal) → AllSent (λ (m : Message). RefusesIf req Given m.body) asked.sent
-      → ((h : History D) → Such h → AllSent (λ (m : Message). RefusesIf req Given m.body) h.sent) → AreAsked seen old → AsksFresh seen failures armed old moment req call asked → IsAnsweredAlone call → AllByRecursion (λ step. spares_master step ≡ true) steps
+  pub says_are_made : (Given : Type 0) (Spared : Refusal → Type 0) → Spared refusals.Device × Spared refusals.Unsure → (Given → (refusal : Refusal) → Spared refusal) → IsFine req Given Spared asked → ((h : History D) → Such h → IsFine req Given Spared h) → AreAsked seen old → AsksFresh seen failures armed old moment req call asked → IsAnsweredAlone call → AllByRecursion (λ step. spares_master step ≡ true) steps
       → (node : Node) (result : Result Answer Refusal) → client_in new.nodes.clients req.client ≡ Some node → node.last ≡ req.number → node.reply ≡ Some (answered replies.Answer result)
       → SparedIn Spared result ⊎ ((made : WasSaid seen failures armed steps asked new req call result) × SaidBy seen failures armed Such steps asked new req call result made)
   says_are_made Given Spared spared given here fine are fresh once spares node result there last reply =
-      let begun = asked_follows req call seen failures armed once (Answered_by req call seen failures armed once Such Given fine Spared spared given [] asked asked) old asked moment are fresh in
-      (run_follows req call seen failures armed once Such Given fine Spared spared given [] steps asked asked new refl (λ h never. absurd never) here runs (λ h on. on) spares begun).client node there result last reply
+      let begun = asked_follows req call seen failures armed once (Answered_by req call seen failures armed once Such Given Spared fine spared given [] asked asked) old asked moment are fresh in
+      (run_follows req call seen failures armed once Such Given Spared fine spared given [] steps asked asked new refl (λ h never. absurd never) here runs (λ h on. on) spares begun).client node there result last reply
 
 -- nothing is said of refusals
 any_refuses : (req : ReqId) (body : Body) → RefusesIf req (Unit {0}) body
@@ -1028,7 +1037,7 @@ any_refuses req (bodies.Behind epoch) = tt
 -- of each call that is answered by itself
 pub lone_answers_are_made : {D : Type 0} (seen : D → List ℕ) (failures : D → ℕ) (armed : DiskId → ℕ → MasterPlace D → MasterPlace D) → LoneAnswersAreMade seen failures armed
 lone_answers_are_made {D} seen failures armed old asked new moment req call steps node answer are fresh once runs spares there last reply =
-    elim (says_are_made seen failures armed old asked new moment req call steps runs (Unit {0}) (λ refusal. Unit {0}) (tt, tt, tt) (λ given refusal. tt) (λ id m was. any_refuses req m.body) (λ h such id m was. any_refuses req m.body) are fresh once spares node (Ok answer) there last reply) [
+    elim (says_are_made seen failures armed old asked new moment req call steps runs (Unit {0}) (λ refusal. Unit {0}) (tt, tt) (λ given refusal. tt) ((λ id m was. any_refuses req m.body), (λ m at is. tt)) (λ h such. ((λ id m was. any_refuses req m.body), (λ m at is. tt))) are fresh once spares node (Ok answer) there last reply) [
       | inl never ↦ absurd never
       | inr made ↦ made
     ]

@@ -336,6 +336,7 @@ module _ {D : Type 0} (seen : D → List ℕ) (failures : D → ℕ) (armed : Di
       sent = λ id message was. old_calls message.from message.body (are_mid.sent id message (stays id message was));
       master = subst (StandsStillAt d client c.req.number) (sym there.stands) (record {
         names = refl;
+        hidden = refl;
         phase = refl;
         epoch = refl;
         none = none;

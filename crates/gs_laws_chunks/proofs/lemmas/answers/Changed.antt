@@ -1,6 +1,5 @@
 -- A change of the tree that is under way, and what stands once its client has a reply.
 use Rattle.std.proofs.Common.{◌≡◌, ◌∙◌, inl, inr, ◌<◌, ◌≤◌, ◌++◌, ℕ, Bool, true, false, List, [], ◌∷◌, Option, Some, Result, Ok, Err, refl, sym, ap, subst, arith}
-use Rattle.std.specs.Prelude.{is_some}
 use Rattle.std.specs.List.{AllByRecursion}
 use Rattle.std.proofs.lemmas.Bool.{false≢true}
 use Rattle.gs_base.specs.Told.{IsNumber}
@@ -10,7 +9,6 @@ use Rattle.gs_base.specs.declared.numbers.ReqId.{ReqId}
 use Rattle.gs_base.specs.declared.refusal.Refusal.{Refusal}
 use Rattle.gs_base.specs.declared.refusal.Refusal.TheVariants as refusals
 use Rattle.gs_client.specs.Nodes.{Node, request_of}
-use Rattle.gs_edit.specs.View.{NamesView}
 use Rattle.gs_master.specs.Masters.{MasterOf}
 use Rattle.gs_master.specs.Ticking.{lacking, pressed_all}
 use Rattle.gs_msg.specs.declared.answer.Answer.{Answer}
@@ -26,20 +24,18 @@ use Rattle.gs_msg.specs.declared.message.Message.{Message}
 use Rattle.gs_msg.specs.declared.message.MsgId.{MsgId}
 use Rattle.gs_msg.specs.declared.node.NodeId.{NodeId}
 use Rattle.gs_msg.specs.declared.node.NodeId.TheVariants as nodes
-use Rattle.gs_master_record.specs.Plain.{PlainEdit}
 use Rattle.gs_master_spec.specs.Durable.{Durable}
 use Rattle.gs_master_spec.specs.Handling.{handle, new_call, tick}
 use Rattle.gs_master_spec.specs.State.{State, Turn, is_failed, is_kept}
-use Rattle.gs_master_spec.specs.Undoing.{edited_names}
 use Rattle.gs_master_spec.specs.Volatile.{is_pending}
 use Rattle.gs_laws_master.specs.Standing.{Comes as HearsAt, IsFirm, IsNamedBody, IsNamedCall}
 use Rattle.gs_laws_master.specs.Written.{IsSteady}
-use Rattle.gs_laws_moves.specs.answers.Changes.{Changes, edit_for}
+use Rattle.gs_laws_moves.specs.answers.Changes.{Changes, edit_for, is_change}
 use Rattle.gs_laws_moves.specs.answers.Resting.{HasHad, LeavesNames}
 use Rattle.gs_laws_moves.specs.moves.Epochs.{EndsOnce}
 use Rattle.gs_laws_moves.specs.moves.ForCalls.{IsMadeWellFor}
 use Rattle.gs_laws_moves.specs.moves.Laws.{said_from}
-use Rattle.gs_laws_moves.proofs.lemmas.answers.Changes.{changes_at_once, refused_changes_leave}
+use Rattle.gs_laws_moves.proofs.lemmas.answers.Changes.{changes_are_not_old, changes_at_once, refused_changes_leave}
 use Rattle.gs_laws_moves.proofs.lemmas.answers.Concerning.{ticks_concerned}
 use Rattle.gs_laws_moves.proofs.lemmas.answers.Resting.{had_not_new}
 use Rattle.gs_laws_moves.proofs.lemmas.moves.Stands.{events_stand_for}
@@ -55,14 +51,14 @@ use Rattle.gs_laws_chunks.specs.answers.Answered.{AsksFresh, WasSaid}
 use Rattle.gs_laws_chunks.specs.answers.Asked.{AreAsked, HasAsked, SaysOf}
 use Rattle.gs_laws_chunks.specs.answers.Behind.{HasAnswer, asks_call}
 use Rattle.gs_laws_chunks.specs.answers.Calm.{IsCalm, IsCalmAt}
-use Rattle.gs_laws_chunks.specs.answers.Changed.{CallsSo, ChangesLeaveStill, ChangesStayCalm, ChangesStayUnderWay, HasRefusal, IsChanged, IsEdited, IsLeft, IsOwnLooksOrOld, IsSo, IsUnderWay, RefusedChangesLeaveStill, StandsEither, StandsSo}
+use Rattle.gs_laws_chunks.specs.answers.Changed.{CallsSo, ChangesAreNeverOld, ChangesLeaveStill, ChangesStayCalm, ChangesStayUnderWay, HasRefusal, IsAt, IsChanged, IsEdited, IsLeft, IsOwnLooksOrOld, IsSo, IsUnderWay, RefusedChangesLeaveStill, StandsEither, StandsSo}
 use Rattle.gs_laws_chunks.specs.answers.Resting.{AsksLooks, IsLooking, IsOldOrLooks, IsStill, StandsStill, StandsStillAt}
 use Rattle.gs_laws_chunks.specs.answers.Served.{AreServed, IsUnjudged}
 use Rattle.gs_laws_chunks.proofs.lemmas.answers.Answered.{lone_answers_are_made}
 use Rattle.gs_laws_chunks.proofs.lemmas.answers.Asked.{lacking_only}
 use Rattle.gs_laws_chunks.proofs.lemmas.answers.Behind.{SaidOrFailed, SaidThere, all_back, all_front, all_one_more, all_spare, firm_so, made_there, run_more, said_there}
 use Rattle.gs_laws_chunks.proofs.lemmas.answers.Calm.{begin_is, handle_calm, is_begin, lacking_calm, tick_calm, unbegun_calm}
-use Rattle.gs_laws_chunks.proofs.lemmas.answers.Changing.{as_old, firm_changes, heard_either, nobody_either, refused_changes_had}
+use Rattle.gs_laws_chunks.proofs.lemmas.answers.Changing.{as_old, edited_then, firm_changes, heard_either, nobody_either, refused_changes_had}
 use Rattle.gs_laws_chunks.proofs.lemmas.answers.Resting.{stays_still}
 use Rattle.gs_laws_chunks.proofs.lemmas.answers.Served.{lone_refusals_are_made}
 use Rattle.gs_laws_chunks.proofs.lemmas.answers.Sparing.{AllSpare, lasts_spared}
@@ -78,11 +74,8 @@ below_itself n = omega arith
 node_is : {a b : Node} → ◌≡◌ {A = Option Node} (Some a) (Some b) → a ≡ b
 node_is is = cc
 
-some_change : (call : Call) (edit : PlainEdit) → edit_for call ≡ Some edit → is_some (edit_for call) ≡ true
-some_change call edit is = ap is_some is
-
-change_alone : (call : Call) → is_some (edit_for call) ≡ true → IsAnsweredAlone call
-change_alone call some config s req moment = changes_at_once config s req moment call some
+change_alone : (call : Call) → is_change call ≡ true → IsAnsweredAlone call
+change_alone call is config s req moment = changes_at_once config s req moment call is
 
 module _ {D : Type 0} (seen : D → List ℕ) (failures : D → ℕ) (armed : DiskId → ℕ → MasterPlace D → MasterPlace D) where
   -- ---- over steps, whatever stays over each
@@ -105,15 +98,15 @@ module _ {D : Type 0} (seen : D → List ℕ) (failures : D → ℕ) (armed : Di
 
   -- ---- under way
 
-  module _ (d : Durable) (edit : PlainEdit) (client : ClientId) (number : ℕ) (req : ReqId) (call : Call) (is : edit_for call ≡ Some edit) (mine : req.client ≡ client) where
+  module _ (d : Durable) (client : ClientId) (number : ℕ) (req : ReqId) (call : Call) (is : is_change call ≡ true) (mine : req.client ≡ client) where
     abbrev So : ReqId → Call → Type 0
     So = IsOwnLooksOrOld client number req call
 
     abbrev Either : State → Type 0
-    Either = StandsEither d edit client number req
+    Either = StandsEither d client number req call
 
     abbrev Way : History D → Type 0
-    Way h = IsUnderWay d edit client number req call h
+    Way h = IsUnderWay d client number req call h
 
     -- what may be heard there
     said_at : (old : History D) → KeepsTypes old → (id : MsgId) (message : Message) → message_of old.sent id ≡ Some message → message.to ≡ nodes.Master → MayBeHeard message.body
@@ -123,7 +116,7 @@ module _ {D : Type 0} (seen : D → List ℕ) (failures : D → ℕ) (armed : Di
     hears_so : (old : History D) (moment : Moment) → IsNumber moment.0 → KeepsTypes old → LastsThrough seen old.nodes.master → AllSent (λ (m : Message). CallsSo So m.body) old.sent
         → (id : MsgId) (message : Message) → message_of old.sent id ≡ Some message → message.to ≡ nodes.Master → (m : MasterOf D) → old.nodes.master ≡ Standing m → Either m.state → TurnSo Either m.state (handle m.config m.state message moment)
     hears_so old moment bound types lasts sent id message was to m at so =
-        heard_either d edit client number req call is mine m.config m.state message moment (said_at old types id message was to).named bound (firm_so seen failures armed m (subst (LastsThrough seen) at lasts)) (sent id message was) so
+        heard_either d client number req call is mine m.config m.state message moment (said_at old types id message was to).named bound (firm_so seen failures armed m (subst (LastsThrough seen) at lasts)) (sent id message was) so
 
     abbrev AsksSo : Happening → Type 0
     AsksSo happening = (other : ReqId) (said : Call) (n : Node) → happening ≡ happenings.Ask other (requests.Call said) → n.id ≡ other.client → So (request_of n other.number) said
@@ -131,8 +124,8 @@ module _ {D : Type 0} (seen : D → List ℕ) (failures : D → ℕ) (armed : Di
     happens_so : (old : History D) (moment : Moment) (happening : Happening) → IsNumber moment.0 → KeepsTypes old → LastsThrough seen old.nodes.master → AllSent (λ (m : Message). CallsSo So m.body) old.sent → AsksSo happening → HappensSo So Either old moment happening
     happens_so old moment happening bound types lasts sent asks = record {
       hears = hears_so old moment bound types lasts sent;
-      ticks = λ m at so. nobody_either d edit client number req call is mine m.state (tick m.state moment) (ticks_concerned m.state moment) so;
-      lacks = λ m at sound so. nobody_either d edit client number req call is mine m.state (lacking (pressed_all m.state moment)) (lacking_only seen failures (λ r. ⊥) m.state moment) so;
+      ticks = λ m at so. nobody_either d client number req call is mine m.state (tick m.state moment) (ticks_concerned m.state moment) so;
+      lacks = λ m at sound so. nobody_either d client number req call is mine m.state (lacking (pressed_all m.state moment)) (lacking_only seen failures (λ r. ⊥) m.state moment) so;
       asks = asks;
     }
 
@@ -193,8 +186,8 @@ module _ {D : Type 0} (seen : D → List ℕ) (failures : D → ℕ) (armed : Di
     both_so : (s : State) (t : Turn) → TurnSo Either s t → IsCalm t.after → TurnSo Calmly s t
     both_so s t so calm = record { after = (so.after, calm); cuts = λ place within. (so.cuts place within, inl refl) }
 
-    no_begin : edit_for calls.PrepareBegin ≡ Some edit → ⊥
-    no_begin same = false≢true (ap is_some same)
+    no_begin : is_change calls.PrepareBegin ≡ true → ⊥
+    no_begin same = false≢true same
 
     -- what begins one is old there
     begin_old : (body : Body) → CallsSo So body → is_begin body ≡ true → IsOldOrLooks client number body
@@ -203,11 +196,11 @@ module _ {D : Type 0} (seen : D → List ℕ) (failures : D → ℕ) (armed : Di
         by_says : (other : ReqId) → CallsSo So (bodies.Call other calls.PrepareBegin) → IsOldOrLooks client number (bodies.Call other calls.PrepareBegin)
         by_says other (same, inl low) = (same, inl low.0)
         by_says other (same, inr (inl looks)) = (same, inr looks)
-        by_says other (same, inr (inr own)) = absurd (no_begin (subst (λ c. edit_for c ≡ Some edit) (sym own.1) is))
+        by_says other (same, inr (inr own)) = absurd (no_begin (subst (λ c. is_change c ≡ true) (sym own.1) is))
 
     heard_calm : (m : MasterOf D) (message : Message) (moment : Moment) → CallsSo So message.body → (is_failed m.state.fault ≡ false → EndsOnce m.config (IsMadeWellFor m.config (said_from message.from message.body)) m.state (handle m.config m.state message moment)) → Either m.state → IsCalm m.state
         → IsCalm (handle m.config m.state message moment).after
-    heard_calm m message moment says once (inr new) calm = handle_calm new.durable client req.number m.config m.state new.still message moment (as_old d edit client number req call is mine message.body says) once calm
+    heard_calm m message moment says once (inr new) calm = handle_calm new.durable client req.number m.config m.state new.still message moment (as_old d client number req call is mine message.body says) once calm
     heard_calm m message moment says once (inl so) calm = by_begin (is_begin message.body) refl
       where
         by_begin : (b : Bool) → is_begin message.body ≡ b → IsCalm (handle m.config m.state message moment).after
@@ -251,7 +244,7 @@ module _ {D : Type 0} (seen : D → List ℕ) (failures : D → ℕ) (armed : Di
 
   -- ---- the turn of the call, of which its client has a reply
 
-  module _ (d : Durable) (edit : PlainEdit) (client : ClientId) (number : ℕ) (req : ReqId) (call : Call) (is : edit_for call ≡ Some edit) (mine : req.client ≡ client) (old asked mid : History D) (moment : Moment) (steps : List Step) (are : AreAsked seen old) (types : KeepsTypes old)
+  module _ (d : Durable) (client : ClientId) (number : ℕ) (req : ReqId) (call : Call) (is : is_change call ≡ true) (mine : req.client ≡ client) (old asked mid : History D) (moment : Moment) (steps : List Step) (are : AreAsked seen old) (types : KeepsTypes old)
       (lasts : LastsThrough seen old.nodes.master) (still : IsStill d client number old) (x : AsksFresh seen failures armed old moment req call asked) (all_within : AllByRecursion IsStepWithin (asks_call moment req call ∷ steps)) (looking : AllByRecursion (IsLooking client) steps)
       (result : Result Answer Refusal) (made : WasSaid seen failures armed steps asked mid req call result) where
     abbrev ask : Step
@@ -275,12 +268,12 @@ module _ {D : Type 0} (seen : D → List ℕ) (failures : D → ℕ) (armed : Di
     before_look : AllByRecursion (IsLooking client) made.before
     before_look = all_front (IsLooking client) made.before (Comes made.event ∷ made.after) parts_look
 
-    way_now : IsUnderWay d edit client number req call made.now
-    way_now = from_ask d edit client number req call is mine old asked made.now moment made.before are types lasts still x made.first (all_within.0, before_within) before_look
+    way_now : IsUnderWay d client number req call made.now
+    way_now = from_ask d client number req call is mine old asked made.now moment made.before are types lasts still x made.first (all_within.0, before_within) before_look
 
-    way_next : IsUnderWay d edit client number req call made.next
+    way_next : IsUnderWay d client number req call made.next
     way_next =
-        from_ask d edit client number req call is mine old asked made.next moment (made.before ++ Comes made.event ∷ []) are types lasts still x (run_more seen failures armed made.before (Comes made.event) asked made.now made.next made.first (made.said, made.happens))
+        from_ask d client number req call is mine old asked made.next moment (made.before ++ Comes made.event ∷ []) are types lasts still x (run_more seen failures armed made.before (Comes made.event) asked made.now made.next made.first (made.said, made.happens))
         (all_within.0, all_one_more IsStepWithin made.before (Comes made.event) before_within here_within.0) (all_one_more (IsLooking client) made.before (Comes made.event) before_look here_look.0)
 
     to_now : RunsTo seen failures armed (ask ∷ made.before) old made.now
@@ -309,24 +302,28 @@ module _ {D : Type 0} (seen : D → List ℕ) (failures : D → ℕ) (armed : Di
         let said : MayBeHeard made.answers.message.body = subst (λ (n : NodeId). MayBeSaid n made.answers.message.body) made.answers.to (types_now.sent made.answers.id made.answers.message made.answers.was) in
         subst IsNamedBody made.answers.asks said.named
 
+    -- its moment is that of a step since the call was asked
+    since_asked : (now : Moment) → AllByRecursion (IsAt now) steps → made.event.moment ≡ now
+    since_asked now all = (all_back (IsAt now) made.before (Comes made.event ∷ made.after) (subst (AllByRecursion (IsAt now)) made.parts all)).0
+
     -- the call was new, so the old names stood
     stood : StandsStill d client number s
-    stood = by_either (subst (StandsSo (StandsEither d edit client number req)) made.answers.stands way_now.master)
+    stood = by_either (subst (StandsSo (StandsEither d client number req call)) made.answers.stands way_now.master)
       where
-        by_either : StandsEither d edit client number req s → StandsStill d client number s
+        by_either : StandsEither d client number req call s → StandsStill d client number s
         by_either (inl so) = so
         by_either (inr new) = absurd (had_not_new s req.client req.number req.number (subst (λ k. HasHad s k req.number) (sym mine) new.still.had) (below_itself req.number) made.answers.new)
 
     none_waits : (other : ReqId) → is_pending t.after.volatile.pending other ≡ true → ⊥
-    none_waits other waits = stood.none other ((change_alone call (some_change call edit is) made.answers.master.config s req made.event.moment).1.waits other waits)
+    none_waits other waits = stood.none other ((change_alone call is made.answers.master.config s req made.event.moment).1.waits other waits)
 
     -- behind it
     module _ (there : SaidThere seen failures armed made.now made.event.moment made.answers.master req call result made.next.nodes) where
-      still_next : (e : Durable) → t.after.durable.names ≡ e.names → t.after.durable.phase ≡ e.phase → t.after.durable.epoch ≡ e.epoch → HasHad t.after req.client req.number → IsStill e client req.number made.next
-      still_next e names phase epoch had = record {
-        sent = λ id message was. as_old d edit client number req call is mine message.body (way_next.sent id message was);
+      still_next : (e : Durable) → t.after.durable.names ≡ e.names → t.after.durable.next_hidden ≡ e.next_hidden → t.after.durable.phase ≡ e.phase → t.after.durable.epoch ≡ e.epoch → HasHad t.after req.client req.number → IsStill e client req.number made.next
+      still_next e names hidden phase epoch had = record {
+        sent = λ id message was. as_old d client number req call is mine message.body (way_next.sent id message was);
         master = subst (StandsStillAt e client req.number) (sym there.stands)
-            (subst (StandsStill e client req.number) (sym there.is) (record { names = names; phase = phase; epoch = epoch; none = none_waits; had = subst (λ k. HasHad t.after k req.number) mine had }));
+            (subst (StandsStill e client req.number) (sym there.is) (record { names = names; hidden = hidden; phase = phase; epoch = epoch; none = none_waits; had = subst (λ k. HasHad t.after k req.number) mine had }));
         numbered = way_next.numbered;
       }
 
@@ -335,10 +332,10 @@ module _ {D : Type 0} (seen : D → List ℕ) (failures : D → ℕ) (armed : Di
 
   -- ---- an answer
 
-  module _ (d : Durable) (client : ClientId) (number : ℕ) (old mid : History D) (call : Call) (edit : PlainEdit) (answer : Answer) (is : edit_for call ≡ Some edit) (are : AreAsked seen old) (types : KeepsTypes old) (lasts : LastsThrough seen old.nodes.master) (still : IsStill d client number old)
+  module _ (d : Durable) (client : ClientId) (number : ℕ) (old mid : History D) (call : Call) (answer : Answer) (is : is_change call ≡ true) (are : AreAsked seen old) (types : KeepsTypes old) (lasts : LastsThrough seen old.nodes.master) (still : IsStill d client number old)
       (c : HasAnswer seen failures armed client old call answer mid) where
     made : WasSaid seen failures armed c.steps c.asked mid c.req call (Ok answer)
-    made = (lone_answers_are_made seen failures armed old c.asked mid c.moment c.req call c.steps c.node answer are c.asks (change_alone call (some_change call edit is)) c.runs (all_spare client c.steps c.looking)
+    made = (lone_answers_are_made seen failures armed old c.asked mid c.moment c.req call c.steps c.node answer are c.asks (change_alone call is) c.runs (all_spare client c.steps c.looking)
         (subst (λ k. client_in mid.nodes.clients k ≡ Some c.node) (sym c.own) c.there) c.last c.reply).0
 
     there : SaidThere seen failures armed made.now made.event.moment made.answers.master c.req call (Ok answer) made.next.nodes
@@ -350,34 +347,30 @@ module _ {D : Type 0} (seen : D → List ℕ) (failures : D → ℕ) (armed : Di
     abbrev its_turn : Turn
     its_turn = new_call made.answers.master.config made.answers.master.state c.req made.event.moment call
 
-    changes : Changes its c.req edit its_turn
+    changes : Changes its c.req (edit_for its.durable made.event.moment call) its_turn
     changes =
-        firm_changes made.answers.master.config its c.req made.event.moment call edit answer is (named d edit client number c.req call is c.own old c.asked mid c.moment c.steps are types lasts still c.asks c.within c.looking (Ok answer) made)
-        (here_within d edit client number c.req call is c.own old c.asked mid c.moment c.steps are types lasts still c.asks c.within c.looking (Ok answer) made).0.0
-        (firm d edit client number c.req call is c.own old c.asked mid c.moment c.steps are types lasts still c.asks c.within c.looking (Ok answer) made) made.answers.apart made.answers.new there.says
+        firm_changes made.answers.master.config its c.req made.event.moment call answer is (named d client number c.req call is c.own old c.asked mid c.moment c.steps are types lasts still c.asks c.within c.looking (Ok answer) made)
+        (here_within d client number c.req call is c.own old c.asked mid c.moment c.steps are types lasts still c.asks c.within c.looking (Ok answer) made).0.0
+        (firm d client number c.req call is c.own old c.asked mid c.moment c.steps are types lasts still c.asks c.within c.looking (Ok answer) made) made.answers.apart made.answers.new there.says
 
     before : StandsStill d client number its
-    before = stood d edit client number c.req call is c.own old c.asked mid c.moment c.steps are types lasts still c.asks c.within c.looking (Ok answer) made
+    before = stood d client number c.req call is c.own old c.asked mid c.moment c.steps are types lasts still c.asks c.within c.looking (Ok answer) made
 
-    edited : IsEdited edit d its_turn.after.durable
-    edited = record {
-      names = subst (λ (n : NamesView). edited_names edit n ≡ Ok its_turn.after.durable.names) before.names changes.names;
-      phase = changes.phase ∙ before.phase;
-      epoch = changes.epoch ∙ before.epoch;
-    }
+    edited : IsEdited made.event.moment call d its_turn.after.durable
+    edited = edited_then d client number c.req call is c.own its.durable before.names before.hidden before.phase before.epoch made.event.moment its_turn.after.durable changes.names changes.hidden changes.phase changes.epoch
 
-    changed : IsChanged d edit client number c.req call answer mid
+    changed : IsChanged d client number c.req call answer c.steps mid
     changed = record {
-      turn = record { config = made.answers.master.config; state = made.answers.master.state; moment = made.event.moment; stood = before; says = there.says };
+      turn = record { config = made.answers.master.config; state = made.answers.master.state; moment = made.event.moment; stood = before; says = there.says; since = since_asked d client number c.req call is c.own old c.asked mid c.moment c.steps are types lasts still c.asks c.within c.looking (Ok answer) made };
       changes = changes;
       edited = edited;
-      still = still_mid d edit client number c.req call is c.own old c.asked mid c.moment c.steps are types lasts still c.asks c.within c.looking (Ok answer) made there its_turn.after.durable
-          (still_next d edit client number c.req call is c.own old c.asked mid c.moment c.steps are types lasts still c.asks c.within c.looking (Ok answer) made there its_turn.after.durable refl refl refl changes.had);
+      still = still_mid d client number c.req call is c.own old c.asked mid c.moment c.steps are types lasts still c.asks c.within c.looking (Ok answer) made there its_turn.after.durable
+          (still_next d client number c.req call is c.own old c.asked mid c.moment c.steps are types lasts still c.asks c.within c.looking (Ok answer) made there its_turn.after.durable refl refl refl refl changes.had);
     }
 
   -- ---- a refusal
 
-  module _ (d : Durable) (client : ClientId) (number : ℕ) (old mid : History D) (call : Call) (edit : PlainEdit) (refusal : Refusal) (is : edit_for call ≡ Some edit) (are : AreAsked seen old) (served : AreServed old) (types : KeepsTypes old) (lasts : LastsThrough seen old.nodes.master)
+  module _ (d : Durable) (client : ClientId) (number : ℕ) (old mid : History D) (call : Call) (refusal : Refusal) (is : is_change call ≡ true) (are : AreAsked seen old) (served : AreServed old) (types : KeepsTypes old) (lasts : LastsThrough seen old.nodes.master)
       (still : IsStill d client number old) (c : HasRefusal seen failures armed client old call refusal mid) (kept : is_kept refusal ≡ true) (sure : refusal ≡ refusals.Unsure → ⊥) where
     refusal_is : {a b : Refusal} → ◌≡◌ {A = Result Answer Refusal} (Err a) (Err b) → a ≡ b
     refusal_is same = cc
@@ -385,46 +378,68 @@ module _ {D : Type 0} (seen : D → List ℕ) (failures : D → ℕ) (armed : Di
     not_kept : (other : Refusal) → is_kept other ≡ false → refusal ≡ other → ⊥
     not_kept other none same = false≢true (sym none ∙ (ap is_kept (sym same) ∙ kept))
 
-    by_turn : (was : WasSaid seen failures armed c.steps c.asked mid c.req call (Err refusal)) → SaidThere seen failures armed was.now was.event.moment was.answers.master c.req call (Err refusal) was.next.nodes → IsLeft d client number c.req call refusal mid
+    by_turn : (was : WasSaid seen failures armed c.steps c.asked mid c.req call (Err refusal)) → SaidThere seen failures armed was.now was.event.moment was.answers.master c.req call (Err refusal) was.next.nodes → IsLeft d client number c.req call refusal c.steps mid
     by_turn was there =
-        let some = some_change call edit is in
-        let before = stood d edit client number c.req call is c.own old c.asked mid c.moment c.steps are types lasts still c.asks c.within c.looking (Err refusal) was in
+        let before = stood d client number c.req call is c.own old c.asked mid c.moment c.steps are types lasts still c.asks c.within c.looking (Err refusal) was in
         let leaves : LeavesNames was.answers.master.state c.req (new_call was.answers.master.config was.answers.master.state c.req was.event.moment call) =
-        refused_changes_leave was.answers.master.config was.answers.master.state c.req was.event.moment call refusal some there.says in
+        refused_changes_leave was.answers.master.config was.answers.master.state c.req was.event.moment call refusal is there.says in
         record {
-          turn = record { config = was.answers.master.config; state = was.answers.master.state; moment = was.event.moment; stood = before; says = there.says };
-          still = still_mid d edit client number c.req call is c.own old c.asked mid c.moment c.steps are types lasts still c.asks c.within c.looking (Err refusal) was there d
-              (still_next d edit client number c.req call is c.own old c.asked mid c.moment c.steps are types lasts still c.asks c.within c.looking (Err refusal) was there d (leaves.names ∙ before.names) (leaves.phase ∙ before.phase) (leaves.epoch ∙ before.epoch)
-              (refused_changes_had was.answers.master.config was.answers.master.state c.req was.event.moment call refusal some kept there.says));
+          turn = record { config = was.answers.master.config; state = was.answers.master.state; moment = was.event.moment; stood = before; says = there.says; since = since_asked d client number c.req call is c.own old c.asked mid c.moment c.steps are types lasts still c.asks c.within c.looking (Err refusal) was };
+          still = still_mid d client number c.req call is c.own old c.asked mid c.moment c.steps are types lasts still c.asks c.within c.looking (Err refusal) was there d
+              (still_next d client number c.req call is c.own old c.asked mid c.moment c.steps are types lasts still c.asks c.within c.looking (Err refusal) was there d (leaves.names ∙ before.names) (leaves.hidden ∙ before.hidden) (leaves.phase ∙ before.phase) (leaves.epoch ∙ before.epoch)
+              (refused_changes_had was.answers.master.config was.answers.master.state c.req was.event.moment call refusal is kept there.says));
         }
 
-    by_said : (was : WasSaid seen failures armed c.steps c.asked mid c.req call (Err refusal)) → SaidOrFailed seen failures armed was.now was.event.moment was.answers.master c.req call (Err refusal) was.next.nodes → IsLeft d client number c.req call refusal mid
+    by_said : (was : WasSaid seen failures armed c.steps c.asked mid c.req call (Err refusal)) → SaidOrFailed seen failures armed was.now was.event.moment was.answers.master c.req call (Err refusal) was.next.nodes → IsLeft d client number c.req call refusal c.steps mid
     by_said was (inl unsure) = absurd (sure (refusal_is unsure))
     by_said was (inr (inl failed)) = absurd (not_kept refusals.Device refl (refusal_is failed))
     by_said was (inr (inr there)) = by_turn was there
 
-    left : IsLeft d client number c.req call refusal mid
-    left = elim (lone_refusals_are_made seen failures armed old c.asked mid c.moment c.req call c.steps c.node refusal are served types lasts c.asks (change_alone call (some_change call edit is)) c.runs (all_spare client c.steps c.looking) c.within
+    left : IsLeft d client number c.req call refusal c.steps mid
+    left = elim (lone_refusals_are_made seen failures armed old c.asked mid c.moment c.req call c.steps c.node refusal are served types lasts c.asks (change_alone call is) c.runs (all_spare client c.steps c.looking) c.within
         (subst (λ k. client_in mid.nodes.clients k ≡ Some c.node) (sym c.own) c.there) c.last c.reply) [
           | inl unjudged ↦ absurd (judged unjudged)
           | inr made ↦ by_said made.0 (said_there seen failures armed made.0.now made.0.event made.0.said made.0.next made.0.happens c.req call (Err refusal) made.0.answers)
         ]
       where
         judged : IsUnjudged refusal → ⊥
-        judged (inl same) = not_kept refusals.Old refl same
-        judged (inr (inl same)) = not_kept refusals.Device refl same
-        judged (inr (inr same)) = sure same
+        judged (inl same) = not_kept refusals.Device refl same
+        judged (inr same) = sure same
+
+  -- it isn't told to be an old one
+  module _ (client : ClientId) (old mid : History D) (call : Call) (is : is_change call ≡ true) (are : AreAsked seen old) (served : AreServed old) (types : KeepsTypes old) (lasts : LastsThrough seen old.nodes.master) (c : HasRefusal seen failures armed client old call refusals.Old mid) where
+    other_refusal : {a b : Refusal} → ◌≡◌ {A = Result Answer Refusal} (Err a) (Err b) → a ≡ b
+    other_refusal same = cc
+
+    judged_old : IsUnjudged refusals.Old → ⊥
+    judged_old (inl same) = absurd (cc)
+    judged_old (inr same) = absurd (cc)
+
+    said_old : (was : WasSaid seen failures armed c.steps c.asked mid c.req call (Err refusals.Old)) → SaidOrFailed seen failures armed was.now was.event.moment was.answers.master c.req call (Err refusals.Old) was.next.nodes → ⊥
+    said_old was (inl unsure) = judged_old (inr (other_refusal unsure))
+    said_old was (inr (inl failed)) = judged_old (inl (other_refusal failed))
+    said_old was (inr (inr there)) = changes_are_not_old was.answers.master.config was.answers.master.state c.req was.event.moment call is there.says
+
+    never_old : ⊥
+    never_old = elim (lone_refusals_are_made seen failures armed old c.asked mid c.moment c.req call c.steps c.node refusals.Old are served types lasts c.asks (change_alone call is) c.runs (all_spare client c.steps c.looking) c.within
+        (subst (λ k. client_in mid.nodes.clients k ≡ Some c.node) (sym c.own) c.there) c.last c.reply) [
+          | inl unjudged ↦ judged_old unjudged
+          | inr made ↦ said_old made.0 (said_there seen failures armed made.0.now made.0.event made.0.said made.0.next made.0.happens c.req call (Err refusals.Old) made.0.answers)
+        ]
+
+pub changes_are_never_old : {D : Type 0} (seen : D → List ℕ) (failures : D → ℕ) (armed : DiskId → ℕ → MasterPlace D → MasterPlace D) → ChangesAreNeverOld seen failures armed
+changes_are_never_old seen failures armed client old mid call is are served types lasts c = never_old seen failures armed client old mid call is are served types lasts c
 
 pub changes_stay_under_way : {D : Type 0} (seen : D → List ℕ) (failures : D → ℕ) (armed : DiskId → ℕ → MasterPlace D → MasterPlace D) → ChangesStayUnderWay seen failures armed
-changes_stay_under_way seen failures armed d client number old asked new moment req call edit steps is are types lasts still mine x runs within looking =
-    from_ask seen failures armed d edit client number req call is mine old asked new moment steps are types lasts still x runs within looking
+changes_stay_under_way seen failures armed d client number old asked new moment req call steps is are types lasts still mine x runs within looking =
+    from_ask seen failures armed d client number req call is mine old asked new moment steps are types lasts still x runs within looking
 
 pub changes_leave_still : {D : Type 0} (seen : D → List ℕ) (failures : D → ℕ) (armed : DiskId → ℕ → MasterPlace D → MasterPlace D) → ChangesLeaveStill seen failures armed
-changes_leave_still seen failures armed d client number old mid call edit answer is are types lasts still c = changed seen failures armed d client number old mid call edit answer is are types lasts still c
+changes_leave_still seen failures armed d client number old mid call answer is are types lasts still c = changed seen failures armed d client number old mid call answer is are types lasts still c
 
 pub refused_changes_leave_still : {D : Type 0} (seen : D → List ℕ) (failures : D → ℕ) (armed : DiskId → ℕ → MasterPlace D → MasterPlace D) → RefusedChangesLeaveStill seen failures armed
-refused_changes_leave_still seen failures armed d client number old mid call edit refusal is are served types lasts still c kept sure = left seen failures armed d client number old mid call edit refusal is are served types lasts still c kept sure
+refused_changes_leave_still seen failures armed d client number old mid call refusal is are served types lasts still c kept sure = left seen failures armed d client number old mid call refusal is are served types lasts still c kept sure
 
 pub changes_stay_calm : {D : Type 0} (seen : D → List ℕ) (failures : D → ℕ) (armed : DiskId → ℕ → MasterPlace D → MasterPlace D) → ChangesStayCalm seen failures armed
-changes_stay_calm seen failures armed d client number old asked new moment req call edit steps is are types lasts still calm mine x runs within looking =
-    calm_from_ask seen failures armed d edit client number req call is mine old asked new moment steps are types lasts still calm x runs within looking
+changes_stay_calm seen failures armed d client number old asked new moment req call steps is are types lasts still calm mine x runs within looking =
+    calm_from_ask seen failures armed d client number req call is mine old asked new moment steps are types lasts still calm x runs within looking

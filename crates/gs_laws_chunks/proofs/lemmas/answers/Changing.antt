@@ -1,6 +1,6 @@
 -- The turns of a master while a change of the tree is under way.
 use Rattle.std.proofs.Common.{if◌then◌else◌, ◌≡◌, ◌∙◌, inl, inr, ◌<◌, ◌≤◌, ℕ, Bool, true, false, List, [], ◌∷◌, Option, Some, None, Result, Ok, Err, refl, sym, ap, subst, arith}
-use Rattle.std.specs.Prelude.{is_some, nat_lt, not}
+use Rattle.std.specs.Prelude.{◌&&◌, ◌==◌, is_none, nat_lt, not}
 use Rattle.std.specs.FinMap as fin
 use Rattle.gs_base.specs.Told.{IsNumber}
 use Rattle.std.proofs.lemmas.Bool.{false≢true}
@@ -22,13 +22,15 @@ use Rattle.gs_msg.specs.declared.call.Call.TheVariants as calls
 use Rattle.gs_msg.specs.declared.message.Message.{Message}
 use Rattle.gs_msg.specs.declared.node.NodeId.{NodeId}
 use Rattle.gs_msg.specs.declared.node.NodeId.TheVariants as nodes
-use Rattle.gs_tree.specs.Edits.{old_name, target_of}
-use Rattle.gs_master_record.specs.Plain.{Create, Mkdirs, PlainEdit, Rename, Unhide}
+use Rattle.gs_path.specs.Path.{Path}
+use Rattle.gs_tree.specs.Edits.{hidden_path, old_name, same_path, target_of}
+use Rattle.gs_laws_moves.proofs.lemmas.answers.AtOnce.{pick}
+use Rattle.gs_master_record.specs.Plain.{Create, Hide, Mkdirs, PlainEdit, Rename, Unhide}
 use Rattle.gs_master_spec.specs.Applied.{replayed}
 use Rattle.gs_master_spec.specs.Durable.{Durable}
 use Rattle.gs_master_spec.specs.Handling.{Again, New, Numbered, Older, call_turn, called_unless, from_node, handle, new_call, numbered, refusal_in, replied_again, taken_as, waits_still}
 use Rattle.gs_master_spec.specs.Outcomes.{cut}
-use Rattle.gs_master_spec.specs.Calls.{accept_plan, edit_if, refused_before}
+use Rattle.gs_master_spec.specs.Calls.{accept_plan, answered_with, deleted, edit_if, edited_by, has_visible_child, refused_before}
 use Rattle.gs_master_spec.specs.Replies.{is_later}
 use Rattle.gs_master_spec.specs.State.{Failed, Fault, Sound, State, Turn, Unopened, fits, is_failed, is_kept, is_unopened, last_reply, refused, reply_to, turned, unmoved}
 use Rattle.gs_master_spec.specs.declared.reply.KeptReply.{KeptReply}
@@ -38,7 +40,7 @@ use Rattle.gs_laws_master.proofs.lemmas.refusals.Refusing.{refused_leaves}
 use Rattle.gs_laws_master.proofs.lemmas.standing.StandingRuns.{events_fit}
 use Rattle.gs_laws_master.specs.Standing.{Comes as Comes_to, IsFirm, IsNamedBody, IsNamedCall}
 use Rattle.gs_laws_moves.specs.answers.AtOnce.{AnswersAlone, OneSays}
-use Rattle.gs_laws_moves.specs.answers.Changes.{Changes, edit_for}
+use Rattle.gs_laws_moves.specs.answers.Changes.{Changes, edit_for, is_change, number_after, names_after}
 use Rattle.gs_laws_moves.proofs.lemmas.answers.Changes.{changes_are_made, changes_at_once, refused_changes_leave}
 use Rattle.gs_laws_moves.specs.answers.Concerned.{AnswersOnly, IsConcerned}
 use Rattle.gs_laws_moves.specs.answers.Resting.{HasHad, IsFrom, LeavesNames}
@@ -71,9 +73,9 @@ module _ (config : Config) (s : State) (req : ReqId) (moment : Moment) (call : C
       by_refusal None none says = sound_so s req call none
       by_refusal (Some refusal) none says = no_answer req refusal answer [] says
 
-  pub firm_changes : (edit : PlainEdit) (answer : Answer) → edit_for call ≡ Some edit → IsNamedCall call → IsNumber moment.0 → (is_failed s.fault ≡ false → IsFirm s) → is_pending s.volatile.pending req ≡ false → numbered (last_reply s req.client) req.number ≡ New
-      → OneSays req (Ok answer) (new_call config s req moment call).sent → Changes s req edit (new_call config s req moment call)
-  firm_changes edit answer is named bound firm apart new says = changes_are_made config s req moment call edit answer is new says (fit (accepted_sound answer says))
+  pub firm_changes : (answer : Answer) → is_change call ≡ true → IsNamedCall call → IsNumber moment.0 → (is_failed s.fault ≡ false → IsFirm s) → is_pending s.volatile.pending req ≡ false → numbered (last_reply s req.client) req.number ≡ New
+      → OneSays req (Ok answer) (new_call config s req moment call).sent → Changes s req (edit_for s.durable moment call) (new_call config s req moment call)
+  firm_changes answer is named bound firm apart new says = changes_are_made config s req moment call answer is new says (fit (accepted_sound answer says))
     where
       fit : is_failed s.fault ≡ false → replayed s.durable (new_call config s req moment call).records ≡ Some (new_call config s req moment call).after.durable
       fit sound =
@@ -121,23 +123,43 @@ module _ (s : State) (req : ReqId) (refusal : Refusal) (kept : is_kept refusal �
       by_room true says = no_refusal answer says
       by_room false says = other_had refusals.Full says
 
-  called_had : (config : Config) (moment : Moment) (call : Call) → is_some (edit_for call) ≡ true → (o : Option Refusal) → Had (called_unless config s req moment call o)
+  deleted_had : (moment : Moment) (path : Path) (recursive : Bool) → Had (deleted s req path recursive moment)
+  deleted_had moment path recursive =
+      let number = s.durable.next_hidden in
+      let hide = Hide path moment.0 number in
+      let answer = answers.Path (hidden_path path moment.0 number) in
+      let made = edited_by s req hide answer in
+      let numbered_so = if number == 0 then refused s req refusals.Exhausted else made in
+      let allowed = if not recursive && has_visible_child (fin.entries s.durable.names.tree) path then refused s req refusals.NotEmpty else numbered_so in
+      let found = if is_none (fin.get s.durable.names.tree path) then answered_with s req answers.Absent else allowed in
+      pick Had (same_path path []) (refused s req refusals.IsRoot) found (other_had refusals.IsRoot)
+      (pick Had (is_none (fin.get s.durable.names.tree path)) (answered_with s req answers.Absent) allowed (λ says. no_refusal answers.Absent says)
+      (pick Had (not recursive && has_visible_child (fin.entries s.durable.names.tree) path) (refused s req refusals.NotEmpty) numbered_so (other_had refusals.NotEmpty)
+      (pick Had (number == 0) (refused s req refusals.Exhausted) made (other_had refusals.Exhausted) (edit_had hide answer (edited_names hide s.durable.names)))))
+
+  called_had : (config : Config) (moment : Moment) (call : Call) → is_change call ≡ true → (o : Option Refusal) → Had (called_unless config s req moment call o)
   called_had config moment call is (Some other) = other_had other
   called_had config moment (calls.Mkdirs path) is None = edit_had (Mkdirs path) answers.Nothing (edited_names (Mkdirs path) s.durable.names)
   called_had config moment (calls.Create path) is None = edit_had (Create path) answers.Nothing (edited_names (Create path) s.durable.names)
   called_had config moment (calls.Rename from to) is None = edit_had (Rename from (target_of (fin.get s.durable.names.tree) from to)) answers.Nothing (edited_names (Rename from to) s.durable.names)
+  called_had config moment (calls.Delete path recursive) is None = deleted_had moment path recursive
   called_had config moment (calls.Undelete path) is None = edit_had (Unhide path) (answers.Path (unhide_target path (old_name path))) (edited_names (Unhide path) s.durable.names)
   called_had config moment call is None = absurd (false≢true is)
 
 -- a change that is refused is had, if the refusal is kept
-pub refused_changes_had : (config : Config) (s : State) (req : ReqId) (moment : Moment) (call : Call) (refusal : Refusal) → is_some (edit_for call) ≡ true → is_kept refusal ≡ true → OneSays req (Err refusal) (new_call config s req moment call).sent → HasHad (new_call config s req moment call).after req.client req.number
+pub refused_changes_had : (config : Config) (s : State) (req : ReqId) (moment : Moment) (call : Call) (refusal : Refusal) → is_change call ≡ true → is_kept refusal ≡ true → OneSays req (Err refusal) (new_call config s req moment call).sent → HasHad (new_call config s req moment call).after req.client req.number
 refused_changes_had config s req moment call refusal is kept says = called_had s req refusal kept config moment call is (refused_before s req call) says
 
 -- ---- while it is under way
 
-module _ (d : Durable) (edit : PlainEdit) (client : ClientId) (number : ℕ) (req : ReqId) (call : Call) (is : edit_for call ≡ Some edit) (mine : req.client ≡ client) where
+-- what a call makes is by the names and the number of the next deletion
+same_edit : (d e : Durable) → e.names ≡ d.names → e.next_hidden ≡ d.next_hidden → (moment : Moment) (call : Call) → edit_for e moment call ≡ edit_for d moment call
+same_edit d e names hidden moment (calls.Delete path recursive) = λ i. if is_none (fin.get (names i).tree path) then None else Some (Hide path moment.0 (hidden i))
+same_edit d e names hidden moment call = refl
+
+module _ (d : Durable) (client : ClientId) (number : ℕ) (req : ReqId) (call : Call) (is : is_change call ≡ true) (mine : req.client ≡ client) where
   abbrev pub Either : State → Type 0
-  Either s = StandsEither d edit client number req s
+  Either s = StandsEither d client number req call s
 
   abbrev So : ReqId → Call → Type 0
   So = IsOwnLooksOrOld client number req call
@@ -145,12 +167,22 @@ module _ (d : Durable) (edit : PlainEdit) (client : ClientId) (number : ℕ) (re
   from_old : (s : State) (t : Turn) → TurnStill d client number s t → TurnSo Either s t
   from_old s t so = record { after = inl so.after; cuts = λ place within. inl (so.cuts place within) }
 
-  from_new : (e : Durable) → IsEdited edit d e → (s : State) (t : Turn) → TurnStill e client req.number s t → TurnSo Either s t
-  from_new e edited s t so = record { after = inr (record { durable = e; edited = edited; still = so.after }); cuts = λ place within. inr (record { durable = e; edited = edited; still = so.cuts place within }) }
+  from_new : (e : Durable) (moment : Moment) → IsEdited moment call d e → (s : State) (t : Turn) → TurnStill e client req.number s t → TurnSo Either s t
+  from_new e moment edited s t so = record { after = inr (record { durable = e; moment = moment; edited = edited; still = so.after }); cuts = λ place within. inr (record { durable = e; moment = moment; edited = edited; still = so.cuts place within }) }
 
   pub nobody_either : (s : State) (t : Turn) → AnswersOnly (IsConcerned s None) s t → Either s → TurnSo Either s t
   nobody_either s t only (inl so) = from_old s t (nobody_still d client number s t only so)
-  nobody_either s t only (inr new) = from_new new.durable new.edited s t (nobody_still new.durable client req.number s t only new.still)
+  nobody_either s t only (inr new) = from_new new.durable new.moment new.edited s t (nobody_still new.durable client req.number s t only new.still)
+
+  -- what is made of the names that stood is made of the old ones
+  pub edited_then : (before : Durable) → before.names ≡ d.names → before.next_hidden ≡ d.next_hidden → before.phase ≡ d.phase → before.epoch ≡ d.epoch → (moment : Moment) (e : Durable) → names_after (edit_for before moment call) before.names ≡ Ok e.names
+      → e.next_hidden ≡ number_after (edit_for before moment call) before.next_hidden → e.phase ≡ before.phase → e.epoch ≡ before.epoch → IsEdited moment call d e
+  edited_then before names hidden phase epoch moment e made numbered same_phase same_epoch = (let same = same_edit d before names hidden moment call in record {
+    names = sym (λ i. names_after (same i) (names i)) ∙ made;
+    hidden = numbered ∙ (λ i. number_after (same i) (hidden i));
+    phase = same_phase ∙ phase;
+    epoch = same_epoch ∙ epoch;
+  })
 
   -- ---- its own turn
 
@@ -165,17 +197,19 @@ module _ (d : Durable) (edit : PlainEdit) (client : ClientId) (number : ℕ) (re
     t = new_call config s req moment call
 
     -- accepted
-    made_either : (answer : Answer) → AnswersAlone req (Ok answer) s t → Changes s req edit t → Either t.after
+    made_either : (answer : Answer) → AnswersAlone req (Ok answer) s t → Changes s req (edit_for s.durable moment call) t → Either t.after
     made_either answer alone made = inr (record {
       durable = t.after.durable;
-      edited = record { names = subst (λ (n : NamesView). edited_names edit n ≡ Ok t.after.durable.names) so.names made.names; phase = made.phase ∙ so.phase; epoch = made.epoch ∙ so.epoch };
-      still = record { names = refl; phase = refl; epoch = refl; none = λ other there. so.none other (alone.waits other there); had = subst (λ c. HasHad t.after c req.number) mine made.had };
+      moment = moment;
+      edited = edited_then s.durable so.names so.hidden so.phase so.epoch moment t.after.durable made.names made.hidden made.phase made.epoch;
+      still = record { names = refl; hidden = refl; phase = refl; epoch = refl; none = λ other there. so.none other (alone.waits other there); had = subst (λ c. HasHad t.after c req.number) mine made.had };
     })
 
     -- refused
     left_either : (refusal : Refusal) → AnswersAlone req (Err refusal) s t → LeavesNames s req t → Either t.after
     left_either refusal alone leaves = inl (record {
       names = leaves.names ∙ so.names;
+      hidden = leaves.hidden ∙ so.hidden;
       phase = leaves.phase ∙ so.phase;
       epoch = leaves.epoch ∙ so.epoch;
       none = λ other there. so.none other (alone.waits other there);
@@ -186,20 +220,17 @@ module _ (d : Durable) (edit : PlainEdit) (client : ClientId) (number : ℕ) (re
     nought few within = omega arith
 
     no_cut : (place : ℕ) → place ≡ 0 → Either (cut s t.records place)
-    no_cut place same = subst (λ k. Either (cut s t.records k)) (sym same) (inl (record { names = so.names; phase = so.phase; epoch = so.epoch; none = so.none; had = so.had }))
+    no_cut place same = subst (λ k. Either (cut s t.records k)) (sym same) (inl (record { names = so.names; hidden = so.hidden; phase = so.phase; epoch = so.epoch; none = so.none; had = so.had }))
 
     new_either : is_pending s.volatile.pending req ≡ false → numbered (last_reply s req.client) req.number ≡ New → TurnSo Either s t
-    new_either apart new = by_result (changes_at_once config s req moment call some)
+    new_either apart new = by_result (changes_at_once config s req moment call is)
       where
-        some : is_some (edit_for call) ≡ true
-        some = ap is_some is
-
         by_result : (result : Result Answer Refusal) × AnswersAlone req result s t → TurnSo Either s t
         by_result (Ok answer, alone) = record {
-          after = made_either answer alone (firm_changes config s req moment call edit answer is named bound firm apart new alone.says);
+          after = made_either answer alone (firm_changes config s req moment call answer is named bound firm apart new alone.says);
           cuts = λ place within. no_cut place (nought alone.few within);
         }
-        by_result (Err refusal, alone) = record { after = left_either refusal alone (refused_changes_leave config s req moment call refusal some alone.says); cuts = λ place within. no_cut place (nought alone.few within) }
+        by_result (Err refusal, alone) = record { after = left_either refusal alone (refused_changes_leave config s req moment call refusal is alone.says); cuts = λ place within. no_cut place (nought alone.few within) }
 
     own_either : TurnSo Either s (call_turn config s req moment call)
     own_either = by_opened (is_unopened s.fault)
@@ -248,7 +279,7 @@ module _ (d : Durable) (edit : PlainEdit) (client : ClientId) (number : ℕ) (re
 
   pub heard_either : (config : Config) (s : State) (message : Message) (moment : Moment) → IsNamedBody message.body → IsNumber moment.0 → (is_failed s.fault ≡ false → IsFirm s) → CallsSo So message.body → Either s → TurnSo Either s (handle config s message moment)
   heard_either config s message moment named bound firm says (inr new) =
-      from_new new.durable new.edited s (handle config s message moment) (heard_still new.durable client req.number config s message moment message.body refl (as_old message.body says) new.still)
+      from_new new.durable new.moment new.edited s (handle config s message moment) (heard_still new.durable client req.number config s message moment message.body refl (as_old message.body says) new.still)
   heard_either config s message moment named bound firm says (inl so) = by_body message.body refl named says
     where
       own : (other : ReqId) (said : Call) → message.body ≡ bodies.Call other said → IsNamedCall said → (other ≡ req) × (said ≡ call) → TurnSo Either s (handle config s message moment)

@@ -93,7 +93,7 @@ module _ (d : Durable) (client : ClientId) (number : ℕ) where
 
   rests_still : (s u : State) → StaysAtRest s u → ((req : ReqId) → is_pending u.volatile.pending req ≡ true → ⊥) → Still s → Still u
   rests_still s u rests none so =
-      record { names = rests.0.names ∙ so.names; phase = rests.0.phase ∙ so.phase; epoch = rests.0.epoch ∙ so.epoch; none = none; had = had_same s u rests.0.replies rests.1 so.had }
+      record { names = rests.0.names ∙ so.names; hidden = rests.0.hidden ∙ so.hidden; phase = rests.0.phase ∙ so.phase; epoch = rests.0.epoch ∙ so.epoch; none = none; had = had_same s u rests.0.replies rests.1 so.had }
 
   -- nobody is concerned
   pub nobody_still : (s : State) (t : Turn) → AnswersOnly (IsConcerned s None) s t → Still s → TurnStill s t
@@ -162,6 +162,7 @@ module _ (d : Durable) (client : ClientId) (number : ℕ) where
         after : Still t.after
         after = record {
           names = leaves.names ∙ so.names;
+          hidden = leaves.hidden ∙ so.hidden;
           phase = leaves.phase ∙ so.phase;
           epoch = leaves.epoch ∙ so.epoch;
           none = λ other there. so.none other (alone.1.waits other there);
@@ -169,7 +170,7 @@ module _ (d : Durable) (client : ClientId) (number : ℕ) where
         }
 
         no_cut : (place : ℕ) → place ≡ 0 → Still (cut s t.records place)
-        no_cut place is = subst (λ k. Still (cut s t.records k)) (sym is) (record { names = so.names; phase = so.phase; epoch = so.epoch; none = so.none; had = so.had })
+        no_cut place is = subst (λ k. Still (cut s t.records k)) (sym is) (record { names = so.names; hidden = so.hidden; phase = so.phase; epoch = so.epoch; none = so.none; had = so.had })
 
     called : (req.number ≤ number) ⊎ (is_look call ≡ true) → TurnStill s (call_turn config s req moment call)
     called (inl low) = old_turn low

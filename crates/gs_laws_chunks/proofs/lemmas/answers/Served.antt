@@ -1,6 +1,9 @@
 -- For whom servers work, at each event and over runs. So what a client has as its reply to a call is the master's.
-use Rattle.std.proofs.Common.{◌≡◌, ◌∙◌, ◌⊎◌, inl, inr, ◌-◌, ◌<◌, ◌≤◌, ◌++◌, ◌^◌, ℕ, true, false, List, [], ◌∷◌, Option, Some, None, MatchOption, Result, Ok, Err, refl, sym, ap, subst, arith, nat_le, slice_set}
+use Rattle.std.proofs.Common.{if◌then◌else◌, ◌≡◌, ◌∙◌, ◌⊎◌, inl, inr, ◌-◌, ◌<◌, ◌≤◌, ◌==◌, ◌++◌, ◌^◌, ℕ, Bool, true, false, List, [], ◌∷◌, Option, Some, None, MatchOption, Result, Ok, Err, refl, sym, ap, subst, arith, nat_le, slice_set}
 use Rattle.std.specs.List.{AllByRecursion}
+use Rattle.std.specs.Prelude.{nat_lt}
+use Rattle.std.specs.FinMap as fin
+use Rattle.std.proofs.lemmas.Bool.{false≢true}
 use Rattle.std.proofs.lemmas.Bool.Decides.{nat_tests}
 use Rattle.gs_base.specs.declared.numbers.ClientId.{ClientId}
 use Rattle.gs_base.specs.declared.numbers.Moment.{Moment}
@@ -20,7 +23,7 @@ use Rattle.gs_laws_chunks.proofs.lemmas.calls.Arming.{unarmed_alone}
 use Rattle.gs_laws_chunks.proofs.lemmas.calls.Runs.{arming, posts}
 use Rattle.gs_laws_chunks.specs.answers.Alone.{IsAnsweredAlone, LoneCallsAreForTheMaster, LoneRefusalsAreMade}
 use Rattle.gs_laws_chunks.specs.answers.Answered.{AsksFresh, Passes, sent_by, spares_master}
-use Rattle.gs_laws_chunks.specs.answers.Asked.{AreAsked, HasAsked}
+use Rattle.gs_laws_chunks.specs.answers.Asked.{AreAsked, HasAsked, KeepsOf, KeepsOfAt}
 use Rattle.gs_laws_chunks.specs.answers.Behind.{asks_call}
 use Rattle.gs_laws_chunks.specs.answers.Replied.{SaysReply, WasReplied}
 use Rattle.gs_laws_chunks.specs.answers.Served.{AreServed, BeginsServed, CallsAreForTheMaster, IsOfServer, IsUnjudged, RefusalsAreMade, ScriptsServed, ServesOf, StaysServed}
@@ -39,6 +42,12 @@ use Rattle.gs_laws_lift.specs.stores.Left.{as_left}
 use Rattle.gs_laws_lift.specs.stores.Waiting.{AllWaitFor, OutboxAsks, WaitsFor}
 use Rattle.gs_laws_lift.specs.stores.Saying.{AreOfClient, AreOfMaster, IsOfClient, IsOfMaster}
 use Rattle.gs_laws_moves.proofs.lemmas.answers.AtOnce.{at_once}
+use Rattle.gs_laws_moves.specs.answers.Concerned.{answered_by}
+use Rattle.gs_master.specs.Masters.{MasterOf}
+use Rattle.gs_master_spec.specs.Handling.{Again, New, Numbered, Older, numbered}
+use Rattle.gs_master_spec.specs.Replies.{later}
+use Rattle.gs_master_spec.specs.State.{State, last_reply}
+use Rattle.gs_master_spec.specs.declared.reply.KeptReply.{KeptReply}
 use Rattle.gs_laws_parts.proofs.lemmas.server.Elsewhere.{ByServer}
 use Rattle.gs_laws_parts.specs.server.Answering.{IsByServer}
 use Rattle.gs_laws_server.proofs.lemmas.refusals.Telling.{quiet_ticks, tells_refusals}
@@ -66,6 +75,7 @@ use Rattle.gs_msg.specs.declared.node.NodeId.TheVariants as nodes
 use Rattle.gs_nodes.specs.Happenings.{client_in}
 use Rattle.gs_nodes.specs.Nodes.{Nodes}
 use Rattle.gs_nodes.specs.declared.place.MasterPlace.{MasterPlace}
+use Rattle.gs_nodes.specs.declared.place.MasterPlace.TheVariants.{Standing}
 use Rattle.gs_server.specs.Runs as at_server
 use Rattle.gs_server.specs.Servers.{Server, place_of}
 use Rattle.gs_server_lease.specs.Leases.{PrimaryLease}
@@ -75,6 +85,35 @@ use Rattle.gs_world.proofs.Reaching.{HaveSizes}
 use Rattle.gs_world.specs.Histories.{History, Upshot}
 use Rattle.gs_world.specs.Runs.{Comes, Goes, RunsTo, Step, Takes}
 use Rattle.gs_world.specs.Sent.{Sent}
+
+-- ---- a request above all of which a reply is kept isn't an old one
+
+module _ (s : State) (req : ReqId) (low : (reply : KeptReply) → (fin.get s.durable.replies req.client ≡ Some reply) ⊎ (fin.get s.volatile.replies req.client ≡ Some reply) → reply.number ≤ req.number) where
+  abbrev is_older : Numbered → Bool
+  is_older New = false
+  is_older (Again result) = false
+  is_older Older = true
+
+  by_tests : (reply : KeptReply) → reply.number ≤ req.number → (b c : Bool) → nat_lt req.number reply.number ≡ c → (if b then Again reply.result else if c then Older else New) ≡ Older → ⊥
+  by_tests reply most true c less is = false≢true (ap is_older is)
+  by_tests reply most false true less is = grind (arith, nat_tests)
+  by_tests reply most false false less is = false≢true (ap is_older is)
+
+  by_one : (reply : KeptReply) → reply.number ≤ req.number → numbered (Some reply) req.number ≡ Older → ⊥
+  by_one reply most is = by_tests reply most (reply.number == req.number) (nat_lt req.number reply.number) refl is
+
+  by_later : (b : Bool) (a o : KeptReply) → a.number ≤ req.number → o.number ≤ req.number → numbered (if b then Some o else Some a) req.number ≡ Older → ⊥
+  by_later true a o first second is = by_one o second is
+  by_later false a o first second is = by_one a first is
+
+  by_replies : (a o : Option KeptReply) → fin.get s.durable.replies req.client ≡ a → fin.get s.volatile.replies req.client ≡ o → numbered (later a o) req.number ≡ Older → ⊥
+  by_replies None None durable memory is = false≢true (ap is_older is)
+  by_replies None (Some o) durable memory is = by_one o (low o (inr memory)) is
+  by_replies (Some a) None durable memory is = by_one a (low a (inl durable)) is
+  by_replies (Some a) (Some o) durable memory is = by_later (nat_lt a.number o.number) a o (low a (inl durable)) (low o (inr memory)) is
+
+  none_older : numbered (last_reply s req.client) req.number ≡ Older → ⊥
+  none_older is = by_replies (fin.get s.durable.replies req.client) (fin.get s.volatile.replies req.client) refl refl is
 
 -- ---- what is said
 
@@ -402,6 +441,32 @@ module _ {D : Type 0} (seen : D → List ℕ) (failures : D → ℕ) (armed : Di
     run_apart [] old new same spare within a = subst IsApart (sym same) a
     run_apart (step ∷ steps) old new (mid, goes, rest) spare within a = run_apart steps mid new rest spare.1 within.1 (apart_on step old mid goes spare.0 within.0 a)
 
+    -- what was asked at a world on the way was asked at its end
+    run_further : (steps : List Step) (old new : History D) → RunsTo seen failures armed steps old new → (other : ReqId) → HasAsked old.nodes.clients other → HasAsked new.nodes.clients other
+    run_further [] old new same other has = subst (λ (h : History D). HasAsked h.nodes.clients other) (sym same) has
+    run_further (step ∷ steps) old new (mid, goes, rest) other has = run_further steps mid new rest other (further step old mid goes other has)
+
+    passes_further : (steps : List Step) (old new : History D) (runs : RunsTo seen failures armed steps old new) (h : History D) → Passes seen failures armed h steps old new runs → (other : ReqId) → HasAsked h.nodes.clients other → HasAsked new.nodes.clients other
+    passes_further [] old new same h never other has = absurd never
+    passes_further (step ∷ steps) old new (mid, goes, rest) h (inl here) other has = run_further steps mid new rest other (subst (λ (k : History D). HasAsked k.nodes.clients other) here has)
+    passes_further (step ∷ steps) old new (mid, goes, rest) h (inr there) other has = passes_further steps mid new rest h there other has
+
+    -- So where it is the last that its client has asked, no master on the way has the reply to a later one.
+    module _ (new : History D) (node : Node) (there : client_in new.nodes.clients req.client ≡ Some node) (last : node.last ≡ req.number) where
+      up_to : (number : ℕ) → HasAsked new.nodes.clients (record { client = req.client; number = number }) → number ≤ req.number
+      up_to number has = below number has.node.last node.last req.number has.number (ap (λ (x : Node). x.last) (same_node has.node node (sym has.there ∙ there))) last
+        where
+          below : (a b c d : ℕ) → a ≤ b → b ≡ c → c ≡ d → a ≤ d
+          below a b c d first second third = omega arith
+
+      its_low : (s : State) (h : History D) → ((other : ReqId) → HasAsked h.nodes.clients other → HasAsked new.nodes.clients other) → KeepsOf (HasAsked h.nodes.clients) s
+          → (reply : KeptReply) → (fin.get s.durable.replies req.client ≡ Some reply) ⊎ (fin.get s.volatile.replies req.client ≡ Some reply) → reply.number ≤ req.number
+      its_low s h on keeps reply (inl has) = up_to reply.number (on (answered_by req.client reply) (keeps.durable (answered_by req.client reply) (record { reply = reply; has = has; number = refl })))
+      its_low s h on keeps reply (inr has) = up_to reply.number (on (answered_by req.client reply) (keeps.memory (answered_by req.client reply) (record { reply = reply; has = has; number = refl })))
+
+      not_older : (h : History D) → ((other : ReqId) → HasAsked h.nodes.clients other → HasAsked new.nodes.clients other) → AreAsked seen h → (m : MasterOf D) → h.nodes.master ≡ Standing m → numbered (last_reply m.state req.client) req.number ≡ Older → ⊥
+      not_older h on are m at is = none_older m.state req (its_low m.state h on (subst (KeepsOfAt (HasAsked h.nodes.clients)) at are.master)) is
+
     refuses_none : (body : Body) → ServesOf NotIt body → RefusesIf req ⊥ body
     refuses_none (bodies.Done other (Err refusal)) serves = serves
     refuses_none (bodies.Bytes other (Err refusal)) serves = serves
@@ -470,8 +535,9 @@ module _ {D : Type 0} (seen : D → List ℕ) (failures : D → ℕ) (armed : Di
   pub lone_refusals_are_made : LoneRefusalsAreMade seen failures armed
   lone_refusals_are_made old asked new moment req call steps node refusal are served types lasts fresh once runs spare within there last reply =
       let first = apart_first req call once old asked moment are served types lasts fresh within.0 in
-      says_are_made seen failures armed old asked new moment req call steps runs ⊥ (λ e. IsUnjudged e) (inl refl, inr (inl refl), inr (inr refl)) (λ none e. absurd none) (λ id m was. refuses_none req m.body (first.sent id m was))
-      (λ h such id m was. refuses_none req m.body ((passes_apart req steps asked new runs spare within.1 first h such).sent id m was)) are fresh once spare node (Err refusal) there last reply
+      says_are_made seen failures armed old asked new moment req call steps runs ⊥ (λ e. IsUnjudged e) (inl refl, inr refl) (λ none e. absurd none)
+      ((λ id m was. refuses_none req m.body (first.sent id m was)), (λ m at is. absurd (not_older req new node there last asked (run_further req steps asked new runs) first.asked m at is)))
+      (λ h such. (let apart = passes_apart req steps asked new runs spare within.1 first h such in ((λ id m was. refuses_none req m.body (apart.sent id m was)), (λ m at is. absurd (not_older req new node there last h (passes_further req steps asked new runs h such) apart.asked m at is))))) are fresh once spare node (Err refusal) there last reply
 
   pub lone_calls_are_for_the_master : LoneCallsAreForTheMaster seen failures armed
   lone_calls_are_for_the_master old asked new moment req call steps node reply are served replied types lasts fresh once runs spare within there last has of =

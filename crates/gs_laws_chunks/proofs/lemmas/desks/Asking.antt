@@ -378,6 +378,7 @@ request_well size lines.Replicate spoken = plain_well trees.replicate_call _ (re
 request_well size (lines.RollingUpgrade upgrade) spoken = upgrade_well upgrade
 request_well size (lines.Step step) spoken = step_well step
 request_well size (lines.Beat server) spoken = tt
+request_well size lines.Tick spoken = tt
 request_well size (lines.At moment) spoken = tt
 request_well size (lines.Restart node) spoken = tt
 request_well size (lines.Lose server handle) spoken = tt

@@ -47,7 +47,7 @@ use Rattle.gs_laws_chunks.specs.desks.Within.{IsReachedWithin}
 use Rattle.gs_laws_chunks.proofs.lemmas.desks.Asking.{WellIf, line_well}
 use Rattle.gs_laws_chunks.proofs.lemmas.desks.Ending.{CanPost, IsOver, alike_to, as_it_is, ended, event_leads, known_server, master_posts, sent_moment}
 use Rattle.gs_laws_chunks.proofs.lemmas.desks.Sending.{sends}
-use Rattle.gs_laws_chunks.proofs.lemmas.desks.Ways.{Leads, alike, carries, delivers_one, delivers_whole, joined, nothing, chain}
+use Rattle.gs_laws_chunks.proofs.lemmas.desks.Ways.{Leads, alike, carries, delivers_one, delivers_whole, joined, nothing, chain, ticks_whole}
 use Rattle.gs_laws_chunks.proofs.lemmas.desks.When.{When, joined_within, when, when_then}
 use Rattle.gs_laws_chunks.proofs.lemmas.desks.Words.{IsSpoken, line_spoken}
 
@@ -198,6 +198,7 @@ module _ {D : Type 0} (seen : D → List ℕ) (failures : D → ℕ) (keeps : Bo
   nodes_do : (request : Request) (old : Way D) (result : Result Answer Refusal) (new : Way D) → When keeps (IsSpoken request) → NodesDo seen failures request old result new → Leads seen failures keeps old new
   nodes_do (lines.Beat id) old result new spoken (drops, b, is) =
       for_server (is_server id old) old new drops (BeatsOf seen failures id old drops new) (λ did. beats_of id (slice_get old.nodes.servers id) old drops new refl did) b
+  nodes_do lines.Tick old result new spoken (is, ticks) = ticks_whole seen failures keeps old new ticks
   nodes_do (lines.At moment) old result new spoken (is, same) = sets_moment moment old new spoken same
   nodes_do (lines.Hold kind) old result new spoken (is, same) = alike seen failures keeps old new (alike_to old (record old { kind = kind }) new (record { nodes = refl; moment = refl; queue = refl; held = refl; short = λ short. short }) same)
   nodes_do (lines.Restart node) old result new spoken (said, r, is) = restarts node old said new r

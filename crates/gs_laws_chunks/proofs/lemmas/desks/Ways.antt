@@ -17,7 +17,7 @@ use Rattle.gs_msg.specs.declared.node.StoreNode.TheVariants as keepers
 use Rattle.gs_server.specs.Servers as servers
 use Rattle.gs_nodes.specs.Happenings.{AtClient, ClientAsks, ServerDoes}
 use Rattle.gs_nodes.specs.Nodes.{Nodes, with_master}
-use Rattle.gs_shell_desk.specs.Ways.{AllTick, AnswersAsked, Carries, DeliversAll, DeliversWhole, Heard, IsDelivered, MasterTicked, SendsAll, ServerTicked, ServersTick, TicksIf, Way, WithFirst, last_count, shortened_by, with_nodes, with_queue}
+use Rattle.gs_shell_desk.specs.Ways.{AllTick, AnswersAsked, Carries, DeliversAll, DeliversWhole, Heard, IsDelivered, MasterTicked, SendsAll, ServerTicked, ServersTick, TicksIf, TicksWhole, Way, WithFirst, last_count, shortened_by, with_nodes, with_queue}
 use Rattle.gs_world.specs.Histories.{ComesTo, History, told}
 use Rattle.gs_world.specs.Runs.{Goes, RunsTo, Step, Takes}
 use Rattle.gs_world.specs.Sent.{IsSent, Sent}
@@ -130,11 +130,14 @@ module _ {D : Type 0} (seen : D → List ℕ) (failures : D → ℕ) (keeps : Bo
   all_tick : (old new : Way D) → AllTick seen failures old new → Leads old new
   all_tick old new (mid, first, others) = chain old mid new (master_ticks old mid first) (servers_tick (min (length old.nodes.servers) 16) mid new others)
 
+  pub ticks_whole : (old new : Way D) → TicksWhole seen failures old new → Leads old new
+  ticks_whole old new (mid, ticks, delivers) = chain old mid new (all_tick old mid ticks) (delivers_whole mid new delivers)
+
   -- ---- a request
 
   waited_if : (waits : Bool) (old new : Way D) → TicksIf seen failures waits old new → Leads old new
   waited_if false old new same = nothing old new same
-  waited_if true old new (mid, ticks, delivers) = chain old mid new (all_tick old mid ticks) (delivers_whole mid new delivers)
+  waited_if true old new ticks = ticks_whole old new ticks
 
   heard : (client : ClientId) (old : Way D) (reply : Reply) (new : Way D) → Heard client old reply new → Leads old new
   heard client old reply new (nodes, found, takes, is, same) sent covers small =

@@ -235,8 +235,8 @@ number_small word n is = by_tests (not (length word == 0) && (all_ascii_digits w
 one_spoken : (name : Text) → AreSpoken (one_word name)
 unfolding one_word
 one_spoken name = all_spoken
-    ((bytes_eq name (codes "scan"), Some lines.Scan) ∷ (bytes_eq name (codes "replicate"), Some lines.Replicate) ∷ (bytes_eq name (codes "prepare-begin"), Some (lines.Step PrepareBegin)) ∷ (bytes_eq name (codes "prepare-commit"), Some (lines.Step PrepareCommit)) ∷ (bytes_eq name (codes "rollback-begin"), Some (lines.Step RollbackBegin)) ∷ (bytes_eq name (codes "rollback-commit"), Some (lines.Step RollbackCommit)) ∷ []) None
-    (tt, (tt, (tt, (tt, (tt, (tt, tt)))))) tt
+    ((bytes_eq name (codes "scan"), Some lines.Scan) ∷ (bytes_eq name (codes "replicate"), Some lines.Replicate) ∷ (bytes_eq name (codes "tick"), Some lines.Tick) ∷ (bytes_eq name (codes "prepare-begin"), Some (lines.Step PrepareBegin)) ∷ (bytes_eq name (codes "prepare-commit"), Some (lines.Step PrepareCommit)) ∷ (bytes_eq name (codes "rollback-begin"), Some (lines.Step RollbackBegin)) ∷ (bytes_eq name (codes "rollback-commit"), Some (lines.Step RollbackCommit)) ∷ []) None
+    (tt, (tt, (tt, (tt, (tt, (tt, (tt, tt))))))) tt
 
 upgrade_spoken : (word : Text) → AreSpoken (upgrade_line word)
 unfolding upgrade_line

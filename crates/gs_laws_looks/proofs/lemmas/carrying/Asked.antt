@@ -1,4 +1,5 @@
 -- What a desk carries for a client is a request with its reply.
+use Rattle.std.specs.List.{AllByRecursion}
 use Rattle.std.proofs.Common.{if◌then◌else◌, ◌≡◌, ◌∙◌, inl, inr, ◌-◌, ◌<◌, ℕ, Bool, true, false, List, [], ◌∷◌, Option, Some, None, MatchOption, Result, Ok, Err, Vec, refl, sym, ap, subst, arith, nat_le, slice_set}
 use Rattle.std.specs.Prelude.{◌==◌, length, slice_get, unwrap_or}
 use Rattle.std.specs.declared.alloc.Global.{Global}
@@ -33,6 +34,7 @@ use Rattle.gs_laws_world.specs.steady.Asking.{MayBeAsked, asks_at}
 use Rattle.gs_laws_chunks.specs.desks.Reached.{Covers, history}
 use Rattle.gs_laws_world.specs.steady.Unarmed.{unarmed}
 use Rattle.gs_laws_world.specs.steady.Saying.{IsStepWithin}
+use Rattle.gs_laws_chunks.specs.answers.Changed.{IsAt}
 
 node_is : {a b : Node} → ◌≡◌ {A = Option Node} (Some a) (Some b) → a ≡ b
 node_is is = cc
@@ -140,6 +142,11 @@ module _ {D : Type 0} (seen : D → List ℕ) (failures : D → ℕ) (sent : Sen
             has = a.heard.3 ∙ ap (λ o. unwrap_or o replies.Lost) it.has;
           }
 
+      -- all at one moment
+      asked_then : (was_asked.moment ≡ old.moment) × AllByRecursion (IsAt old.moment) was_asked.behind.steps
+      unfolding was_asked
+      asked_then = (refl, subst (λ m. AllByRecursion (IsAt m) calm.steps) one.moment calm.moments)
+
     -- the client was there, and the number fresh
     record IsFresh : Type 0 where
       node : Node
@@ -167,6 +174,7 @@ module _ {D : Type 0} (seen : D → List ℕ) (failures : D → ℕ) (sent : Sen
       went = inl (history calm.after a.third, was_asked is_fresh.node is_fresh.there is_fresh.fresh, takes_it a.third calm.after a.heard);
       covers = covers_then a.third calm.after a.heard calm.covers;
       moment = ap (λ (w : Way D). w.moment) a.heard.4 ∙ calm.moment ∙ one.moment;
+      moments = asked_then is_fresh.node is_fresh.there is_fresh.fresh;
     }
 
   -- ---- it isn't taken
@@ -190,6 +198,7 @@ module _ {D : Type 0} (seen : D → List ℕ) (failures : D → ℕ) (sent : Sen
       });
       covers = e.covers;
       moment = e.moment;
+      moments = tt;
     })
 
   by_asked : (asked : Result (Vec Message Global) Refusal) (nodes_there : Nodes D) → Asks_at asked nodes_there → AnswersAsked seen failures req.client asked (with_nodes nodes_there old) reply new → IsAnswered seen failures req.client old sent request reply new

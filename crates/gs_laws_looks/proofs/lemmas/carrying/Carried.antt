@@ -43,6 +43,7 @@ use Rattle.gs_laws_chunks.proofs.lemmas.desks.Ending.{Alike, CanPost, IsOver, al
 use Rattle.gs_laws_chunks.proofs.lemmas.desks.Sending.{Posting, sends, sends_none}
 use Rattle.gs_laws_looks.specs.carrying.Asked.{Delivers}
 use Rattle.gs_laws_looks.specs.carrying.Carried.{CallsAreCarried, IsCarried}
+use Rattle.gs_laws_chunks.specs.answers.Changed.{IsAt}
 
 -- what the client has asked last
 abbrev pub LastIs : ClientId → ℕ → List Node → Type 0
@@ -118,6 +119,7 @@ module _ {D : Type 0} (seen : D → List ℕ) (failures : D → ℕ) where
       pub within : AllByRecursion IsStepWithin steps
       pub looking : AllByRecursion (IsLooking client) steps
       pub only : AllByRecursion Delivers steps
+      pub moments : AllByRecursion (IsAt old.moment) steps
       pub last : (number : ℕ) → LastIs client number old.nodes.clients → LastIs client number new.nodes.clients
       pub moment : new.moment ≡ old.moment
 
@@ -141,6 +143,7 @@ module _ {D : Type 0} (seen : D → List ℕ) (failures : D → ℕ) where
       within = both IsStepWithin a.steps b.steps a.within b.within;
       looking = both (IsLooking client) a.steps b.steps a.looking b.looking;
       only = both Delivers a.steps b.steps a.only b.only;
+      moments = both (IsAt old.moment) a.steps b.steps a.moments (subst (λ m. AllByRecursion (IsAt m) b.steps) a.moment b.moments);
       last = λ number is. b.last number (a.last number is);
       moment = b.moment ∙ a.moment;
     }
@@ -160,6 +163,7 @@ module _ {D : Type 0} (seen : D → List ℕ) (failures : D → ℕ) where
       within = tt;
       looking = tt;
       only = tt;
+      moments = tt;
       last = λ number is. subst (λ (w : Way D). LastIs client number w.nodes.clients) (sym same) is;
       moment = ap (λ (w : Way D). w.moment) same;
     }
@@ -191,6 +195,7 @@ module _ {D : Type 0} (seen : D → List ℕ) (failures : D → ℕ) where
       within = ((small, within), tt);
       looking = (looking, tt);
       only = (delivers, tt);
+      moments = (refl, tt);
       last = λ number last. part_last (history sent old) old.moment happening one.happens.outcome new.nodes none (part_of seen failures unarmed (history sent old) old.moment happening one.happens.by one.happens.outcome new.nodes one.happens.at) number last;
       moment = one.moment;
     })
@@ -208,7 +213,7 @@ module _ {D : Type 0} (seen : D → List ℕ) (failures : D → ℕ) where
         let all : AllSent sent (message ∷ rest) = subst (λ (l : List Message). AllSent sent l) is covers.queue in (all.0, record { queue = all.1; held = covers.held; servers = covers.servers; clients = covers.clients; short = covers.short })
 
     from_queue : (queue : List Message) (old new : Way D) (sent : Sent) → Calm (with_queue queue old) new sent → Calm old new sent
-    from_queue queue old new sent c = record { steps = c.steps; after = c.after; runs = c.runs; covers = c.covers; within = c.within; looking = c.looking; only = c.only; last = c.last; moment = c.moment }
+    from_queue queue old new sent c = record { steps = c.steps; after = c.after; runs = c.runs; covers = c.covers; within = c.within; looking = c.looking; only = c.only; moments = c.moments; last = c.last; moment = c.moment }
 
     delivers_next : (many : ℕ) (old new : Way D) (queue : List Message) → old.queue ≡ queue → ((mid : Way D) → DeliversAll seen failures many mid new → Leads mid new)
         → WithFirst queue (new ≡ old) (λ message rest. (said : Result (Unit {0}) Refusal) × (mid : Way D) × IsDelivered seen failures message (with_queue rest old) said mid × DeliversAll seen failures many mid new) → Leads old new
@@ -331,6 +336,7 @@ module _ {D : Type 0} (seen : D → List ℕ) (failures : D → ℕ) where
               subst (λ w. Covers calm.after w) (sym heard.4)
               (record { queue = calm.covers.queue; held = calm.covers.held; servers = calm.covers.servers ∙ sym kept.servers; clients = calm.covers.clients ∙ sym kept.clients; short = calm.covers.short });
           moment = ap (λ (w : Way D). w.moment) heard.4 ∙ calm.moment ∙ one.moment;
+          moments = subst (λ m. AllByRecursion (IsAt m) calm.steps) one.moment calm.moments;
         }
 
   -- an answer tells that the client was there, and the number fresh

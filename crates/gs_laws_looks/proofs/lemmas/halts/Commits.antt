@@ -239,6 +239,7 @@ module _ {D : Type 0} (seen : D → List ℕ) (failures : D → ℕ) (armed : Di
       sent = λ id message was. old_calls message.from message.body (are_mid.sent id message (sent_stays id message was));
       master = subst (StandsStillAt d client c.req.number) (sym its_there.stands) (record {
         names = refl;
+        hidden = refl;
         phase = refl;
         epoch = refl;
         none = none_behind made.now made.next made.event made.said made.happens c.req call answer halt here_within.0 types_now lasts_now made.answers;

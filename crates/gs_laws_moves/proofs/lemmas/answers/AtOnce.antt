@@ -114,7 +114,7 @@ refused_alone s req refusal = record {
 abbrev pub Alone : State → ReqId → Turn → Type 0
 Alone s req t = (result : Result Answer Refusal) × AnswersAlone req result s t
 
-answered_alone : (s : State) (req : ReqId) (answer : Answer) → AnswersAlone req (Ok answer) s (answered_with s req answer)
+pub answered_alone : (s : State) (req : ReqId) (answer : Answer) → AnswersAlone req (Ok answer) s (answered_with s req answer)
 answered_alone s req answer = record {
   sent = ((refl, refl), tt);
   says = inl refl;
@@ -130,7 +130,7 @@ looked_alone s req (Err refusal) = (Err refusal, refused_alone s req refusal)
 
 -- ---- a step of an upgrade
 
-pick : (S : Turn → Type 0) (b : Bool) (t u : Turn) → S t → S u → S (if b then t else u)
+pub pick : (S : Turn → Type 0) (b : Bool) (t u : Turn) → S t → S u → S (if b then t else u)
 pick S true t u x y = x
 pick S false t u x y = y
 

@@ -159,7 +159,7 @@ module _ (P : ReqId → Type 0) (s : State) (t : Turn) (so : TurnSo P s t) where
     memory = only.memory;
     waits = only.waits;
     still = λ none. both_tell _ t.records (Whole (checkpoint_of t.after.durable)) (only.still none) refl;
-    rests = λ none. (record { names = (only.rests none).0.names; phase = (only.rests none).0.phase; epoch = (only.rests none).0.epoch; replies = (only.rests none).0.replies }, (only.rests none).1);
+    rests = λ none. (record { names = (only.rests none).0.names; hidden = (only.rests none).0.hidden; phase = (only.rests none).0.phase; epoch = (only.rests none).0.epoch; replies = (only.rests none).0.replies }, (only.rests none).1);
     cut_rests = λ none place within.
         subst (λ (es : List PlainEntry). StaysAtRest s (fold with_record s es)) (sym (take-append-le place t.records (Whole (checkpoint_of t.after.durable) ∷ []) (before_last place t.records (Whole (checkpoint_of t.after.durable)) within)))
         (some_rest P s place t.records none so.records);

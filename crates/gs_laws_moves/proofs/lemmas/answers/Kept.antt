@@ -74,10 +74,10 @@ itself a = both (a.client.0 == a.client.0) (a.number == a.number) (equal a.clien
 -- ---- what is at rest
 
 pub rest : (d : Durable) → IsAtRest d d
-rest d = record { names = refl; phase = refl; epoch = refl; replies = refl }
+rest d = record { names = refl; hidden = refl; phase = refl; epoch = refl; replies = refl }
 
 pub rest_then : (d e f : Durable) → IsAtRest d e → IsAtRest e f → IsAtRest d f
-rest_then d e f a b = record { names = b.names ∙ a.names; phase = b.phase ∙ a.phase; epoch = b.epoch ∙ a.epoch; replies = b.replies ∙ a.replies }
+rest_then d e f a b = record { names = b.names ∙ a.names; hidden = b.hidden ∙ a.hidden; phase = b.phase ∙ a.phase; epoch = b.epoch ∙ a.epoch; replies = b.replies ∙ a.replies }
 
 rest_or : (b : Bool) (d n : Durable) → IsAtRest d n → IsAtRest d (unwrap_or (if_fits b n) d)
 rest_or true d n is = is
@@ -85,16 +85,16 @@ rest_or false d n is = rest d
 
 pub proposal_rests : (d : Durable) (chunk version : ℕ) → IsAtRest d (unwrap_or (applied d (Propose chunk version)) d)
 unfolding applied
-proposal_rests d chunk version = rest_or (may_propose d.phase d.next_handle d.next_version chunk version (fin.get d.chunks chunk)) d (proposed d chunk version) (record { names = refl; phase = refl; epoch = refl; replies = refl })
+proposal_rests d chunk version = rest_or (may_propose d.phase d.next_handle d.next_version chunk version (fin.get d.chunks chunk)) d (proposed d chunk version) (record { names = refl; hidden = refl; phase = refl; epoch = refl; replies = refl })
 
 pub settling_rests : (d : Durable) (v : SettledView) → IsAtRest d (unwrap_or (applied d (Settle v)) d)
 unfolding applied
-settling_rests d v = rest_or (may_be_settled d v) d (with_view d v) (record { names = refl; phase = refl; epoch = refl; replies = refl })
+settling_rests d v = rest_or (may_be_settled d v) d (with_view d v) (record { names = refl; hidden = refl; phase = refl; epoch = refl; replies = refl })
 
 pub holder_rests : (d : Durable) (chunk server : ℕ) → IsAtRest d (unwrap_or (applied d (Holder chunk server)) d)
 unfolding applied
 holder_rests d chunk server =
-    rest_or (is_upgrade d.phase && (nat_lt server 16 && is_some (prepared_view d chunk))) d (record d { prepared = with_prepared d chunk (held_by server (prepared_view d chunk)) }) (record { names = refl; phase = refl; epoch = refl; replies = refl })
+    rest_or (is_upgrade d.phase && (nat_lt server 16 && is_some (prepared_view d chunk))) d (record d { prepared = with_prepared d chunk (held_by server (prepared_view d chunk)) }) (record { names = refl; hidden = refl; phase = refl; epoch = refl; replies = refl })
 
 -- ---- replies of some kind
 

@@ -100,7 +100,7 @@ module _ (req : ReqId) (result : Result Answer Refusal) where
       by_key false is = absurd (false≢true is)
 
   -- one that is kept in memory is had, if it is later
-  kept_had : (s : State) → IsFrom req.number (later (fin.get s.durable.replies req.client) (fin.get (fin.insert s.volatile.replies req.client its_own) req.client))
+  pub kept_had : (s : State) → IsFrom req.number (later (fin.get s.durable.replies req.client) (fin.get (fin.insert s.volatile.replies req.client its_own) req.client))
   kept_had s = from_second req.number (fin.get s.durable.replies req.client) (fin.get (fin.insert s.volatile.replies req.client its_own) req.client) (record { reply = its_own; has = own_there s.volatile.replies; late = omega arith })
 
   -- what its client has had before
@@ -130,9 +130,10 @@ module _ (req : ReqId) (result : Result Answer Refusal) where
 
 -- ---- turns
 
-answered_leaves : (s : State) (req : ReqId) (answer : Answer) → LeavesNames s req (answered_with s req answer)
+pub answered_leaves : (s : State) (req : ReqId) (answer : Answer) → LeavesNames s req (answered_with s req answer)
 answered_leaves s req answer = record {
   names = refl;
+  hidden = refl;
   phase = refl;
   epoch = refl;
   had = λ number had. memory_had req (Ok answer) s (is_later (last_reply s req.client) req.number) number (λ is. is) had;
@@ -145,6 +146,10 @@ said_replies req refusal s number had = record_had req (Err refusal) s number ha
 said_names : (req : ReqId) (refusal : Refusal) (s : State) → (unwrap_or (applied s.durable (Said req refusal)) s.durable).names ≡ s.durable.names
 unfolding applied
 said_names req refusal s = refl
+
+said_hidden : (req : ReqId) (refusal : Refusal) (s : State) → (unwrap_or (applied s.durable (Said req refusal)) s.durable).next_hidden ≡ s.durable.next_hidden
+unfolding applied
+said_hidden req refusal s = refl
 
 said_phase : (req : ReqId) (refusal : Refusal) (s : State) → (unwrap_or (applied s.durable (Said req refusal)) s.durable).phase ≡ s.durable.phase
 unfolding applied
@@ -162,10 +167,10 @@ refused_leaves s req refusal = by_tests (is_kept refusal) (is_later (last_reply 
     Kept keeps room = turned s (record { records = if keeps && room then Said req refusal ∷ [] else []; changes = (if keeps && not room then kept_in_memory req (Err refusal) ∷ [] else []) ++ []; sent = reply_to req (Err refusal) ∷ []; said = Some refusal })
 
     by_tests : (keep late : Bool) → is_later (last_reply s req.client) req.number ≡ late → (room : Bool) → LeavesNames s req (Kept (keep && late) room)
-    by_tests false late test room = record { names = refl; phase = refl; epoch = refl; had = λ number had. had }
-    by_tests true false test room = record { names = refl; phase = refl; epoch = refl; had = λ number had. had }
-    by_tests true true test true = record { names = said_names req refusal s; phase = said_phase req refusal s; epoch = said_epoch req refusal s; had = λ number had. said_replies req refusal s number had }
-    by_tests true true test false = record { names = refl; phase = refl; epoch = refl; had = λ number had. memory_had req (Err refusal) s true number (λ is. test) had }
+    by_tests false late test room = record { names = refl; hidden = refl; phase = refl; epoch = refl; had = λ number had. had }
+    by_tests true false test room = record { names = refl; hidden = refl; phase = refl; epoch = refl; had = λ number had. had }
+    by_tests true true test true = record { names = said_names req refusal s; hidden = said_hidden req refusal s; phase = said_phase req refusal s; epoch = said_epoch req refusal s; had = λ number had. said_replies req refusal s number had }
+    by_tests true true test false = record { names = refl; hidden = refl; phase = refl; epoch = refl; had = λ number had. memory_had req (Err refusal) s true number (λ is. test) had }
 
 looked_leaves : (s : State) (req : ReqId) (result : Result Answer Refusal) → LeavesNames s req (looked_up s req result)
 looked_leaves s req (Ok answer) = answered_leaves s req answer

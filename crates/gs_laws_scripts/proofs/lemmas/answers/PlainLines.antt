@@ -17,7 +17,7 @@ use Rattle.gs_client.specs.declared.link.Reply.{Reply}
 use Rattle.gs_client.specs.declared.link.Reply.TheVariants as replies
 use Rattle.gs_shell_desk.specs.Answering.{AnswersText, IsText}
 use Rattle.gs_shell_desk.specs.Lines.{AtOne, Beats, BeatsOf, Comes, Either, ForServer, HandsOver, MasterRestarts, NodesDo, OfHandle, carried, held_at, is_server}
-use Rattle.gs_shell_desk.specs.Ways.{Ends, Way, way_of, with_nodes}
+use Rattle.gs_shell_desk.specs.Ways.{Ends, TicksWhole, Way, way_of, with_nodes}
 use Rattle.gs_shell_desk.specs.declared.desk.Desk.{Desk}
 use Rattle.gs_shell_desk.specs.declared.wire.Wire.{Wire}
 use Rattle.gs_client_dialogue.specs.Dialogues.{Ask, FollowsDialogue, Grow, Say, run}
@@ -43,7 +43,7 @@ use Rattle.gs_laws_scripts.specs.answers.Plain as plain
 use Rattle.gs_laws_scripts.proofs.lemmas.answers.PlainEvents.{Comes as Becomes, master_ends, node_ends, plain_same, server_leaves}
 use Rattle.gs_laws_scripts.proofs.lemmas.answers.PlainReopens.{reopened_cases}
 use Rattle.gs_laws_scripts.proofs.lemmas.answers.PlainSends.{end_stays, send_plain, send_stays, wanting, was_enough}
-use Rattle.gs_laws_scripts.proofs.lemmas.answers.PlainWays.{Gives, Leads, carries, chain, delivers_one, delivers_whole, only, onward}
+use Rattle.gs_laws_scripts.proofs.lemmas.answers.PlainWays.{Gives, Leads, carries, chain, delivers_one, delivers_whole, only, onward, ticks_whole}
 
 below_not : (n m : ℕ) → n < m → (n == m) ≡ false
 below_not n m low = grind (arith, nat_tests)
@@ -74,7 +74,7 @@ too_many : (m place mid new old : ℕ) → m < place → mid ≡ place → mid �
 too_many m place mid new old more here high sound was = omega arith
 
 -- a turn that is refused for want of memory leaves a way that is short of it
-short_end : {D : Type 0} (turn : Result Told Refusal) (old : Way D) (said : Result (Unit {0}) Refusal) (new : Way D) → turn ≡ Err refusals.Memory → Ends turn old said new → new.is_short ≡ false → ⊥
+pub short_end : {D : Type 0} (turn : Result Told Refusal) (old : Way D) (said : Result (Unit {0}) Refusal) (new : Way D) → turn ≡ Err refusals.Memory → Ends turn old said new → new.is_short ≡ false → ⊥
 short_end turn old said new memory ends enough =
     let gone = subst (λ (t : Result Told Refusal). Ends t old said new) memory ends in wanting refusals.Memory old new refl gone.0 enough
 
@@ -351,12 +351,18 @@ module _ {D : Type 0} (seen : D → List ℕ) (failures : D → ℕ) (me : Clien
             ];
       }
 
+  all_tick : (old : Way D) (result answer : Result Answer Refusal) (new : Way D) → result ≡ answer → TicksWhole seen failures old new → GivesLine old result new (λ p. (answer, plain.ticks_whole p))
+  all_tick old result answer new is ticks =
+      subst (λ r. GivesLine old r new (λ p. (answer, plain.ticks_whole p))) (sym is)
+      (line_of old answer new (λ p. (answer, plain.ticks_whole p)) (passing answer old new plain.ticks_whole (ticks_whole seen failures me size MayAsk Good e old new ticks)))
+
   nodes_do : (line : List ℕ) (request : Request) → line_request line ≡ Some request → (request ≡ lines.Restart restarted.Master → EnduresRestarts seen failures Good)
       → (old : Way D) (result : Result Answer Refusal) (new : Way D) → NodesDo seen failures request old result new → GivesLine old result new (plain.nodes_do request)
   nodes_do line (lines.Beat number) asked restarts old result new (drops, beats, is) =
       in_answer answers.Number old drops result new (plain.beats number) is
       (for_server number (BeatsOf seen failures number old) old drops new (λ p. plain.beats_found (slice_get p.servers number) p)
       (λ h. let g = beats_of (slice_get old.nodes.servers number) number old drops new refl h in record { short = g.short; same = λ calm m stands good. g.same calm m stands good }) beats)
+  nodes_do line lines.Tick asked restarts old result new (is, ticks) = all_tick old result (Ok answers.Done) new is ticks
   nodes_do line (lines.At moment) asked restarts old result new (is, same) =
       changed old new (record old { moment = record { 0 = moment } }) (Ok answers.Done) (λ p. record p { moment = record { 0 = moment } }) same (λ short. short)
       (λ m stands good. (record { master = m; stands = record { place = stands.place; config = stands.config }; plain = refl }, e.comes_at line moment old good asked)) result is

@@ -11,7 +11,7 @@ use Rattle.gs_client.specs.Nodes.{Asks, Node, asks, given_up}
 use Rattle.gs_client.specs.Sends.{last_number}
 use Rattle.gs_client.specs.declared.link.Reply.{Reply}
 use Rattle.gs_client.specs.declared.link.Reply.TheVariants as replies
-use Rattle.gs_shell_desk.specs.Ways.{AllTick, AnswersAsked, Carries, DeliversAll, DeliversWhole, Heard, IsAsked, IsDelivered, MasterTicked, ServerTicked, ServersTick, TicksIf, Waited, Way, WithFirst, last_count, shortened_by, with_nodes, with_queue}
+use Rattle.gs_shell_desk.specs.Ways.{AllTick, AnswersAsked, Carries, DeliversAll, DeliversWhole, Heard, IsAsked, IsDelivered, MasterTicked, ServerTicked, ServersTick, TicksIf, TicksWhole, Waited, Way, WithFirst, last_count, shortened_by, with_nodes, with_queue}
 use Rattle.gs_master.specs.Masters.{MasterOf}
 use Rattle.gs_master.specs.declared.turn.Turn.{Turn as Told}
 use Rattle.gs_msg.specs.declared.event.Request.{Request as Asked}
@@ -229,12 +229,15 @@ module _ {D : Type 0} (seen : D → List ℕ) (failures : D → ℕ) (me : Clien
       let all = and old mid new plain.master_ticks (plain.servers_tick many) (master_ticks old mid first) (servers_tick many mid new others) in
       record { short = all.short; rises = all.rises; same = λ calm m stands good. all.same calm m stands good }
 
+  pub ticks_whole : (old new : Way D) → TicksWhole seen failures old new → Leads old new plain.ticks_whole
+  ticks_whole old new (mid, ticks, delivered) =
+      and old mid new plain.all_tick plain.delivers_whole (all_tick old mid ticks) (delivers_whole mid new delivered)
+
   -- ---- a request
 
   ticks_if : (waits : Bool) (old new : Way D) → TicksIf seen failures waits old new → Leads old new (plain.ticks_if waits)
   ticks_if false old new same = nothing old new same
-  ticks_if true old new (mid, ticks, delivered) =
-      and old mid new plain.all_tick plain.delivers_whole (all_tick old mid ticks) (delivers_whole mid new delivered)
+  ticks_if true old new ticks = ticks_whole old new ticks
 
   pub waited : (client : ClientId) (old new : Way D) → Waited seen failures client old new → Leads old new (plain.waited client)
   waited client old new (waits, is, ticks) =

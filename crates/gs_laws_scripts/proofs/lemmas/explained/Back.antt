@@ -198,6 +198,7 @@ module _ (size block : ℕ) (rows : Rows Text) (owes : RowsAreQuiet rows) where
   passes_calmly (lines.Digest p chunk index) old new answer calm by leads = stays old new calm (digest_leaves size block p chunk index old new answer (calm_still rows old owes calm) leads)
   passes_calmly lines.Replicate old new answer calm by passes = passed old new calm passes
   passes_calmly (lines.Beat server) old new answer calm by passes = passed old new calm passes
+  passes_calmly lines.Tick old new answer calm by passes = passed old new calm passes
   passes_calmly (lines.Restart restarted.Master) old new answer calm by (now, passes, begins) = begins_anew now new answer (passed old now calm passes) begins
   passes_calmly (lines.Restart (restarted.Server server)) old new answer calm by passes = passed old new calm passes
   passes_calmly (lines.Lose server handle) old new answer calm by passes = passed old new calm passes

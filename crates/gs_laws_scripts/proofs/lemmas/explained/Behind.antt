@@ -1,5 +1,5 @@
 -- What stands behind a change of the tree that a client has asked and taken the reply to, where the names stand there.
-use Rattle.std.proofs.Common.{[], ap, refl, sym, ◌∷◌, ◌∙◌, ◌≡◌, List, Ok, Some, false, ℕ}
+use Rattle.std.proofs.Common.{[], ap, refl, subst, sym, ◌∷◌, ◌∙◌, ◌≡◌, List, Ok, false, true, ℕ}
 use Rattle.std.specs.FinMap as fin
 use Rattle.std.specs.List.{AllByRecursion}
 use Rattle.gs_base.specs.Told.{IsNumber}
@@ -18,11 +18,10 @@ use Rattle.gs_laws_chunks.specs.answers.Answered.{AsksFresh}
 use Rattle.gs_laws_chunks.specs.answers.Behind.{asks_call}
 use Rattle.gs_laws_chunks.specs.answers.Resting.{IsLooking, IsStill, StandsStill}
 use Rattle.gs_laws_chunks.specs.desks.Reached.{Covers, history}
-use Rattle.gs_laws_moves.specs.answers.Changes.{edit_for}
+use Rattle.gs_laws_moves.specs.answers.Changes.{is_change}
 use Rattle.gs_laws_world.proofs.lemmas.steady.Keeping.{run_keeps}
 use Rattle.gs_laws_world.specs.steady.Saying.{IsStepWithin}
 use Rattle.gs_laws_world.specs.steady.Unarmed.{unarmed}
-use Rattle.gs_master_record.specs.Plain.{PlainEdit}
 use Rattle.gs_master_spec.specs.Calls.{told_phase}
 use Rattle.gs_master_spec.specs.Durable.{Durable}
 use Rattle.gs_master_spec.specs.State.{State}
@@ -36,7 +35,7 @@ use Rattle.gs_world.specs.Sent.{Sent}
 use Rattle.gs_laws_scripts.proofs.lemmas.explained.Listed.{undisturbed_on}
 use Rattle.gs_laws_scripts.specs.answers.Meeting.{IsClientOf}
 use Rattle.gs_laws_scripts.specs.explained.Machine.{Machine}
-use Rattle.gs_laws_scripts.specs.explained.Standing.{IsUndisturbed, ShowsNames, Stands, the_client}
+use Rattle.gs_laws_scripts.specs.explained.Standing.{IsNumberOf, IsUndisturbed, ShowsNames, Stands, the_client}
 
 -- a client asks a call under a number that is fresh, and nothing since but look-ups of its own
 pub record IsAskedSince {D : Type 0} (seen : D → List ℕ) (failures : D → ℕ) (call : Call) (old mid : History D) : Type 0 where
@@ -50,7 +49,7 @@ pub record IsAskedSince {D : Type 0} (seen : D → List ℕ) (failures : D → �
   pub within : AllByRecursion IsStepWithin (asks_call moment req call ∷ steps)
   pub looking : AllByRecursion (IsLooking the_client) steps
 
-module _ {D : Type 0} (seen : D → List ℕ) (failures : D → ℕ) (d e : Durable) (number : ℕ) (call : Call) (edit : PlainEdit) (is : edit_for call ≡ Some edit) (old mid : History D) (u : IsUndisturbed seen d number old) (a : IsAskedSince seen failures call old mid) where
+module _ {D : Type 0} (seen : D → List ℕ) (failures : D → ℕ) (d e : Durable) (number : ℕ) (call : Call) (is : is_change call ≡ true) (old mid : History D) (u : IsUndisturbed seen d number old) (a : IsAskedSince seen failures call old mid) where
   abbrev steps : List Step
   steps = asks_call a.moment a.req call ∷ a.steps
 
@@ -69,7 +68,7 @@ module _ {D : Type 0} (seen : D → List ℕ) (failures : D → ℕ) (d e : Dura
     lasts = lasts_spared seen failures unarmed steps old mid runs spare a.within u.types u.lasts;
     served = stays_served seen failures unarmed (unarmed_alone seen failures) steps old mid runs a.within u.types u.lasts u.asked u.served;
     replied = run_replied seen failures unarmed steps old mid runs u.replied;
-    calm = changes_stay_calm seen failures unarmed d the_client number old a.asked mid a.moment a.req call edit a.steps is u.asked u.types u.lasts u.still u.calm a.own a.asks a.runs a.within a.looking;
+    calm = changes_stay_calm seen failures unarmed d the_client number old a.asked mid a.moment a.req call a.steps is u.asked u.types u.lasts u.still u.calm a.own a.asks a.runs a.within a.looking;
     one = (run_same seen failures unarmed steps old mid runs).clients ∙ u.one;
   }
 
@@ -82,6 +81,7 @@ module _ {D : Type 0} (seen : D → List ℕ) (failures : D → ℕ) (config : C
   shows_then s stood = record {
     text = st.shows.text;
     tree = st.shows.tree ∙ ap (λ (names : NamesView). mapped_rows st.shows.text (fin.entries names.tree)) (sym stood.names);
+    hidden = subst (IsNumberOf m.next_hidden) (sym stood.hidden) st.shows.hidden;
     epoch = st.shows.epoch ∙ sym stood.epoch;
     phase = st.shows.phase ∙ ap (told_phase false) (sym stood.phase);
   }
@@ -93,11 +93,12 @@ module _ {D : Type 0} (seen : D → List ℕ) (failures : D → ℕ) (config : C
     pub takes : RunsTo seen failures unarmed (Takes the_client ∷ []) mid (history after (way_of new.wire))
     pub covers : Covers after (way_of new.wire)
     pub moment : IsNumber new.wire.moment.0
+    pub same : new.wire.moment ≡ old.wire.moment
     pub ours : IsClientOf config new.caller.client
 
   -- the desk stands for the machine that shows the names then
-  pub stands_behind : (call : Call) (edit : PlainEdit) → edit_for call ≡ Some edit → (mid : History D) (t : IsTaken call mid) (e : Durable) → IsStill e the_client t.since.req.number mid → (next : Machine) → ShowsNames e next → Stands seen config new next
-  stands_behind call edit is mid t e still next shows = record {
+  pub stands_behind : (call : Call) → is_change call ≡ true → (mid : History D) (t : IsTaken call mid) (e : Durable) → IsStill e the_client t.since.req.number mid → (next : Machine) → ShowsNames e next → next.moment ≡ m.moment → Stands seen config new next
+  stands_behind call is mid t e still next shows same = record {
     sent = t.after;
     covers = t.covers;
     moment = t.moment;
@@ -105,6 +106,7 @@ module _ {D : Type 0} (seen : D → List ℕ) (failures : D → ℕ) (config : C
     durable = e;
     number = t.since.req.number;
     rests = undisturbed_on seen failures e t.since.req.number (Takes the_client ∷ []) mid (history t.after (way_of new.wire)) t.takes (tt, tt) ((refl, tt), tt)
-        (rests_behind seen failures st.durable e st.number call edit is before mid st.rests t.since still);
+        (rests_behind seen failures st.durable e st.number call is before mid st.rests t.since still);
     shows = shows;
+    now = same ∙ st.now ∙ ap (λ (moment : Moment). moment.0) (sym t.same);
   }

@@ -1,23 +1,22 @@
 -- Lines that ask for changes of the tree are explained where a desk stands for a machine, if their answers tell what came of them.
 use Rattle.std.proofs.Common.{[], ap, inl, inr, not, refl, subst, sym, ◌&&◌, ◌∷◌, ◌∙◌, ◌≡◌, Bool, Err, List, MatchOption, None, Ok, Option, Result, Some, false, if◌then◌else◌, length, nat_le, true, ℕ}
-use Rattle.std.specs.Prelude.{is_some}
+use Rattle.std.specs.Prelude.{is_none}
 use Rattle.std.proofs.lemmas.Bool.{false≢true}
 use Rattle.gs_base.specs.declared.config.Config.{Config}
 use Rattle.gs_base.specs.declared.refusal.Refusal.{Refusal}
 use Rattle.gs_base.specs.declared.refusal.Refusal.TheVariants as refusals
-use Rattle.gs_client.specs.Replies.{changed, nothing_in, path_in}
+use Rattle.gs_client.specs.Replies.{changed, deleted_in, nothing_in, path_in}
 use Rattle.gs_client.specs.Trees.{and_then}
 use Rattle.gs_client.specs.Trees as trees
 use Rattle.gs_client.specs.declared.client.Client.{Client}
 use Rattle.gs_client.specs.declared.link.Reply.{Reply}
 use Rattle.gs_client_dialogue.specs.Dialogues.{FollowsDialogue, Say, onward}
 use Rattle.gs_edit.specs.Mapped.{mapped_rows}
-use Rattle.gs_edit.specs.Plain.{create_rows, mkdirs_rows, rename_rows, unhide_rows, unhide_target}
+use Rattle.gs_edit.specs.Plain.{create_rows, hide_rows, mkdirs_rows, rename_rows, unhide_rows, unhide_target}
 use Rattle.gs_laws_chunks.proofs.lemmas.desks.Asking.{line_asks}
-use Rattle.gs_laws_moves.specs.answers.Changes.{edit_for}
+use Rattle.gs_laws_moves.specs.answers.Changes.{is_change}
 use Rattle.gs_laws_plain.specs.commands.Answers as plain
 use Rattle.gs_laws_world.specs.steady.Asking.{AllAsked, MayBeAsked}
-use Rattle.gs_master_record.specs.Plain.{Create, Mkdirs, PlainEdit, Rename, Unhide}
 use Rattle.gs_master_spec.specs.Calls.{is_always_taken, is_any_deep, is_any_hidden, is_work}
 use Rattle.gs_msg.specs.declared.answer.Answer.{Answer as Said}
 use Rattle.gs_msg.specs.declared.answer.Answer.TheVariants as says
@@ -27,7 +26,7 @@ use Rattle.gs_msg.specs.declared.event.Request.{Request as Asked}
 use Rattle.gs_msg.specs.declared.event.Request.TheVariants as requests
 use Rattle.gs_path.specs.Path.{Path}
 use Rattle.gs_path.specs.Rules.{parse, parse_hidden}
-use Rattle.gs_shell_calls.specs.Asked.{answered, done, on, on_two}
+use Rattle.gs_shell_calls.specs.Asked.{answered, done, hidden, on, on_two}
 use Rattle.gs_shell_calls.specs.Texts.{answer_text}
 use Rattle.gs_shell_calls.specs.declared.answer.Answer.{Answer}
 use Rattle.gs_shell_calls.specs.declared.answer.Answer.TheVariants as answers
@@ -39,8 +38,9 @@ use Rattle.gs_shell_grammar.specs.Grammar.{Request, line_request}
 use Rattle.gs_shell_grammar.specs.Grammar as lines
 use Rattle.gs_shell_line.specs.Line.{content, longest_line}
 use Rattle.gs_shell_script.specs.Run.{AnswersIfShort, AnswersLine, Runs}
-use Rattle.gs_tree.specs.Edits.{old_name}
+use Rattle.gs_tree.specs.Edits.{hidden_path, old_name, same_path}
 use Rattle.gs_tree.specs.Find.{Rows}
+use Rattle.gs_tree.specs.Find.{at as at_rows}
 use Rattle.gs_laws_scripts.proofs.lemmas.explained.Changing.{changes_are_explained_there}
 use Rattle.gs_laws_scripts.proofs.lemmas.explained.NoPaths.{no_path_goes}
 use Rattle.gs_laws_scripts.proofs.lemmas.explained.Still.{line_goes, stands_still}
@@ -141,15 +141,20 @@ module _ (answer : Said) where
       never : ◌≡◌ {A = Result Said Refusal} (Ok said) (Err refusal) → ⊥
       never e = cc
 
--- the call of a change is answered by nothing, or by a path
+-- the call of a change but a deletion is answered by nothing, or by a path
 abbrev answer_to : Called → Said
 answer_to (calls.Undelete p) = says.Path (unhide_target p (old_name p))
 answer_to call = says.Nothing
 
-answers_only : (call : Called) → is_some (edit_for call) ≡ true → (m : Machine) → SaysOnly (answer_to call) (called call m).0
+-- a call that is no deletion
+abbrev is_kept_visible : Called → Bool
+is_kept_visible (calls.Delete p recursive) = false
+is_kept_visible call = is_change call
+
+answers_only : (call : Called) → is_kept_visible call ≡ true → (m : Machine) → SaysOnly (answer_to call) (called call m).0
 answers_only call is m = by_call call is
   where
-    gated : (call : Called) → is_some (edit_for call) ≡ true → SaysOnly (answer_to call) (taken call m).0 → SaysOnly (answer_to call) (called call m).0
+    gated : (call : Called) → is_kept_visible call ≡ true → SaysOnly (answer_to call) (taken call m).0 → SaysOnly (answer_to call) (called call m).0
     gated call is says = only_gated (answer_to call) (is_rolling m.phase && not (is_always_taken call)) (is_preparing m.phase && is_work call) refusals.RollingBack refusals.Preparing m (taken call m) says
 
     by_rows : {A : Type 0} (call : Called) (answer : Said) (made : Result A Refusal) → SaysOnly answer (tree_called call (plain.by_paths call (plain.answered answer made)) m).0
@@ -158,7 +163,7 @@ answers_only call is m = by_call call is
     rows : Rows (List ℕ)
     rows = mapped_rows (λ (text : Text). text.bytes) m.plain.tree
 
-    by_call : (call : Called) → is_some (edit_for call) ≡ true → SaysOnly (answer_to call) (called call m).0
+    by_call : (call : Called) → is_kept_visible call ≡ true → SaysOnly (answer_to call) (called call m).0
     by_call (calls.Mkdirs p) is = gated (calls.Mkdirs p) is (by_rows (calls.Mkdirs p) says.Nothing (mkdirs_rows rows p))
     by_call (calls.Create p) is = gated (calls.Create p) is (by_rows (calls.Create p) says.Nothing (create_rows rows p))
     by_call (calls.Rename from to) is = gated (calls.Rename from to) is (by_rows (calls.Rename from to) says.Nothing (rename_rows rows from to))
@@ -166,7 +171,7 @@ answers_only call is m = by_call call is
     by_call call is = absurd (false≢true is)
 
 -- a change that the machine explains is shown as it is told
-module _ (size : ℕ) (call : Called) (old mid : Machine) (is : is_some (edit_for call) ≡ true) where
+module _ (size : ℕ) (call : Called) (old mid : Machine) (is : is_kept_visible call ≡ true) where
   nothing_shown : answer_to call ≡ says.Nothing → (said : Result Said Refusal) → Asks size call old said mid → shown_by nothing_in done said ≡ answered told said
   nothing_shown answer (Err refusal) asks = refl
   nothing_shown answer (Ok said) asks = subst (λ (s : Said). shown_by nothing_in done (Ok s) ≡ answered told (Ok s)) (sym (asked_only says.Nothing size call old mid said (λ m. subst (λ (a : Said). SaysOnly a (called call m).0) answer (answers_only call is m)) (λ s same. ok_is same) asks)) refl
@@ -175,14 +180,69 @@ module _ (size : ℕ) (call : Called) (old mid : Machine) (is : is_some (edit_fo
   path_shown path answer (Err refusal) asks = refl
   path_shown path answer (Ok said) asks = subst (λ (s : Said). shown_by path_in answers.Path (Ok s) ≡ answered told (Ok s)) (sym (asked_only (says.Path path) size call old mid said (λ m. subst (λ (a : Said). SaysOnly a (called call m).0) answer (answers_only call is m)) (λ s same. ok_is same) asks)) refl
 
+-- a deletion is answered by the hidden path, or that nothing stood there
+abbrev SaysHidden : Result Said Refusal → Type 0
+SaysHidden (Ok (says.Path p)) = Unit {0}
+SaysHidden (Ok says.Absent) = Unit {0}
+SaysHidden (Ok said) = ⊥
+SaysHidden (Err refusal) = Unit {0}
+
+hidden_if : (b : Bool) (refusal : Refusal) (r : Result Said Refusal) → SaysHidden r → SaysHidden (if b then Err refusal else r)
+hidden_if true refusal r says = tt
+hidden_if false refusal r says = says
+
+absent_if : (b : Bool) (r : Result Said Refusal) → SaysHidden r → SaysHidden (if b then Ok says.Absent else r)
+absent_if true r says = tt
+absent_if false r says = says
+
+hidden_called : (call : Called) (r : Result Said Refusal) (m : Machine) → SaysHidden r → SaysHidden (tree_called call r m).0
+hidden_called call (Ok said) m says = says
+hidden_called call (Err refusal) m says = tt
+
+hidden_gated : (a b : Bool) (x y : Refusal) (m : Machine) (z : Result Said Refusal × Machine) → SaysHidden z.0 → SaysHidden (if a then (Err x, m) else if b then (Err y, m) else z).0
+hidden_gated true b x y m z says = tt
+hidden_gated false true x y m z says = tt
+hidden_gated false false x y m z says = says
+
+hidden_made : {A : Type 0} (p : Path) (made : Result A Refusal) → SaysHidden (plain.answered (says.Path p) made)
+hidden_made p (Ok rows) = tt
+hidden_made p (Err refusal) = tt
+
+deletes_hidden : (p : Path) (recursive : Bool) (m : Machine) → SaysHidden (called (calls.Delete p recursive) m).0
+deletes_hidden p recursive m =
+    let call = calls.Delete p recursive in
+    let rows = mapped_rows (λ (text : Text). text.bytes) m.plain.tree in
+    let made = plain.answered (says.Path (hidden_path p m.moment m.next_hidden)) (hide_rows rows p m.moment m.next_hidden) in
+    let full = if not recursive && plain.has_visible rows p then Err refusals.NotEmpty else made in
+    let found = if is_none (at_rows rows p) then Ok says.Absent else full in
+    hidden_gated (is_rolling m.phase && not (is_always_taken call)) (is_preparing m.phase && is_work call) refusals.RollingBack refusals.Preparing m (taken call m)
+    (hidden_called call (plain.by_paths call (plain.deletes rows p recursive m.moment m.next_hidden)) m
+    (hidden_if (is_any_deep call) refusals.BadPath (if is_any_hidden call then Err refusals.HiddenName else plain.deletes rows p recursive m.moment m.next_hidden)
+    (hidden_if (is_any_hidden call) refusals.HiddenName (plain.deletes rows p recursive m.moment m.next_hidden)
+    (hidden_if (same_path p []) refusals.IsRoot found (absent_if (is_none (at_rows rows p)) full (hidden_if (not recursive && plain.has_visible rows p) refusals.NotEmpty made (hidden_made (hidden_path p m.moment m.next_hidden) (hide_rows rows p m.moment m.next_hidden))))))))
+
+-- one that the machine explains is shown as it is told
+hidden_shown : (said : Result Said Refusal) → SaysHidden said → shown_by deleted_in hidden said ≡ answered told said
+hidden_shown (Ok (says.Path p)) says = refl
+hidden_shown (Ok says.Absent) says = refl
+hidden_shown (Ok said) says = absurd says
+hidden_shown (Err refusal) says = refl
+
+hidden_said : (given said : Result Said Refusal) → SaysHidden given → IsSaid given said → SaysHidden said
+hidden_said (Ok (says.Path p)) said says is = subst SaysHidden (sym is) tt
+hidden_said (Ok says.Absent) said says is = subst SaysHidden (sym is) tt
+hidden_said (Ok given) said says is = absurd says
+hidden_said (Err refusal) said says is = subst SaysHidden (sym is) tt
+
+deleted_shown : (size : ℕ) (p : Path) (recursive : Bool) (old mid : Machine) (said : Result Said Refusal) → Asks size (calls.Delete p recursive) old said mid → shown_by deleted_in hidden said ≡ answered told said
+deleted_shown size p recursive old mid said (payments, inl (is, after)) = hidden_shown said (hidden_said (called (calls.Delete p recursive) (paid_now size payments old)).0 said (deletes_hidden p recursive (paid_now size payments old)) is)
+deleted_shown size p recursive old mid said (payments, inr (refusal, refused, rest)) = hidden_shown said (subst SaysHidden (sym refused) tt)
+
 -- ---- what is sure
 
 -- a reply whose answer is told is over
 told_over : (text : List ℕ) → IsSure text → (shows : Result Said Refusal → Result Answer Refusal) → ((refusal : Refusal) → shows (Err refusal) ≡ Err refusal) → (said : Result Said Refusal) → text ≡ answer_text (shows said) → IsOver said
-told_over text sure shows as_it_is said is = record {
-  sure = λ unsure. sure.sure (is ∙ ap (λ s. answer_text (shows s)) unsure ∙ ap answer_text (as_it_is refusals.Unsure));
-  new = λ old. sure.new (is ∙ ap (λ s. answer_text (shows s)) old ∙ ap answer_text (as_it_is refusals.Old));
-}
+told_over text sure shows as_it_is said is unsure = sure.sure (is ∙ ap (λ s. answer_text (shows s)) unsure ∙ ap answer_text (as_it_is refusals.Unsure))
 
 -- ---- a line
 
@@ -202,9 +262,9 @@ module _ {D : Type 0} (seen : D → List ℕ) (failures : D → ℕ) (config : C
   Explained called answer = (next : Machine) × AsksTree size called m answer next × Stands seen config new next
 
   -- a call that is asked
-  module _ (call : Called) (reply : Reply) (edit : PlainEdit) (is : edit_for call ≡ Some edit) (may : MayBeAsked (requests.Call call)) (carried : Carries_at seen failures (at old) (requests.Call call) reply (at new)) (over : IsOver (changed reply)) where
+  module _ (call : Called) (reply : Reply) (is : is_change call ≡ true) (may : MayBeAsked (requests.Call call)) (carried : Carries_at seen failures (at old) (requests.Call call) reply (at new)) (over : IsOver (changed reply)) where
     found : (mid : Machine) × Asks size call m (changed reply) mid × Stands seen config new (overtaken call (changed reply, mid))
-    found = changes_are_explained_there seen failures config size old new m call edit reply st is may carried over
+    found = changes_are_explained_there seen failures config size old new m call reply st is may carried over
 
     asked_so : (shows : Result Said Refusal → Result Answer Refusal) → ((mid : Machine) → Asks size call m (changed reply) mid → shows (changed reply) ≡ answered told (changed reply)) → Explained (Ok call) (shows (changed reply))
     asked_so shows shown = (overtaken call (changed reply, found.0), (changed reply, found.0, found.1, shown found.0 found.1, refl), found.2)
@@ -217,14 +277,13 @@ module _ {D : Type 0} (seen : D → List ℕ) (failures : D → ℕ) (config : C
     Shown call = (mid : Machine) (said : Result Said Refusal) → Asks size call m said mid → shows said ≡ answered told said
 
     -- one of some paths
-    explained : (asked : Result Called Refusal) → ((call : Called) → asked ≡ Ok call → MayBeAsked (requests.Call call)) → ((call : Called) → asked ≡ Ok call → (edit : PlainEdit) × (edit_for call ≡ Some edit)) → ((call : Called) → asked ≡ Ok call → Shown call)
+    explained : (asked : Result Called Refusal) → ((call : Called) → asked ≡ Ok call → MayBeAsked (requests.Call call)) → ((call : Called) → asked ≡ Ok call → is_change call ≡ true) → ((call : Called) → asked ≡ Ok call → Shown call)
         → ChangeGoes (Carries_at seen failures) asked shows (at old) answer (at new) → Explained asked answer
-    explained asked may edits shown (Short short) = never_short short
-    explained asked may edits shown (NoPath refusal none came same) = (m, subst (λ c. AsksTree size c m answer m) (sym none) (came, refl), stands_still seen failures config size block old new m st same)
-    explained asked may edits shown (IsAsked call reply some carried came) =
-        let edit = edits call some in
+    explained asked may changes shown (Short short) = never_short short
+    explained asked may changes shown (NoPath refusal none came same) = (m, subst (λ c. AsksTree size c m answer m) (sym none) (came, refl), stands_still seen failures config size block old new m st same)
+    explained asked may changes shown (IsAsked call reply some carried came) =
         let over : IsOver (changed reply) = told_over text sure shows as_it_is (changed reply) (is ∙ ap answer_text came) in
-        subst (λ c. Explained c answer) (sym some) (subst (Explained (Ok call)) (sym came) (asked_so call reply edit.0 edit.1 (may call some) carried over shows (λ mid asks. shown call some mid (changed reply) asks)))
+        subst (λ c. Explained c answer) (sym some) (subst (Explained (Ok call)) (sym came) (asked_so call reply (changes call some) (may call some) carried over shows (λ mid asks. shown call some mid (changed reply) asks)))
 
   goes_on : (request : Request) (asked : Result Called Refusal) (answer : Result Answer Refusal) (text : List ℕ) → call_of request ≡ Some asked → IsText answer text → Explained asked answer → Goes request text
   goes_on request asked answer text calls is e = record { next = e.0; answer = answer; leads = subst (λ c. LeadsBy size block c request m answer e.0) (sym calls) e.1; is = is; stands = e.2 }
@@ -234,12 +293,12 @@ module _ {D : Type 0} (seen : D → List ℕ) (failures : D → ℕ) (config : C
   said_so answer text sure (inl said) = said
   said_so answer text sure (inr memory) = absurd (sure.told memory)
 
-  is_change_on : (call : Path → Called) (parsed : Result Path Refusal) (called : Called) → ((p : Path) → (edit : PlainEdit) × (edit_for (call p) ≡ Some edit)) → plainly.on parsed call ≡ Ok called → (edit : PlainEdit) × (edit_for called ≡ Some edit)
-  is_change_on call (Ok p) called edits is = subst (λ c. (edit : PlainEdit) × (edit_for c ≡ Some edit)) (call_is is) (edits p)
-  is_change_on call (Err refusal) called edits is = absurd (cc)
+  is_change_on : (call : Path → Called) (parsed : Result Path Refusal) (called : Called) → ((p : Path) → is_change (call p) ≡ true) → plainly.on parsed call ≡ Ok called → is_change called ≡ true
+  is_change_on call (Ok p) called changes is = subst (λ c. is_change c ≡ true) (call_is is) (changes p)
+  is_change_on call (Err refusal) called changes is = absurd (cc)
 
   -- what is shown of a call on a path
-  nothing_on : (call : Path → Called) (parsed : Result Path Refusal) (called : Called) → ((p : Path) → is_some (edit_for (call p)) ≡ true) → ((p : Path) → answer_to (call p) ≡ says.Nothing) → plainly.on parsed call ≡ Ok called
+  nothing_on : (call : Path → Called) (parsed : Result Path Refusal) (called : Called) → ((p : Path) → is_kept_visible (call p) ≡ true) → ((p : Path) → answer_to (call p) ≡ says.Nothing) → plainly.on parsed call ≡ Ok called
       → (mid : Machine) (said : Result Said Refusal) → Asks size called m said mid → shown_by nothing_in done said ≡ answered told said
   nothing_on call (Ok p) called some answer is mid said asks = nothing_shown size (call p) m mid (some p) (answer p) said (subst (λ c. Asks size c m said mid) (sym (call_is is)) asks)
   nothing_on call (Err refusal) called some answer is mid said asks = absurd (cc)
@@ -248,8 +307,12 @@ module _ {D : Type 0} (seen : D → List ℕ) (failures : D → ℕ) (config : C
   path_on (Ok p) called is mid said asks = path_shown size (calls.Undelete p) m mid refl (unhide_target p (old_name p)) refl said (subst (λ c. Asks size c m said mid) (sym (call_is is)) asks)
   path_on (Err refusal) called is mid said asks = absurd (cc)
 
-  rename_is : (from to : Result Path Refusal) (called : Called) → plainly.on_two from to calls.Rename ≡ Ok called → (edit : PlainEdit) × (edit_for called ≡ Some edit)
-  rename_is (Ok source) to called is = is_change_on (calls.Rename source) to called (λ p. (Rename source p, refl)) is
+  hidden_on : (recursive : Bool) (parsed : Result Path Refusal) (called : Called) → plainly.on parsed (λ path. calls.Delete path recursive) ≡ Ok called → (mid : Machine) (said : Result Said Refusal) → Asks size called m said mid → shown_by deleted_in hidden said ≡ answered told said
+  hidden_on recursive (Ok p) called is mid said asks = deleted_shown size p recursive m mid said (subst (λ c. Asks size c m said mid) (sym (call_is is)) asks)
+  hidden_on recursive (Err refusal) called is mid said asks = absurd (cc)
+
+  rename_is : (from to : Result Path Refusal) (called : Called) → plainly.on_two from to calls.Rename ≡ Ok called → is_change called ≡ true
+  rename_is (Ok source) to called is = is_change_on (calls.Rename source) to called (λ p. refl) is
   rename_is (Err refusal) to called is = absurd (cc)
 
   nothing_on_two : (from to : Result Path Refusal) (called : Called) → plainly.on_two from to calls.Rename ≡ Ok called → (mid : Machine) (said : Result Said Refusal) → Asks size called m said mid → shown_by nothing_in done said ≡ answered told said
@@ -262,13 +325,13 @@ module _ {D : Type 0} (seen : D → List ℕ) (failures : D → ℕ) (config : C
       let asks = line_asks old.caller.client.chunk line (lines.Mkdir p) (on (parse p) trees.mkdirs_call done) read refl in
       goes_on (lines.Mkdir p) (plainly.on (parse p) calls.Mkdirs) answer text refl text_is
       (explained text sure (shown_by nothing_in done) (λ refusal. refl) answer (said_so answer text sure text_is) (plainly.on (parse p) calls.Mkdirs) (λ call some. may_ask (Carries_at seen failures) nothing_in done (parse p) calls.Mkdirs call asks some)
-      (λ call some. is_change_on calls.Mkdirs (parse p) call (λ path. (Mkdirs path, refl)) some) (λ call some. nothing_on calls.Mkdirs (parse p) call (λ path. refl) (λ path. refl) some)
+      (λ call some. is_change_on calls.Mkdirs (parse p) call (λ path. refl) some) (λ call some. nothing_on calls.Mkdirs (parse p) call (λ path. refl) (λ path. refl) some)
       (on_goes (Carries_at seen failures) nothing_in done (parse p) calls.Mkdirs (at old) (at new) answer comes))
   request_goes line (lines.Create p) answer text read is sure text_is comes =
       let asks = line_asks old.caller.client.chunk line (lines.Create p) (on (parse p) trees.create_call done) read refl in
       goes_on (lines.Create p) (plainly.on (parse p) calls.Create) answer text refl text_is
       (explained text sure (shown_by nothing_in done) (λ refusal. refl) answer (said_so answer text sure text_is) (plainly.on (parse p) calls.Create) (λ call some. may_ask (Carries_at seen failures) nothing_in done (parse p) calls.Create call asks some)
-      (λ call some. is_change_on calls.Create (parse p) call (λ path. (Create path, refl)) some) (λ call some. nothing_on calls.Create (parse p) call (λ path. refl) (λ path. refl) some)
+      (λ call some. is_change_on calls.Create (parse p) call (λ path. refl) some) (λ call some. nothing_on calls.Create (parse p) call (λ path. refl) (λ path. refl) some)
       (on_goes (Carries_at seen failures) nothing_in done (parse p) calls.Create (at old) (at new) answer comes))
   request_goes line (lines.Mv p q) answer text read is sure text_is comes =
       let asks = line_asks old.caller.client.chunk line (lines.Mv p q) (on_two (parse p) (parse q) trees.rename_call) read refl in
@@ -276,11 +339,18 @@ module _ {D : Type 0} (seen : D → List ℕ) (failures : D → ℕ) (config : C
       (explained text sure (shown_by nothing_in done) (λ refusal. refl) answer (said_so answer text sure text_is) (plainly.on_two (parse p) (parse q) calls.Rename) (λ call some. may_rename (Carries_at seen failures) (parse p) (parse q) call asks some)
       (λ call some. rename_is (parse p) (parse q) call some) (λ call some. nothing_on_two (parse p) (parse q) call some)
       (two_go (Carries_at seen failures) (parse p) (parse q) (at old) (at new) answer comes))
+  request_goes line (lines.Rm p recursive) answer text read is sure text_is comes =
+      let call : Path → Called = λ path. calls.Delete path recursive in
+      let asks = line_asks old.caller.client.chunk line (lines.Rm p recursive) (on (parse p) (λ path. trees.delete_call path recursive) hidden) read refl in
+      goes_on (lines.Rm p recursive) (plainly.on (parse p) call) answer text refl text_is
+      (explained text sure (shown_by deleted_in hidden) (λ refusal. refl) answer (said_so answer text sure text_is) (plainly.on (parse p) call) (λ asked some. may_ask (Carries_at seen failures) deleted_in hidden (parse p) call asked asks some)
+      (λ asked some. is_change_on call (parse p) asked (λ path. refl) some) (λ asked some. hidden_on recursive (parse p) asked some)
+      (on_goes (Carries_at seen failures) deleted_in hidden (parse p) call (at old) (at new) answer comes))
   request_goes line (lines.Undelete p) answer text read is sure text_is comes =
       let asks = line_asks old.caller.client.chunk line (lines.Undelete p) (on (parse_hidden p) trees.undelete_call answers.Path) read refl in
       goes_on (lines.Undelete p) (plainly.on (parse_hidden p) calls.Undelete) answer text refl text_is
       (explained text sure (shown_by path_in answers.Path) (λ refusal. refl) answer (said_so answer text sure text_is) (plainly.on (parse_hidden p) calls.Undelete) (λ call some. may_ask (Carries_at seen failures) path_in answers.Path (parse_hidden p) calls.Undelete call asks some)
-      (λ call some. is_change_on calls.Undelete (parse_hidden p) call (λ path. (Unhide path, refl)) some) (λ call some. path_on (parse_hidden p) call some)
+      (λ call some. is_change_on calls.Undelete (parse_hidden p) call (λ path. refl) some) (λ call some. path_on (parse_hidden p) call some)
       (on_goes (Carries_at seen failures) path_in answers.Path (parse_hidden p) calls.Undelete (at old) (at new) answer comes))
   request_goes line request answer text read is sure text_is comes = absurd (false≢true is)
 

@@ -63,12 +63,12 @@ use Rattle.gs_laws_scripts.specs.answers.Meeting.{IsClientOf}
 use Rattle.gs_laws_scripts.specs.explained.Machine.{Machine, new_machine, new_text}
 use Rattle.gs_laws_scripts.specs.explained.Standing.{CommitsStand, IsUndisturbed, ShowsNames, Stands, the_client}
 
--- a machine that shows the names
-abbrev shown : Durable → Machine
-shown d = record new_machine { plain = record { tree = mapped_rows (λ chunk. new_text) (fin.entries d.names.tree); kept = None }; phase = told_phase false d.phase; epoch = d.epoch }
+-- a machine that shows the names, at a moment
+abbrev shown : ℕ → Durable → Machine
+shown moment d = record new_machine { plain = record { tree = mapped_rows (λ chunk. new_text) (fin.entries d.names.tree); kept = None }; phase = told_phase false d.phase; epoch = d.epoch; next_hidden = d.next_hidden; moment = moment }
 
-it_shows : (d : Durable) → ShowsNames d (shown d)
-it_shows d = record { text = λ chunk. new_text; tree = refl; epoch = refl; phase = refl }
+it_shows : (moment : ℕ) (d : Durable) → ShowsNames d (shown moment d)
+it_shows moment d = record { text = λ chunk. new_text; tree = refl; hidden = inl refl; epoch = refl; phase = refl }
 
 module _ (sizes : HaveSizes) {D : Type 0} (seen : D → List ℕ) (failures : D → ℕ) (config : Config) (disks : D × D) (old new : Desk D) (epoch : ℕ) (empty : standing (seen disks.0) (seen disks.1) ≡ fresh) (reached : IsReachedWithin seen failures config disks old) (ours : IsClientOf config old.caller.client) where
   abbrev at : Desk D → Client × Wire D
@@ -199,7 +199,7 @@ module _ (sizes : HaveSizes) {D : Type 0} (seen : D → List ℕ) (failures : D 
 
     stands_then : (m : Machine) × Stands seen config new m × (m.epoch ≡ epoch) × (m.phase ≡ phase_of commit)
     stands_then = (
-      shown halts.durable,
+      shown new.wire.moment.0 halts.durable,
       record {
         sent = done.after;
         covers = done.covers;
@@ -208,7 +208,8 @@ module _ (sizes : HaveSizes) {D : Type 0} (seen : D → List ℕ) (failures : D 
         durable = halts.durable;
         number = done.has.req.number;
         rests = rests;
-        shows = it_shows halts.durable;
+        shows = it_shows new.wire.moment.0 halts.durable;
+        now = refl;
       },
       told.0,
       told.1,

@@ -79,7 +79,7 @@ entry_twice : {A B C : Type 0} (f : B → C) (g : A → B) (entry : Entry A) →
 entry_twice f g Dir = refl
 entry_twice f g (File xs) = ap (λ all. File all) (all_twice f g xs)
 
-rows_twice : {A B C : Type 0} (f : B → C) (g : A → B) (rows : Rows A) → mapped_rows f (mapped_rows g rows) ≡ mapped_rows (λ x. f (g x)) rows
+pub rows_twice : {A B C : Type 0} (f : B → C) (g : A → B) (rows : Rows A) → mapped_rows f (mapped_rows g rows) ≡ mapped_rows (λ x. f (g x)) rows
 rows_twice f g [] = refl
 rows_twice f g (row ∷ rows) = ap (λ entry. (row.0, entry) ∷ mapped_rows f (mapped_rows g rows)) (entry_twice f g row.1) ∙ ap (λ all. (row.0, mapped_entry (λ x. f (g x)) row.1) ∷ all) (rows_twice f g rows)
 

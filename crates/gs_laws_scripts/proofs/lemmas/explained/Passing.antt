@@ -1,5 +1,5 @@
 -- Lines about servers and messages, and look-ups, are steps at which nothing is asked of the master but look-ups.
-use Rattle.std.proofs.Common.{[], inl, inr, refl, subst, sym, ap, ◌++◌, ◌-◌, ◌==◌, ◌∷◌, ◌≡◌, ◌⊎◌, Bool, Err, List, MatchOption, None, Ok, Option, Result, Some, false, slice_get, true, ℕ}
+use Rattle.std.proofs.Common.{[], inl, inr, refl, subst, sym, ap, ◌++◌, ◌-◌, ◌==◌, ◌∷◌, ◌∙◌, ◌≡◌, ◌⊎◌, Bool, Err, List, MatchOption, None, Ok, Option, Result, Some, false, slice_get, true, ℕ}
 use Rattle.std.specs.List.{AllByRecursion}
 use Rattle.std.proofs.lemmas.Bool.{false≢true}
 use Rattle.gs_base.specs.Calls.{Does}
@@ -20,7 +20,7 @@ use Rattle.gs_server.specs.Servers as servers
 use Rattle.gs_server.specs.Servers.{Server}
 use Rattle.gs_shell_calls.specs.declared.answer.Answer.{Answer}
 use Rattle.gs_shell_desk.specs.Lines.{AtOne, Beats, BeatsOf, Damages, Either, HandsOver, Loses, NodesDo, OfHandle, Restarts, held_at, is_server}
-use Rattle.gs_shell_desk.specs.Ways.{DeliversWhole, IsDelivered, Sends, Way, shortened, with_nodes}
+use Rattle.gs_shell_desk.specs.Ways.{DeliversWhole, IsDelivered, Sends, TicksWhole, Way, shortened, with_nodes}
 use Rattle.gs_shell_grammar.specs.Grammar.{Request}
 use Rattle.gs_shell_grammar.specs.Grammar as lines
 use Rattle.gs_shell_grammar.specs.declared.command.Restarted.TheVariants as restarted
@@ -33,30 +33,35 @@ use Rattle.gs_laws_chunks.proofs.lemmas.desks.Ways.{joined}
 use Rattle.gs_laws_chunks.proofs.lemmas.desks.Words.{IsSpoken}
 use Rattle.gs_laws_chunks.specs.answers.Resting.{IsLooking}
 use Rattle.gs_laws_chunks.specs.desks.Reached.{Covers, history}
-use Rattle.gs_laws_looks.proofs.lemmas.carrying.Carried.{Calm, OneEvent, delivers_whole, one_event}
+use Rattle.gs_laws_looks.proofs.lemmas.carrying.Carried.{Calm, OneEvent, delivers_whole, one_event, waited_if}
 use Rattle.gs_laws_scripts.proofs.lemmas.lists.Lines.{all_join}
 use Rattle.gs_laws_scripts.specs.explained.Standing.{is_still_line}
 use Rattle.gs_laws_world.specs.steady.Saying.{IsAskedWithin, IsStepWithin}
 use Rattle.gs_laws_world.specs.steady.Unarmed.{unarmed}
 
+-- the moment behind a line
+abbrev pub moment_behind : Request → Moment → Moment
+moment_behind (lines.At moment) before = record { 0 = moment }
+moment_behind request before = before
+
 module _ {D : Type 0} (seen : D → List ℕ) (failures : D → ℕ) (client : ClientId) where
-  -- such steps lead from one way to another
-  pub record LooksOn (old new : Way D) (sent : Sent) : Type 0 where
+  -- such steps lead from one way to another, at this moment
+  pub record LooksOn (now : Moment) (old new : Way D) (sent : Sent) : Type 0 where
     pub steps : List Step
     pub after : Sent
     pub runs : RunsTo seen failures unarmed steps (history sent old) (history after new)
     pub covers : Covers after new
     pub within : AllByRecursion IsStepWithin steps
     pub looking : AllByRecursion (IsLooking client) steps
-    pub moment : IsNumber new.moment.0
+    pub moment : new.moment ≡ now
 
   abbrev pub Leads : Way D → Way D → Type 0
-  Leads old new = (sent : Sent) → Covers sent old → IsNumber old.moment.0 → LooksOn old new sent
+  Leads old new = (sent : Sent) → Covers sent old → IsNumber old.moment.0 → LooksOn old.moment old new sent
 
   pub chain : (old mid new : Way D) → Leads old mid → Leads mid new → Leads old new
   chain old mid new first second sent covers small =
       let a = first sent covers small in
-      let b = second a.after a.covers a.moment in
+      let b = second a.after a.covers (subst (λ (m : Moment). IsNumber m.0) (sym a.moment) small) in
       record {
         steps = a.steps ++ b.steps;
         after = b.after;
@@ -64,7 +69,7 @@ module _ {D : Type 0} (seen : D → List ℕ) (failures : D → ℕ) (client : C
         covers = b.covers;
         within = all_join IsStepWithin a.steps b.steps a.within b.within;
         looking = all_join (IsLooking client) a.steps b.steps a.looking b.looking;
-        moment = b.moment;
+        moment = b.moment ∙ a.moment;
       }
 
   pub nothing : (old new : Way D) → new ≡ old → Leads old new
@@ -75,7 +80,7 @@ module _ {D : Type 0} (seen : D → List ℕ) (failures : D → ℕ) (client : C
     covers = subst (λ w. Covers sent w) (sym same) covers;
     within = tt;
     looking = tt;
-    moment = subst (λ (w : Way D). IsNumber w.moment.0) (sym same) small;
+    moment = ap (λ (w : Way D). w.moment) same;
   }
 
   alike : (old new : Way D) → Alike old new → Leads old new
@@ -86,12 +91,12 @@ module _ {D : Type 0} (seen : D → List ℕ) (failures : D → ℕ) (client : C
     covers = alike_covers sent old new same covers;
     within = tt;
     looking = tt;
-    moment = subst (λ (m : Moment). IsNumber m.0) (sym same.moment) small;
+    moment = same.moment;
   }
 
   -- an event at a node
   event_on : (happening : Happening) (by : NodeId) (outcome : Upshot) (there : Nodes D) (old new : Way D) (sent : Sent) → IsLooking client (Comes (record { moment = old.moment; happening = happening })) → IsAskedWithin happening
-      → AtNode seen failures unarmed old.moment happening (history sent old) by outcome there → CanPost sent by outcome → Covers sent old → IsNumber old.moment.0 → IsOver outcome (with_nodes there old) new → LooksOn old new sent
+      → AtNode seen failures unarmed old.moment happening (history sent old) by outcome there → CanPost sent by outcome → Covers sent old → IsNumber old.moment.0 → IsOver outcome (with_nodes there old) new → LooksOn old.moment old new sent
   event_on happening by outcome there old new sent looking within at can covers small over =
       let one : OneEvent seen failures happening outcome there old new sent = one_event seen failures happening by outcome there old new sent at can covers over in
       record {
@@ -101,19 +106,21 @@ module _ {D : Type 0} (seen : D → List ℕ) (failures : D → ℕ) (client : C
         covers = one.covers;
         within = ((small, within), tt);
         looking = (looking, tt);
-        moment = subst (λ (m : Moment). IsNumber m.0) (sym one.moment) small;
+        moment = one.moment;
       }
 
   -- ---- deliveries
 
-  calm_on : (old new : Way D) (sent : Sent) → Calm seen failures client old new sent → IsNumber old.moment.0 → LooksOn old new sent
-  calm_on old new sent c small =
-      record { steps = c.steps; after = c.after; runs = c.runs; covers = c.covers; within = c.within; looking = c.looking; moment = subst (λ (m : Moment). IsNumber m.0) (sym c.moment) small }
+  calm_on : (old new : Way D) (sent : Sent) → Calm seen failures client old new sent → LooksOn old.moment old new sent
+  calm_on old new sent c = record { steps = c.steps; after = c.after; runs = c.runs; covers = c.covers; within = c.within; looking = c.looking; moment = c.moment }
 
   delivers_on : (old new : Way D) → DeliversWhole seen failures old new → Leads old new
-  delivers_on old new d sent covers small = calm_on old new sent (delivers_whole seen failures client old new d sent covers small) small
+  delivers_on old new d sent covers small = calm_on old new sent (delivers_whole seen failures client old new d sent covers small)
 
-  delivers_one : (message : Message) (old : Way D) (said : Result (Unit {0}) Refusal) (new : Way D) (sent : Sent) → IsDelivered seen failures message old said new → IsSent message sent → Covers sent old → IsNumber old.moment.0 → LooksOn old new sent
+  ticks_on : (old new : Way D) → TicksWhole seen failures old new → Leads old new
+  ticks_on old new ticks sent covers small = calm_on old new sent (waited_if seen failures client true old new ticks sent covers small)
+
+  delivers_one : (message : Message) (old : Way D) (said : Result (Unit {0}) Refusal) (new : Way D) (sent : Sent) → IsDelivered seen failures message old said new → IsSent message sent → Covers sent old → IsNumber old.moment.0 → LooksOn old.moment old new sent
   delivers_one message old said new sent d (id, is) covers small =
       event_on (happenings.Deliver id) message.to (told d.turn) d.nodes old new sent (refl, tt) tt
       (subst (λ (o : Option Message). MatchOption o ((told d.turn ≡ Err refusals.Range) × (d.nodes ≡ old.nodes) × (message.to ≡ id.sender)) (λ m. ComesTo seen failures unarmed id.sender m old.moment old.nodes message.to (told d.turn) d.nodes)) (sym is)
@@ -192,21 +199,25 @@ module _ {D : Type 0} (seen : D → List ℕ) (failures : D → ℕ) (client : C
 
   -- ---- lines
 
-  sets_moment : (moment : ℕ) (old new : Way D) → IsNumber moment → new ≡ record old { moment = record { 0 = moment } } → Leads old new
-  sets_moment moment old new small same sent covers before = record {
+  abbrev pub LeadsBy : Request → Way D → Way D → Type 0
+  LeadsBy request old new = (sent : Sent) → Covers sent old → IsNumber old.moment.0 → LooksOn (moment_behind request old.moment) old new sent
+
+  sets_moment : (moment : ℕ) (old new : Way D) → new ≡ record old { moment = record { 0 = moment } } → LeadsBy (lines.At moment) old new
+  sets_moment moment old new same sent covers before = record {
     steps = [];
     after = sent;
     runs = ap (λ (w : Way D). history sent w) same;
     covers = subst (λ w. Covers sent w) (sym same) (record { queue = covers.queue; held = covers.held; servers = covers.servers; clients = covers.clients; short = covers.short });
     within = tt;
     looking = tt;
-    moment = subst (λ (w : Way D). IsNumber w.moment.0) (sym same) small;
+    moment = ap (λ (w : Way D). w.moment) same;
   }
 
-  pub nodes_do : (request : Request) (old : Way D) (result : Result Answer Refusal) (new : Way D) → is_still_line (Some request) ≡ true → IsSpoken request → NodesDo seen failures request old result new → Leads old new
+  pub nodes_do : (request : Request) (old : Way D) (result : Result Answer Refusal) (new : Way D) → is_still_line (Some request) ≡ true → IsSpoken request → NodesDo seen failures request old result new → LeadsBy request old new
   nodes_do (lines.Beat id) old result new is spoken (drops, b, so) =
       for_server (is_server id old) old new drops (BeatsOf seen failures id old drops new) (λ did. beats_of id (slice_get old.nodes.servers id) old drops new refl did) b
-  nodes_do (lines.At moment) old result new is spoken (so, same) = sets_moment moment old new spoken same
+  nodes_do lines.Tick old result new is spoken (so, ticks) = ticks_on old new ticks
+  nodes_do (lines.At moment) old result new is spoken (so, same) = sets_moment moment old new same
   nodes_do (lines.Hold kind) old result new is spoken (so, same) = alike old new (alike_to old (record old { kind = kind }) new (record { nodes = refl; moment = refl; queue = refl; held = refl; short = λ short. short }) same)
   nodes_do (lines.Restart (restarted.Server id)) old result new is spoken (said, r, so) = restarts id old said new r
   nodes_do (lines.Restart restarted.Master) old result new is spoken did = absurd (false≢true is)

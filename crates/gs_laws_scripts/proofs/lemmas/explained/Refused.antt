@@ -179,8 +179,7 @@ module _ {D : Type 0} (seen : D → List ℕ) (failures : D → ℕ) where
 
   unjudged : (refusal : Refusal) → IsUnjudged refusal → IsNoLook refusal
   unjudged refusal (inl is) = inl (subst IsOfStore (sym is) refl)
-  unjudged refusal (inr (inl is)) = inl (subst IsOfStore (sym is) refl)
-  unjudged refusal (inr (inr is)) = inr is
+  unjudged refusal (inr is) = inr is
 
   module _ (d : Durable) (number : ℕ) (old mid : History D) (call : Call) (look : is_look call ≡ true) (once : is_answered_at_once call ≡ true) (refusal : Refusal) (u : IsUndisturbed seen d number old) (h : HasReply seen failures the_client old (requests.Call call) (replies.Refused refusal) mid) where
     made_or : IsUnjudged refusal ⊎ ((made : WasSaid seen failures unarmed h.behind.steps h.asked mid h.req call (Err refusal)) × SaidBy seen failures unarmed (λ k. Passes seen failures unarmed k h.behind.steps h.asked mid h.behind.runs) h.behind.steps h.asked mid h.req call (Err refusal) made)

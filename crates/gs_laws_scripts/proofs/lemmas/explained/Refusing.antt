@@ -1,7 +1,8 @@
 -- A change of the tree that a desk carries, and that is refused so that it is over: it is explained, and the desk stands for the machine as it was.
 use Rattle.std.proofs.Common.{[], ap, inl, inr, refl, subst, sym, ◌-◌, ◌∷◌, ◌∙◌, ◌≡◌, ◌⊎◌, Bool, Err, List, MatchOption, None, Ok, Option, Result, Some, false, if◌then◌else◌, length, nat_le, slice_set, true, ℕ}
-use Rattle.std.specs.Prelude.{Vec, is_some}
+use Rattle.std.specs.Prelude.{Vec}
 use Rattle.std.proofs.lemmas.Bool.{false≢true}
+use Rattle.std.specs.List.{AllByRecursion}
 use Rattle.std.specs.declared.alloc.Global.{Global}
 use Rattle.gs_base.specs.Told.{IsNumber}
 use Rattle.gs_base.specs.declared.config.Config.{Config}
@@ -17,18 +18,17 @@ use Rattle.gs_client.specs.declared.client.Client.{Client}
 use Rattle.gs_client.specs.declared.link.Reply.{Reply}
 use Rattle.gs_client.specs.declared.link.Reply.TheVariants as replies
 use Rattle.gs_laws_chunks.proofs.lemmas.answers.Behind.{all_spare}
-use Rattle.gs_laws_chunks.proofs.lemmas.answers.Changed.{refused_changes_leave_still}
+use Rattle.gs_laws_chunks.proofs.lemmas.answers.Changed.{changes_are_never_old, refused_changes_leave_still}
 use Rattle.gs_laws_chunks.proofs.lemmas.answers.Served.{lone_calls_are_for_the_master}
-use Rattle.gs_laws_chunks.specs.answers.Changed.{HasRefusal, IsLeft}
+use Rattle.gs_laws_chunks.specs.answers.Changed.{HasRefusal, IsAt, IsLeft}
 use Rattle.gs_laws_chunks.specs.answers.Served.{IsOfServer}
 use Rattle.gs_laws_chunks.specs.desks.Reached.{Covers, history}
 use Rattle.gs_laws_looks.proofs.lemmas.carrying.Asked.{requests_are_carried}
-use Rattle.gs_laws_looks.specs.carrying.Asked.{IsAnswered, WasAsked, WasAskedAndTaken, WasRefused}
+use Rattle.gs_laws_looks.specs.carrying.Asked.{IsAnswered, IsAsOf, WasAsked, WasAskedAndTaken, WasRefused}
 use Rattle.gs_laws_moves.proofs.lemmas.answers.Changes.{changes_at_once}
-use Rattle.gs_laws_moves.specs.answers.Changes.{edit_for}
+use Rattle.gs_laws_moves.specs.answers.Changes.{is_change}
 use Rattle.gs_laws_world.specs.steady.Asking.{MayBeAsked, asks_at}
 use Rattle.gs_laws_world.specs.steady.Unarmed.{unarmed}
-use Rattle.gs_master_record.specs.Plain.{PlainEdit}
 use Rattle.gs_master_spec.specs.State.{is_kept}
 use Rattle.gs_msg.specs.declared.answer.Answer.{Answer as Said}
 use Rattle.gs_msg.specs.declared.call.Call.{Call}
@@ -56,29 +56,26 @@ use Rattle.gs_laws_scripts.specs.explained.Standing.{IsUndisturbed, Stands, the_
 
 -- ---- what is sure
 
-not_over : {Z : Type 0} (refusal : Refusal) → IsOver (Err refusal) → (refusal ≡ refusals.Unsure) ⊎ (refusal ≡ refusals.Old) → Z
-not_over refusal over (inl is) = absurd (over.sure (ap (λ r. Err r) is))
-not_over refusal over (inr is) = absurd (over.new (ap (λ r. Err r) is))
-
 -- a refusal that is over is told as it is
 told_as : (refusal : Refusal) → IsOver (Err (unsure_or refusal)) → unsure_or refusal ≡ refusal
-told_as refusals.Device over = not_over refusals.Unsure over (inl refl)
-told_as refusals.Memory over = not_over refusals.Unsure over (inl refl)
+told_as refusals.Device over = absurd (over refl)
+told_as refusals.Memory over = absurd (over refl)
 told_as refusal over = refl
 
--- and the master keeps it
-kept_then : (refusal : Refusal) → IsOver (Err refusal) → unsure_or refusal ≡ refusal → is_kept refusal ≡ true
-kept_then refusals.Old over same = not_over refusals.Old over (inr refl)
-kept_then refusals.Device over same = not_over refusals.Device over (inl (sym same))
-kept_then refusals.Memory over same = not_over refusals.Memory over (inl (sym same))
-kept_then refusal over same = refl
+-- and the master keeps it, unless it is that the request is an old one
+kept_then : (refusal : Refusal) → IsOver (Err refusal) → unsure_or refusal ≡ refusal → (is_kept refusal ≡ true) ⊎ (refusal ≡ refusals.Old)
+kept_then refusals.Old over same = inr refl
+kept_then refusals.Device over same = absurd (over (ap (λ r. Err r) (sym same)))
+kept_then refusals.Memory over same = absurd (over (ap (λ r. Err r) (sym same)))
+kept_then refusal over same = inl refl
 
 -- ---- late calls: a refused one overtakes none
 
-overtakes_none : (call : Call) → is_some (edit_for call) ≡ true → (refusal : Refusal) (m : Machine) → overtaken call (Err refusal, m) ≡ m
+overtakes_none : (call : Call) → is_change call ≡ true → (refusal : Refusal) (m : Machine) → overtaken call (Err refusal, m) ≡ m
 overtakes_none (calls.Mkdirs p) is refusal m = refl
 overtakes_none (calls.Create p) is refusal m = refl
 overtakes_none (calls.Rename from to) is refusal m = refl
+overtakes_none (calls.Delete p recursive) is refusal m = refl
 overtakes_none (calls.Undelete p) is refusal m = refl
 overtakes_none call is refusal m = absurd (false≢true is)
 
@@ -119,7 +116,7 @@ module _ {D : Type 0} (seen : D → List ℕ) (failures : D → ℕ) where
       by_at : AsksAt req request old.nodes h.outcome new.nodes → new ≡ old
       by_at (out, at, is) = by_out out at (subst (λ o. Tells seen failures unarmed moment h.by o old.sent (Err refusal) new.sent) is h.tells)
 
-module _ {D : Type 0} (seen : D → List ℕ) (failures : D → ℕ) (config : Config) (size : ℕ) (old new : Desk D) (m : Machine) (call : Call) (edit : PlainEdit) (st : Stands seen config old m) (is : edit_for call ≡ Some edit) (may : MayBeAsked (requests.Call call)) where
+module _ {D : Type 0} (seen : D → List ℕ) (failures : D → ℕ) (config : Config) (size : ℕ) (old new : Desk D) (m : Machine) (call : Call) (st : Stands seen config old m) (is : is_change call ≡ true) (may : MayBeAsked (requests.Call call)) where
   abbrev at : Desk D → Client × Wire D
   at d = (d.caller.client, d.wire)
 
@@ -149,7 +146,7 @@ module _ {D : Type 0} (seen : D → List ℕ) (failures : D → ℕ) (config : C
   none_of_server reply of mid w has =
       let s : IsAskedSince seen failures call before mid = since reply mid w in
       lone_calls_are_for_the_master seen failures unarmed before w.asked mid w.moment w.req call w.behind.steps w.last reply st.rests.asked st.rests.served st.rests.replied st.rests.types st.rests.lasts s.asks
-      (λ c state req moment. changes_at_once c state req moment call (ap is_some is)) w.behind.runs (all_spare the_client s.steps s.looking) s.within (subst (λ k. client_in mid.nodes.clients k ≡ Some w.last) (sym w.own) w.found) w.number has of
+      (λ c state req moment. changes_at_once c state req moment call is) w.behind.runs (all_spare the_client s.steps s.looking) s.within (subst (λ k. client_in mid.nodes.clients k ≡ Some w.last) (sym w.own) w.found) w.number has of
 
   abbrev Went : Reply → Type 0
   Went reply = IsAnswered seen failures the_client (way_of old.wire) st.sent (requests.Call call) reply (way_of new.wire)
@@ -205,12 +202,16 @@ module _ {D : Type 0} (seen : D → List ℕ) (failures : D → ℕ) (config : C
         number = st.number;
         rests = subst (λ (s : Client × Wire D). IsUndisturbed seen st.durable st.number (history st.sent (way_of s.1))) (sym same) st.rests;
         shows = st.shows;
+        now = st.now ∙ ap (λ (s : Client × Wire D). s.1.moment.0) (sym same);
       },
     )
 
     module _ (a : Went (replies.Refused refusal)) where
       moment_then : IsNumber new.wire.moment.0
       moment_then = subst (λ (moment : Moment). IsNumber moment.0) (sym a.moment) st.moment
+
+      now_then : m.moment ≡ new.wire.moment.0
+      now_then = st.now ∙ ap (λ (moment : Moment). moment.0) (sym a.moment)
 
       -- it wasn't taken
       not_asked : WasRefused seen failures the_client before (requests.Call call) (replies.Refused refusal) (history a.after (way_of new.wire)) → Explained
@@ -225,14 +226,15 @@ module _ {D : Type 0} (seen : D → List ℕ) (failures : D → ℕ) (config : C
           number = st.number;
           rests = subst (IsUndisturbed seen st.durable st.number) (sym (none_happens seen failures before (history a.after (way_of new.wire)) r.moment r.req (requests.Call call) r.refusal r.own st.rests.one r.happens)) st.rests;
           shows = st.shows;
+          now = now_then;
         },
       )
 
       -- it had its turn
-      had_turn : (mid : History D) (w : WasAsked seen failures the_client before (requests.Call call) (replies.Refused refusal) mid) → RunsTo seen failures unarmed (Takes the_client ∷ []) mid (history a.after (way_of new.wire)) → w.last.reply ≡ Some (replies.Refused refusal) → Explained
-      had_turn mid w takes has = (
-        ([], changes_are_told left.turn.config left.turn.state w.req left.turn.moment m call edit (Err refusal) (shows_then seen failures config old new m st left.turn.state left.turn.stood) is left.turn.says (λ said same. absurd (never same))),
-        stands_behind seen failures config old new m st call edit is mid (record { since = s; after = a.after; takes = takes; covers = a.covers; moment = moment_then; ours = ours }) st.durable left.still m st.shows,
+      had_turn : (mid : History D) (w : WasAsked seen failures the_client before (requests.Call call) (replies.Refused refusal) mid) → AllByRecursion (IsAt old.wire.moment) w.behind.steps → RunsTo seen failures unarmed (Takes the_client ∷ []) mid (history a.after (way_of new.wire)) → w.last.reply ≡ Some (replies.Refused refusal) → Explained
+      had_turn mid w at_it takes has = (
+        ([], changes_are_told left.turn.config left.turn.state w.req left.turn.moment m call (Err refusal) (shows_then seen failures config old new m st left.turn.state left.turn.stood) (st.now ∙ ap (λ (moment : Moment). moment.0) (sym (left.turn.since old.wire.moment at_it))) is left.turn.says (λ said same. absurd (never same))),
+        stands_behind seen failures config old new m st call is mid (record { since = s; after = a.after; takes = takes; covers = a.covers; moment = moment_then; same = a.moment; ours = ours }) st.durable left.still m st.shows refl,
       )
         where
           s : IsAskedSince seen failures call before mid
@@ -241,18 +243,26 @@ module _ {D : Type 0} (seen : D → List ℕ) (failures : D → ℕ) (config : C
           it : HasRefusal seen failures unarmed the_client before call refusal mid
           it = record { moment = s.moment; req = s.req; own = s.own; asked = s.asked; asks = s.asks; steps = s.steps; runs = s.runs; within = s.within; looking = s.looking; node = w.last; there = w.found; last = w.number; reply = has }
 
-          left : IsLeft st.durable the_client st.number w.req call refusal mid
-          left = refused_changes_leave_still seen failures unarmed st.durable the_client st.number before mid call edit refusal is st.rests.asked st.rests.served st.rests.types st.rests.lasts st.rests.still it (kept_then refusal over same_told)
-              (λ unsure. not_over refusal over (inl unsure))
+          kept : is_kept refusal ≡ true
+          kept = elim (kept_then refusal over same_told) [
+            | inl is ↦ is
+            | inr old ↦
+                absurd (changes_are_never_old seen failures unarmed the_client before mid call is st.rests.asked st.rests.served st.rests.types st.rests.lasts (subst (λ e. HasRefusal seen failures unarmed the_client before call e mid) old it))
+          ]
+
+          left : IsLeft st.durable the_client st.number w.req call refusal w.behind.steps mid
+          left = refused_changes_leave_still seen failures unarmed st.durable the_client st.number before mid call refusal is st.rests.asked st.rests.served st.rests.types st.rests.lasts st.rests.still it kept
+              (λ unsure. over (ap (λ r. Err r) unsure))
 
           never : {said : Said} → ◌≡◌ {A = Result Said Refusal} (Err refusal) (Ok said) → ⊥
           never e = cc
 
-      by_went : WasAskedAndTaken seen failures the_client before (requests.Call call) (replies.Refused refusal) (history a.after (way_of new.wire)) ⊎ WasRefused seen failures the_client before (requests.Call call) (replies.Refused refusal) (history a.after (way_of new.wire)) → Explained
-      by_went (inr r) = not_asked r
-      by_went (inl (mid, w, takes)) = elim (has_found seen failures w.last.reply (replies.Refused refusal) w.has) [
+      by_went : (w : WasAskedAndTaken seen failures the_client before (requests.Call call) (replies.Refused refusal) (history a.after (way_of new.wire)) ⊎ WasRefused seen failures the_client before (requests.Call call) (replies.Refused refusal) (history a.after (way_of new.wire)))
+          → IsAsOf seen failures old.wire.moment the_client before (requests.Call call) (replies.Refused refusal) (history a.after (way_of new.wire)) w → Explained
+      by_went (inr r) timed = not_asked r
+      by_went (inl (mid, w, takes)) timed = elim (has_found seen failures w.last.reply (replies.Refused refusal) w.has) [
         | inl lost ↦ absurd (no_reply lost)
-        | inr has ↦ had_turn mid w takes has
+        | inr has ↦ had_turn mid w timed.1 takes has
       ]
         where
           no_reply : replies.Refused refusal ≡ replies.Lost → ⊥
@@ -261,7 +271,7 @@ module _ {D : Type 0} (seen : D → List ℕ) (failures : D → ℕ) (config : C
     refused_so : Explained
     refused_so = elim (went (replies.Refused refusal) carried) [
       | inl (other, same, store, still) ↦ not_numbered (subst IsOfStore (refusal_is same) store) still
-      | inr a ↦ by_went a a.went
+      | inr a ↦ by_went a a.went a.moments
     ]
 
   -- ---- as it is told
@@ -272,5 +282,5 @@ module _ {D : Type 0} (seen : D → List ℕ) (failures : D → ℕ) (config : C
       let found : AsksCall size call m (Err refusal) m × Stands seen config new m = refused_so refusal (subst (λ r. IsOver (Err r)) same over) same carried in (
         m,
         subst (λ r. AsksCall size call m (Err r) m) (sym same) found.0,
-        subst (Stands seen config new) (sym (overtakes_none call (ap is_some is) (unsure_or refusal) m)) found.1,
+        subst (Stands seen config new) (sym (overtakes_none call is (unsure_or refusal) m)) found.1,
       )

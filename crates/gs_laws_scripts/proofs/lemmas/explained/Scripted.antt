@@ -104,6 +104,7 @@ module _ (size block : ℕ) (m : TreeMachine) where
   request_leads lines.Scan is = absurd (false≢true is)
   request_leads lines.Replicate is = absurd (false≢true is)
   request_leads (lines.Beat server) is = absurd (false≢true is)
+  request_leads lines.Tick is = absurd (false≢true is)
   request_leads (lines.Step step) is = absurd (false≢true is)
   request_leads (lines.Restart node) is = absurd (false≢true is)
   request_leads (lines.Lose server handle) is = absurd (false≢true is)

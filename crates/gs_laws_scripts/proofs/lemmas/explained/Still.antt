@@ -65,7 +65,7 @@ use Rattle.gs_laws_scripts.proofs.lemmas.explained.Asked.{dir_shown, empty_shown
 use Rattle.gs_laws_scripts.proofs.lemmas.explained.Directories.{directory_goes, directory_leads}
 use Rattle.gs_laws_scripts.proofs.lemmas.explained.Empties.{empty_goes, empty_leads}
 use Rattle.gs_laws_scripts.proofs.lemmas.explained.Listed.{is_calm, is_listed, is_told, list_is, list_off, listed_names, query_is, query_off, rolls_so, undisturbed_on}
-use Rattle.gs_laws_scripts.proofs.lemmas.explained.Passing.{LooksOn, nodes_do}
+use Rattle.gs_laws_scripts.proofs.lemmas.explained.Passing.{LooksOn, moment_behind, nodes_do}
 use Rattle.gs_laws_scripts.proofs.lemmas.explained.Refused.{look_told, read_is_shallow}
 use Rattle.gs_laws_scripts.proofs.lemmas.explained.Turns.{IsToldOf}
 use Rattle.gs_laws_scripts.proofs.lemmas.lists.Lines.{Carries_at, all_join, next_small}
@@ -179,8 +179,8 @@ module _ {D : Type 0} (seen : D → List ℕ) (failures : D → ℕ) where
       is : IsText answer text
       stands : Stands seen config new next
 
-    stands_on : (after : Sent) → Covers after (way_of new.wire) → IsNumber new.wire.moment.0 → IsClientOf config new.caller.client → Looks seen failures the_client (history st.sent (way_of old.wire)) (history after (way_of new.wire)) → (next : Machine) → ShowsNames st.durable next → Stands seen config new next
-    stands_on after covers small ours looks next shows = record {
+    stands_on : (after : Sent) → Covers after (way_of new.wire) → IsNumber new.wire.moment.0 → IsClientOf config new.caller.client → Looks seen failures the_client (history st.sent (way_of old.wire)) (history after (way_of new.wire)) → (next : Machine) → ShowsNames st.durable next → next.moment ≡ new.wire.moment.0 → Stands seen config new next
+    stands_on after covers small ours looks next shows now = record {
       sent = after;
       covers = covers;
       moment = small;
@@ -189,6 +189,7 @@ module _ {D : Type 0} (seen : D → List ℕ) (failures : D → ℕ) where
       number = st.number;
       rests = undisturbed_on seen failures st.durable st.number looks.steps (history st.sent (way_of old.wire)) (history after (way_of new.wire)) looks.runs looks.within looks.looking st.rests;
       shows = shows;
+      now = now;
     }
 
     -- a look-up leaves it
@@ -196,7 +197,7 @@ module _ {D : Type 0} (seen : D → List ℕ) (failures : D → ℕ) where
     look_stands call reply look may carried =
         let c = look_carried config st.sent (at old) (at new) call reply look may st.ours st.covers st.moment carried in
         stands_on c.after c.covers (subst (λ (moment : Moment). IsNumber moment.0) (sym c.moment) st.moment) (still_mine seen failures config (at old) (at new) (requests.Call call) reply st.ours carried)
-        (looks_both (history st.sent (way_of old.wire)) c.mid (history c.after (way_of new.wire)) (went_on call look (history st.sent (way_of old.wire)) c.mid reply c.went) c.taken) m st.shows
+        (looks_both (history st.sent (way_of old.wire)) c.mid (history c.after (way_of new.wire)) (went_on call look (history st.sent (way_of old.wire)) c.mid reply c.went) c.taken) m st.shows (st.now ∙ ap (λ (moment : Moment). moment.0) (sym c.moment))
 
     -- what it is told
     pub look_told_there : (call : Call) (reply : Reply) → is_look call ≡ true → is_answered_at_once call ≡ true → MayBeAsked (requests.Call call) → Carries_at seen failures (at old) (requests.Call call) reply (at new) → IsToldOf st.durable call (looked reply)
@@ -205,7 +206,7 @@ module _ {D : Type 0} (seen : D → List ℕ) (failures : D → ℕ) where
     -- nothing happens
     pub stands_still : at new ≡ at old → Stands seen config new m
     stands_still same = stands_on st.sent (subst (λ (s : Client × Wire D). Covers st.sent (way_of s.1)) (sym same) st.covers) (subst (λ (s : Client × Wire D). IsNumber s.1.moment.0) (sym same) st.moment)
-        (subst (λ (s : Client × Wire D). IsClientOf config s.0) (sym same) st.ours) (none_looked (history st.sent (way_of old.wire)) (history st.sent (way_of new.wire)) (ap (λ (s : Client × Wire D). history st.sent (way_of s.1)) same)) m st.shows
+        (subst (λ (s : Client × Wire D). IsClientOf config s.0) (sym same) st.ours) (none_looked (history st.sent (way_of old.wire)) (history st.sent (way_of new.wire)) (ap (λ (s : Client × Wire D). history st.sent (way_of s.1)) same)) m st.shows (st.now ∙ ap (λ (s : Client × Wire D). s.1.moment.0) (sym same))
 
     abbrev Tree : Result Path Refusal → Result Answer Refusal → Type 0
     Tree parsed answer = AsksTree size (plainly.on parsed calls.List) m answer m
@@ -370,36 +371,42 @@ module _ {D : Type 0} (seen : D → List ℕ) (failures : D → ℕ) where
     abbrev Did : Request → Result Answer Refusal → Type 0
     Did request answer = (new.caller.client ≡ old.caller.client) × NodesDo seen failures request (way_of old.wire) answer (way_of new.wire)
 
-    node_line : (request : Request) (answer : Result Answer Refusal) (text : List ℕ) (next : Machine) → is_still_line (Some request) ≡ true → IsSpoken request → IsText answer text → Leads size block request m answer next → ShowsNames st.durable next → Did request answer → Goes request text
-    node_line request answer text next is spoken text_is leads shows (same, did) =
-        let l : LooksOn seen failures the_client (way_of old.wire) (way_of new.wire) st.sent = nodes_do seen failures the_client request (way_of old.wire) answer (way_of new.wire) is spoken did st.sent st.covers st.moment in
+    -- the moment after such a line
+    abbrev behind : Request → Moment
+    behind request = moment_behind request old.wire.moment
+
+    node_line : (request : Request) (answer : Result Answer Refusal) (text : List ℕ) (next : Machine) → is_still_line (Some request) ≡ true → IsSpoken request → IsText answer text → Leads size block request m answer next → ShowsNames st.durable next → IsNumber (behind request).0 → next.moment ≡ (behind request).0 → Did request answer → Goes request text
+    node_line request answer text next is spoken text_is leads shows small now (same, did) =
+        let l : LooksOn seen failures the_client (behind request) (way_of old.wire) (way_of new.wire) st.sent = nodes_do seen failures the_client request (way_of old.wire) answer (way_of new.wire) is spoken did st.sent st.covers st.moment in
         record {
           next = next;
           answer = answer;
           leads = leads;
           is = text_is;
-          stands = stands_on l.after l.covers l.moment (subst (IsClientOf config) (sym same) st.ours) (record { steps = l.steps; runs = l.runs; within = l.within; looking = l.looking }) next shows;
+          stands = stands_on l.after l.covers (subst (λ (moment : Moment). IsNumber moment.0) (sym l.moment) small) (subst (IsClientOf config) (sym same) st.ours) (record { steps = l.steps; runs = l.runs; within = l.within; looking = l.looking }) next shows
+              (now ∙ ap (λ (moment : Moment). moment.0) (sym l.moment));
         }
 
     is_set : (moment : ℕ) (answer : Result Answer Refusal) → Did (lines.At moment) answer → answer ≡ Ok answers.Done
     is_set moment answer (same, (is, there)) = is
 
     shows_then : (moment : ℕ) → ShowsNames st.durable (record m { moment = moment })
-    shows_then moment = record { text = st.shows.text; tree = st.shows.tree; epoch = st.shows.epoch; phase = st.shows.phase }
+    shows_then moment = record { text = st.shows.text; tree = st.shows.tree; hidden = st.shows.hidden; epoch = st.shows.epoch; phase = st.shows.phase }
 
     -- ---- any such line
 
     request_goes : (request : Request) (answer : Result Answer Refusal) (text : List ℕ) → is_still_line (Some request) ≡ true → IsSpoken request → (is_stat (Some request) ≡ true → TellsDirectory text ⊎ TellsEmpty text) → Comes seen failures request old answer new → IsText answer text → Goes request text
     unfolding Comes
     request_goes (lines.Ls p) answer text is spoken stat comes text_is = list_line p answer text text_is (list_goes (Carries_at seen failures) (parse_hidden p) (at old) (at new) answer comes)
-    request_goes (lines.At moment) answer text is spoken stat comes text_is = node_line (lines.At moment) answer text (record m { moment = moment }) is spoken text_is (m, ([], refl), is_set moment answer comes, refl) (shows_then moment) comes
-    request_goes (lines.Hold kind) answer text is spoken stat comes text_is = node_line (lines.Hold kind) answer text m is spoken text_is ([], refl) st.shows comes
-    request_goes (lines.Beat server) answer text is spoken stat comes text_is = node_line (lines.Beat server) answer text m is spoken text_is ([], refl) st.shows comes
-    request_goes (lines.Restart (restarted.Server number)) answer text is spoken stat comes text_is = node_line (lines.Restart (restarted.Server number)) answer text m is spoken text_is ([], refl) st.shows comes
+    request_goes (lines.At moment) answer text is spoken stat comes text_is = node_line (lines.At moment) answer text (record m { moment = moment }) is spoken text_is (m, ([], refl), is_set moment answer comes, refl) (shows_then moment) spoken refl comes
+    request_goes (lines.Hold kind) answer text is spoken stat comes text_is = node_line (lines.Hold kind) answer text m is spoken text_is ([], refl) st.shows st.moment st.now comes
+    request_goes (lines.Beat server) answer text is spoken stat comes text_is = node_line (lines.Beat server) answer text m is spoken text_is ([], refl) st.shows st.moment st.now comes
+    request_goes lines.Tick answer text is spoken stat comes text_is = node_line lines.Tick answer text m is spoken text_is ([], refl) st.shows st.moment st.now comes
+    request_goes (lines.Restart (restarted.Server number)) answer text is spoken stat comes text_is = node_line (lines.Restart (restarted.Server number)) answer text m is spoken text_is ([], refl) st.shows st.moment st.now comes
     request_goes (lines.Restart restarted.Master) answer text is spoken stat comes text_is = absurd (false≢true is)
-    request_goes (lines.Lose server handle) answer text is spoken stat comes text_is = node_line (lines.Lose server handle) answer text m is spoken text_is ([], refl) st.shows comes
-    request_goes (lines.Damage server handle index) answer text is spoken stat comes text_is = node_line (lines.Damage server handle index) answer text m is spoken text_is ([], refl) st.shows comes
-    request_goes (lines.Deliver number) answer text is spoken stat comes text_is = node_line (lines.Deliver number) answer text m is spoken text_is ([], refl) st.shows comes
+    request_goes (lines.Lose server handle) answer text is spoken stat comes text_is = node_line (lines.Lose server handle) answer text m is spoken text_is ([], refl) st.shows st.moment st.now comes
+    request_goes (lines.Damage server handle index) answer text is spoken stat comes text_is = node_line (lines.Damage server handle index) answer text m is spoken text_is ([], refl) st.shows st.moment st.now comes
+    request_goes (lines.Deliver number) answer text is spoken stat comes text_is = node_line (lines.Deliver number) answer text m is spoken text_is ([], refl) st.shows st.moment st.now comes
     request_goes (lines.Mkdir p) answer text is spoken stat comes text_is = absurd (false≢true is)
     request_goes (lines.Create p) answer text is spoken stat comes text_is = absurd (false≢true is)
     request_goes (lines.Stat p) answer text is spoken stat comes text_is = stat_line old.caller.client.chunk p answer text (stat refl) text_is comes

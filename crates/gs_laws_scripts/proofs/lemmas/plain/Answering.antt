@@ -71,6 +71,7 @@ module _ (config : Config) (m : Machine) (w : PlainDesk) (st : Standing config m
   request_goes lines.Scan spoken is = absurd (false≢true is)
   request_goes lines.Replicate spoken is = absurd (false≢true is)
   request_goes (lines.Beat server) spoken is = absurd (false≢true is)
+  request_goes lines.Tick spoken is = absurd (false≢true is)
   request_goes (lines.Step step) spoken is = absurd (false≢true is)
   request_goes (lines.Restart node) spoken is = absurd (false≢true is)
   request_goes (lines.Lose server handle) spoken is = absurd (false≢true is)

@@ -8,6 +8,10 @@ pub returns-in-Beat : goal.returns-in-Beat
 unfolding Comes
 returns-in-Beat g c = subst (λ x. Comes g.D.Disk.seen g.D.Disk.failures (request_of x) c.args.self.now c.beat.result c.beat.new.self) (sym c.in-Beat.is) (c.beat.ensures.client, c.beat.ensures.does)
 
+pub returns-in-Tick : goal.returns-in-Tick
+unfolding Comes
+returns-in-Tick g c = subst (λ x. Comes g.D.Disk.seen g.D.Disk.failures (request_of x) c.args.self.now c.tick.result c.tick.new.self) (sym c.in-Tick.is) (c.tick.ensures.client, c.tick.ensures.does)
+
 pub returns-in-At : goal.returns-in-At
 unfolding Comes
 returns-in-At g c = subst (λ x. Comes g.D.Disk.seen g.D.Disk.failures (request_of x) c.args.self.now c.set_moment.result c.set_moment.new.self) (sym c.in-At.is) (c.set_moment.ensures.client, c.set_moment.ensures.does)
@@ -36,5 +40,5 @@ pub returns-in_default : goal.returns-in_default
 unfolding Comes
 returns-in_default g c =
     asks_something c.args.self.now.caller.client.chunk c.args.command _ _ _
-    c.in_default.not-Beat c.in_default.not-At c.in_default.not-Restart c.in_default.not-Lose c.in_default.not-Damage c.in_default.not-Hold c.in_default.not-Deliver
+    c.in_default.not-Beat c.in_default.not-Tick c.in_default.not-At c.in_default.not-Restart c.in_default.not-Lose c.in_default.not-Damage c.in_default.not-Hold c.in_default.not-Deliver
     c.ask.ensures

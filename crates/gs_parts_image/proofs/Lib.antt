@@ -1,0 +1,3 @@
+pub mod Heads
+pub mod Loops
+pub mod Stores

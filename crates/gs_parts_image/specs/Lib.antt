@@ -1,0 +1,5 @@
+pub mod Stores
+pub mod Encoding
+pub mod Writable
+pub mod Reading
+pub mod Work

@@ -1,0 +1,3 @@
+pub mod Clients
+pub mod Refusals
+pub mod Servers

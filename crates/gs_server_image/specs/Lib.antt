@@ -1,0 +1,4 @@
+pub mod Encoding
+pub mod Writable
+pub mod Reading
+pub mod Laws
