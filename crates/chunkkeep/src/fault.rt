@@ -38,6 +38,8 @@ pub(crate) enum Fault {
     OtherVersion,
     #[error("line 1 isn't that of a store that is kept; nothing is changed")]
     Other,
+    #[error("it begins from an image, which this program can't read yet; nothing is changed")]
+    Image,
     #[error("line {0} is none of a script; nothing is changed")]
     BadLine(u64),
     #[error("line {line} is a mark that says otherwise of {wrong}; nothing is changed")]

@@ -80,6 +80,7 @@ fn tell_head(rt: &impl Print, path: &str, head: &HeadLine) -> io::Result<()> {
     let number = match form {
         Form::One => 1,
         Form::Two => 2,
+        Form::Three(_) => 3,
     };
     let servers = config.servers;
     let racks = config.racks;

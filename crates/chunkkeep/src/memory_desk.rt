@@ -1,7 +1,7 @@
 // The desk of a store whose journal is in memory.
-ghost use Rattle.std.specs.Prelude.{◌&&◌, not, is_some};
+ghost use Rattle.std.specs.Prelude.{◌&&◌, None, not, is_some};
 ghost use Rattle.gs_journal.specs.Memory.{bytes_of, times_failed};
-ghost use Rattle.gs_keep_desk.specs.Keeps.{MayAnswer, marks_are_none, other_lines_are_refused, other_lines_change_nothing};
+ghost use Rattle.gs_keep_desk.specs.Keeps.{MayAnswer, marks_are_none, none_is_due, other_lines_are_refused, other_lines_change_nothing};
 ghost use Rattle.gs_keep_desk.specs.Looks.{harms_line};
 ghost use Rattle.gs_shell_grammar.specs.Grammar.{line_request};
 
@@ -60,6 +60,10 @@ impl Keeping for MemoryDesk {
 
     ghost is_turned_away = { λ desk line. not desk.desk.is_lab && harms_line line };
 
+    ghost own = { λ desk. None };
+
+    ghost own_lines_stand = { λ desk line due. none_is_due line due };
+
     ghost changes_nothing = { λ old new line text other may. ap (λ d. record { desk = d }) (other_lines_change_nothing bytes_of times_failed old.desk new.desk line text other may) };
 
     ghost is_refused = { λ old new line text. other_lines_are_refused bytes_of times_failed old.desk new.desk line text };
@@ -72,5 +76,9 @@ impl Keeping for MemoryDesk {
 
     fn turns_away(&self, alloc: Global, line: &[u8]) -> Result<bool, AllocError> {
         self.desk.turns_away(alloc, line)
+    }
+
+    fn own_line(&self) -> Option<&'static [u8]> {
+        self.desk.own_line()
     }
 }

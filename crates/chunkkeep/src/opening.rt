@@ -79,6 +79,9 @@ impl Making for Opener {
     fn make(&self, alloc: Global, line: &[u8]) -> Result<Made<MemoryDesk>, Fault> {
         let head = head_of(alloc, line)?;
         compare(&self.sizes, &head.config)?;
+        if let Form::Three(_) = head.form {
+            return Err(Fault::Image);
+        }
         Ok(Made {
             machine: MemoryDesk::new(alloc, head.config, self.is_lab)?,
             is_second: head.form == Form::Two,

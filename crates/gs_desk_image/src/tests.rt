@@ -103,7 +103,7 @@ fn what_stands_has_no_image(rt: HostRuntime) -> Result<(), Fail> {
     assert!(rt; put_parts(&desk, alloc).is_err());
     close(&mut desk);
     assert!(rt; put_parts(&desk, alloc).is_ok());
-    let _answers = answers(alloc, &mut desk, &[b"hold on Push"])?;
+    let _answers = answers(alloc, &mut desk, &[b"hold on edit"])?;
     assert!(rt; put_parts(&desk, alloc).is_err());
     Ok(())
 }

@@ -7,7 +7,7 @@ use Rattle.gs_keep_mark.specs.declared.Ledger.{Ledger}
 use Rattle.gs_keep.specs.Keeping.{Begins, KeepsOn, LeavesAll, ReadsLog, StoreFails, StopsOn}
 use Rattle.gs_keep.specs.Lines.{entries, joined, kept_behind}
 use Rattle.gs_keep.specs.Replaying.{Replays, RunsAgain}
-use Rattle.gs_keep.specs.Serving.{Closes, Fails, RestsAt, SealFails, Serves, at_rest}
+use Rattle.gs_keep.specs.Serving.{Closes, Fails, RestsAt, SealFails, ServesAll, at_rest}
 use Rattle.gs_keep.specs.declared.again.Replayed.{Replayed}
 use Rattle.gs_keep.specs.declared.fault.KeepFault.{KeepFault}
 use Rattle.gs_keep.specs.declared.fault.KeepFault.TheVariants as keep
@@ -79,10 +79,11 @@ module _ {S : Type 0} (A : S → List ℕ → List ℕ → S → Type 0) (is_kep
       if_some log _ _ (λ h rests. seal_leaves f ledger log' log'' (with_batch (totals_behind (beginning head) p.batches) p.last) (head ++ script) fails (p.is (beginning head) told).1 rests)
       (cut_rests head script len log log' reads cut)
 
-module _ {S : Type 0} (A : S → List ℕ → List ℕ → S → Type 0) (is_kept : List ℕ → Bool) (turns_away : S → List ℕ → Bool) where
+module _ {S : Type 0} (A : S → List ℕ → List ℕ → S → Type 0) (is_kept : List ℕ → Bool) (turns_away : S → List ℕ → Bool) (due : S → Option (List ℕ)) where
   pub keeps_on : (head script input : List ℕ) (len : ℕ) (log between log' : Option Held) (out out' : Option (List ℕ)) (ledger ledger' : Ledger) (start mid end : S)
-      → Begins A is_kept start head script len log between ledger mid → Serves A is_kept turns_away mid input [] between log' out out' ledger ledger' end → KeepsOn A is_kept turns_away start head script input len log log' out out' end
-  keeps_on head script input len log between log' out out' ledger ledger' start mid end b s =
+      → Begins A is_kept start head script len log between ledger mid → ServesAll A is_kept turns_away due mid input between log' out out' ledger ledger' end → KeepsOn A is_kept turns_away due start head script input len log log' out out' end
+  keeps_on head script input len log between log' out out' ledger ledger' start mid end b served =
+      let s = served.serves in
       let all = joined b.batches ++ b.last in
       let (told, rests) = s.kept (kept_behind (totals_behind (beginning head) b.batches) b.last) b.told in
       record {
@@ -92,15 +93,16 @@ module _ {S : Type 0} (A : S → List ℕ → List ℕ → S → Type 0) (is_kep
         mid = mid;
         begins = b;
         serves = s;
-        together = again_then A is_kept turns_away start mid end all s.turns b.again s.answers;
+        done = served.done;
+        together = again_then A is_kept turns_away due start mid end all s.turns b.again s.answers;
         stands = again_join A is_kept start mid end all (joined s.batches) b.again
-            (subst (λ (l : List Entry). RunsAgain A is_kept mid l end) s.logged (answers_again A is_kept turns_away mid end s.turns s.answers));
+            (subst (λ (l : List Entry). RunsAgain A is_kept mid l end) s.logged (answers_again A is_kept turns_away due mid end s.turns s.answers));
         holds = if_some log _ _ (λ h r. rests r) b.rests;
       }
 
   -- whatever fails, each crash leaves what was answered
   fails_leave : (f : KeepFault) (mid : S) (input : List ℕ) (left : Option (List ℕ)) (log log' : Option Held) (out out' : Option (List ℕ)) (ledger : Ledger) (end : S) (t : Totals)
-      → (fails : Fails A is_kept turns_away f mid input left log log' out out' ledger end) → IsLedger ledger t → RestsAt log t.text → LeavesAll (totals_behind t fails.done.batches).text log'
+      → (fails : Fails A is_kept turns_away due f mid input left log log' out out' ledger end) → IsLedger ledger t → RestsAt log t.text → LeavesAll (totals_behind t fails.done.batches).text log'
   fails_leave keep.Memory mid input left log log' out out' ledger end t fails told rests =
       rest_leaves log' (totals_behind t fails.done.batches).text (fails.last.0 ∙ (fails.done.kept t told).1 rests)
   fails_leave keep.Read mid input left log log' out out' ledger end t fails told rests =
@@ -122,7 +124,7 @@ module _ {S : Type 0} (A : S → List ℕ → List ℕ → S → Type 0) (is_kep
       most_leaves log' u.text (text_of (entries w.turns) ++ mark_of (with_batch u (entries w.turns))) (breaks u told' (rested rests))
 
   pub stops_on : (f : KeepFault) (head script input : List ℕ) (left : Option (List ℕ)) (len : ℕ) (log between log' : Option Held) (out out' : Option (List ℕ)) (ledger : Ledger) (start mid end : S)
-      → Begins A is_kept start head script len log between ledger mid → Fails A is_kept turns_away f mid input left between log' out out' ledger end → StopsOn A is_kept turns_away f start head script input left len log log' out out' end
+      → Begins A is_kept start head script len log between ledger mid → Fails A is_kept turns_away due f mid input left between log' out out' ledger end → StopsOn A is_kept turns_away due f start head script input left len log log' out out' end
   stops_on f head script input left len log between log' out out' ledger start mid end b fails = record {
     between = between;
     told = ledger;
@@ -134,7 +136,7 @@ module _ {S : Type 0} (A : S → List ℕ → List ℕ → S → Type 0) (is_kep
 
   pub begin_fails : (f : KeepFault) (o p : Option (List ℕ)) (head : List ℕ) (len : ℕ) (done : Replayed) (log log' log'' : Option Held) (out : Option (List ℕ)) (first ledger : Ledger) (start mid end : S)
       → IfSome o (λ script. ReadsLog head len log (Some script)) → IsLedger first (beginning head) → IfSome o (λ script. Replays A is_kept start script done first ledger mid) → LogDoes (shortened len) log log'
-      → SealFails f ledger log' log'' [] → IfSome o (λ script. IfSome p (λ input. StoreFails A is_kept turns_away (fault.Begin f) start head script input p len log log'' out out end))
+      → SealFails f ledger log' log'' [] → IfSome o (λ script. IfSome p (λ input. StoreFails A is_kept turns_away due (fault.Begin f) start head script input p len log log'' out out end))
   begin_fails f None p head len done log log' log'' out first ledger start mid end reads told replayed cut fails = tt
   begin_fails f (Some script) None head len done log log' log'' out first ledger start mid end reads told replayed cut fails = tt
   begin_fails f (Some script) (Some input) head len done log log' log'' out first ledger start mid end reads told replayed cut fails =

@@ -7,3 +7,4 @@ pub mod Rounds
 pub mod Replaying
 pub mod Going
 pub mod Standings
+mod Own

@@ -1,5 +1,5 @@
 -- Rounds: lines are run, logged and answered.
-use Rattle.std.proofs.Common.{◌≡◌, ◌≤◌, ◌+◌, ◌++◌, ⊎_elim, [], ℕ, List, Bool, true, false, length, Option, Some, None, IfSome, Result, IfOk, IfErr, refl, sym, ap, subst, ◌∙◌, arith, append_assoc, length-append, inl, inr}
+use Rattle.std.proofs.Common.{◌≡◌, ◌≤◌, ◌+◌, ◌++◌, ◌∷◌, ⊎_elim, [], ℕ, List, Bool, true, false, length, Option, Some, None, IfSome, Result, IfOk, IfErr, refl, sym, ap, subst, ◌∙◌, arith, append_assoc, length-append, inl, inr}
 use Rattle.std.specs.Io.KnownBytes.{Appends}
 use Rattle.std.proofs.KnownBytes.{Appends-nil, Appends-trans}
 use Rattle.gs_keep_log.specs.Log.{Held}
@@ -9,25 +9,25 @@ use Rattle.gs_keep_mark.specs.Marks.{Entry, Totals, totals_behind}
 use Rattle.gs_keep_mark.specs.Started.{IsBatch}
 use Rattle.gs_keep_mark.specs.declared.Ledger.{Ledger}
 use Rattle.gs_keep.specs.Lines.{Turn, entries, joined, lines_asked}
-use Rattle.gs_keep.specs.Running.{Gathers, RunsSome}
-use Rattle.gs_keep.specs.Serving.{EndsWith, Ends, Fails, Keeps, RestsAt, Rounds, SealFails, Serves}
+use Rattle.gs_keep.specs.Running.{Gathers, IsDone, RunsSome}
+use Rattle.gs_keep.specs.Serving.{EndsWith, Ends, Fails, Keeps, RestsAt, Rounds, SealFails, Serves, ServesAll}
 use Rattle.gs_keep.specs.declared.batch.Gathered.{Gathered}
 use Rattle.gs_keep.specs.declared.batch.Gathered.TheVariants as gathered
 use Rattle.gs_keep.specs.declared.fault.KeepFault.{KeepFault}
 use Rattle.gs_keep.specs.declared.fault.KeepFault.TheVariants as fault
-use Rattle.gs_keep.proofs.Batches.{all_join, answers_join, entries_join, joined_join, lines_join, totals_join, unlines_join}
+use Rattle.gs_keep.proofs.Batches.{all_join, answers_join, entries_join, joined_join, lines_join, own_behind, totals_join, unlines_join}
 use Rattle.gs_keep.proofs.Logs.{alone, alone_behind, alone_joined, alone_plain, breaks_batch, keeps_batch, keeps_full}
 
-module _ {S : Type 0} (A : S → List ℕ → List ℕ → S → Type 0) (is_kept : List ℕ → Bool) (turns_away : S → List ℕ → Bool) where
+module _ {S : Type 0} (A : S → List ℕ → List ℕ → S → Type 0) (is_kept : List ℕ → Bool) (turns_away : S → List ℕ → Bool) (due : S → Option (List ℕ)) where
   -- nothing is served
-  unfoldable pub serves_none : (xs : List ℕ) (log : Option Held) (out : Option (List ℕ)) (ledger : Ledger) (s : S) → Serves A is_kept turns_away s xs xs log log out out ledger ledger s
+  unfoldable pub serves_none : (xs : List ℕ) (log : Option Held) (out : Option (List ℕ)) (ledger : Ledger) (s : S) → Serves A is_kept turns_away due s xs xs log log out out ledger ledger s
   serves_none xs log out ledger s =
       record { turns = []; batches = []; parts = refl; answers = refl; written = Appends-nil out; logged = refl; plain = tt; kept = λ t told. (told, λ rests. rests) }
 
   -- ---- one round
 
   unfoldable pub round_serves : (most : ℕ) (xs rest : List ℕ) (log log' : Option Held) (out out' : Option (List ℕ)) (start now : S) (bytes answers : List ℕ) (ledger told told' : Ledger)
-      → RunsSome A is_kept turns_away most xs rest start now bytes answers ledger told → Keeps told told' log log' bytes → Appends out out' answers → Serves A is_kept turns_away start xs rest log log' out out' ledger told' now
+      → RunsSome A is_kept turns_away due most xs rest start now bytes answers ledger told → Keeps told told' log log' bytes → Appends out out' answers → Serves A is_kept turns_away due start xs rest log log' out out' ledger told' now
   round_serves most xs rest log log' out out' start now bytes answers ledger told told' g kept sent = record {
     turns = g.turns;
     batches = alone (entries g.turns);
@@ -41,14 +41,14 @@ module _ {S : Type 0} (A : S → List ℕ → List ℕ → S → Type 0) (is_kep
   }
 
   -- nothing of a round is logged or answered
-  pub nothing_kept : (o left : Option (List ℕ)) (log log' : Option Held) (out : Option (List ℕ)) (ledger : Ledger) (s end : S) → log' ≡ log → IfSome o (λ xs. Fails A is_kept turns_away fault.Memory s xs left log log' out out ledger end)
+  pub nothing_kept : (o left : Option (List ℕ)) (log log' : Option Held) (out : Option (List ℕ)) (ledger : Ledger) (s end : S) → log' ≡ log → IfSome o (λ xs. Fails A is_kept turns_away due fault.Memory s xs left log log' out out ledger end)
   nothing_kept None left log log' out ledger s end same = tt
   nothing_kept (Some xs) left log log' out ledger s end same =
       record { now = s; rest = xs; between = log; written = out; told = ledger; done = serves_none xs log out ledger s; last = (same, refl) }
 
   -- a batch isn't kept
   pub round_unkept : (f : KeepFault) (most : ℕ) (xs rest : List ℕ) (left : Option (List ℕ)) (log log' : Option Held) (out : Option (List ℕ)) (start now : S) (bytes answers : List ℕ) (ledger told : Ledger)
-      → RunsSome A is_kept turns_away most xs rest start now bytes answers ledger told → SealFails f told log log' bytes → Fails A is_kept turns_away f start xs left log log' out out ledger now
+      → RunsSome A is_kept turns_away due most xs rest start now bytes answers ledger told → SealFails f told log log' bytes → Fails A is_kept turns_away due f start xs left log log' out out ledger now
   round_unkept fault.Memory most xs rest left log log' out start now bytes answers ledger told g fails =
       record { now = start; rest = xs; between = log; written = out; told = ledger; done = serves_none xs log out ledger start; last = (fails, refl) }
   round_unkept fault.Log most xs rest left log log' out start now bytes answers ledger told g fails = record {
@@ -71,7 +71,7 @@ module _ {S : Type 0} (A : S → List ℕ → List ℕ → S → Type 0) (is_kep
 
   -- answers aren't written
   pub round_unsent : (most : ℕ) (xs rest : List ℕ) (left : Option (List ℕ)) (log log' : Option Held) (out out' : Option (List ℕ)) (start now : S) (bytes answers : List ℕ) (ledger told told' : Ledger)
-      → RunsSome A is_kept turns_away most xs rest start now bytes answers ledger told → Keeps told told' log log' bytes → AppendsBeginning out out' answers → Fails A is_kept turns_away fault.Write start xs left log log' out out' ledger now
+      → RunsSome A is_kept turns_away due most xs rest start now bytes answers ledger told → Keeps told told' log log' bytes → AppendsBeginning out out' answers → Fails A is_kept turns_away due fault.Write start xs left log log' out out' ledger now
   round_unsent most xs rest left log log' out out' start now bytes answers ledger told told' g kept sent = record {
     now = start;
     rest = xs;
@@ -87,57 +87,69 @@ module _ {S : Type 0} (A : S → List ℕ → List ℕ → S → Type 0) (is_kep
   }
 
   module _ (xs : List ℕ) (left : Option (List ℕ)) (log log' : Option Held) (out out' : Option (List ℕ)) (start now : S) (bytes answers : List ℕ) (ledger told told' : Ledger) (kept : Keeps told told' log log' bytes) (sent : Appends out out' answers) where
-    pub round_ok : (r : Gathered) (result : Result Bool KeepFault) → Ends r result → Gathers A is_kept turns_away r xs left start now bytes answers ledger told
-        → IfOk result (λ more. Rounds A is_kept turns_away start more xs left log log' out out' ledger told' now)
+    done_kept : (turns : List Turn) → IsDone A is_kept turns_away due turns now told → IsDone A is_kept turns_away due turns now told'
+    done_kept turns done = ⊎_elim (λ none. inl none) (λ other. inr (⊎_elim (λ many. inl many) (λ full. inr (keeps_full told told' log log' bytes kept ∙ full)) other)) done
+
+    serves_end : (rest : List ℕ) (s : Serves A is_kept turns_away due start xs rest log log' out out' ledger told' now) → IsDone A is_kept turns_away due s.turns now told' → rest ≡ []
+        → ServesAll A is_kept turns_away due start xs log log' out out' ledger told' now
+    serves_end [] s done none = record { serves = s; done = done }
+    serves_end (x ∷ rest) s done none = absurd (omega (arith, ap length none))
+
+    pub round_ok : (r : Gathered) (result : Result Bool KeepFault) → Ends r result → Gathers A is_kept turns_away due r xs left start now bytes answers ledger told
+        → IfOk result (λ more. Rounds A is_kept turns_away due start more xs left log log' out out' ledger told' now)
     unfolding round_serves
-    round_ok gathered.Some result is g = subst (λ (r : Result Bool KeepFault). IfOk r (λ more. Rounds A is_kept turns_away start more xs left log log' out out' ledger told' now)) (sym is)
-        (g.rest, g.left_by, round_serves 1 xs g.rest log log' out out' start now bytes answers ledger told told' g.runs kept sent, g.runs.many)
-    round_ok gathered.All result is g = subst (λ (r : Result Bool KeepFault). IfOk r (λ more. Rounds A is_kept turns_away start more xs left log log' out out' ledger told' now)) (sym is)
-        (subst (λ (rest : List ℕ). Serves A is_kept turns_away start xs rest log log' out out' ledger told' now) g.left_by.0
-        (round_serves 0 xs g.rest log log' out out' start now bytes answers ledger told told' g.runs kept sent))
-    round_ok gathered.Unended result is g = subst (λ (r : Result Bool KeepFault). IfOk r (λ more. Rounds A is_kept turns_away start more xs left log log' out out' ledger told' now)) (sym is) tt
-    round_ok gathered.Failed result is g = subst (λ (r : Result Bool KeepFault). IfOk r (λ more. Rounds A is_kept turns_away start more xs left log log' out out' ledger told' now)) (sym is) tt
-    round_ok gathered.Full result is g = subst (λ (r : Result Bool KeepFault). IfOk r (λ more. Rounds A is_kept turns_away start more xs left log log' out out' ledger told' now)) (sym is) tt
+    round_ok gathered.Some result is g = subst (λ (r : Result Bool KeepFault). IfOk r (λ more. Rounds A is_kept turns_away due start more xs left log log' out out' ledger told' now)) (sym is) (
+      g.takes.rest,
+      g.takes.left_by,
+      round_serves 1 xs g.takes.rest log log' out out' start now bytes answers ledger told told' g.takes.runs kept sent,
+      g.takes.runs.many,
+      done_kept g.takes.runs.turns g.done,
+    )
+    round_ok gathered.All result is g = subst (λ (r : Result Bool KeepFault). IfOk r (λ more. Rounds A is_kept turns_away due start more xs left log log' out out' ledger told' now)) (sym is)
+        (serves_end g.takes.rest (round_serves 0 xs g.takes.rest log log' out out' start now bytes answers ledger told told' g.takes.runs kept sent) (done_kept g.takes.runs.turns g.done) g.takes.left_by.0)
+    round_ok gathered.Unended result is g = subst (λ (r : Result Bool KeepFault). IfOk r (λ more. Rounds A is_kept turns_away due start more xs left log log' out out' ledger told' now)) (sym is) tt
+    round_ok gathered.Failed result is g = subst (λ (r : Result Bool KeepFault). IfOk r (λ more. Rounds A is_kept turns_away due start more xs left log log' out out' ledger told' now)) (sym is) tt
+    round_ok gathered.Full result is g = subst (λ (r : Result Bool KeepFault). IfOk r (λ more. Rounds A is_kept turns_away due start more xs left log log' out out' ledger told' now)) (sym is) tt
 
     abbrev Failing : Result Bool KeepFault → Type 0
-    Failing result = IfErr result (λ e. Fails A is_kept turns_away e start xs left log log' out out' ledger now)
+    Failing result = IfErr result (λ e. Fails A is_kept turns_away due e start xs left log log' out out' ledger now)
 
-    pub round_err : (r : Gathered) (result : Result Bool KeepFault) → Ends r result → Gathers A is_kept turns_away r xs left start now bytes answers ledger told → IfErr result (λ e. Fails A is_kept turns_away e start xs left log log' out out' ledger now)
+    pub round_err : (r : Gathered) (result : Result Bool KeepFault) → Ends r result → Gathers A is_kept turns_away due r xs left start now bytes answers ledger told → IfErr result (λ e. Fails A is_kept turns_away due e start xs left log log' out out' ledger now)
     round_err gathered.Some result is g = subst Failing (sym is) tt
     round_err gathered.All result is g = subst Failing (sym is) tt
     round_err gathered.Unended result is g = subst Failing (sym is) (record {
       now = now;
-      rest = g.rest;
+      rest = g.takes.rest;
       between = log';
       written = out';
       told = told';
-      done = round_serves 0 xs g.rest log log' out out' start now bytes answers ledger told told' g.runs kept sent;
-      last = (g.left_by.0, g.left_by.1, refl, refl, refl);
+      done = round_serves 0 xs g.takes.rest log log' out out' start now bytes answers ledger told told' g.takes.runs kept sent;
+      last = (g.takes.left_by.0, g.takes.left_by.1, refl, refl, refl);
     })
     round_err gathered.Failed result is g = subst Failing (sym is) (record {
       now = now;
-      rest = g.rest;
+      rest = g.takes.rest;
       between = log';
       written = out';
       told = told';
-      done = round_serves 0 xs g.rest log log' out out' start now bytes answers ledger told told' g.runs kept sent;
-      last = (g.left_by, refl, refl, refl);
+      done = round_serves 0 xs g.takes.rest log log' out out' start now bytes answers ledger told told' g.takes.runs kept sent;
+      last = (g.takes.left_by, refl, refl, refl);
     })
     round_err gathered.Full result is g = subst Failing (sym is) (record {
       now = now;
-      rest = g.rest;
+      rest = g.takes.rest;
       between = log';
       written = out';
       told = told';
-      done = round_serves 0 xs g.rest log log' out out' start now bytes answers ledger told told' g.runs kept sent;
-      last = (g.left_by, inr (keeps_full told told' log log' bytes kept ∙ g.full), refl, refl, refl);
+      done = round_serves 0 xs g.takes.rest log log' out out' start now bytes answers ledger told told' g.takes.runs kept sent;
+      last = (g.takes.left_by, inr (keeps_full told told' log log' bytes kept ∙ g.takes.full), refl, refl, refl);
     })
 
   -- ---- many rounds
 
   abbrev pub SoFar : ℕ → S → List ℕ → Option (List ℕ) → Option Held → Option Held → Option (List ℕ) → Option (List ℕ) → Ledger → Ledger → S → Type 0
   SoFar count start xs left log log' out out' ledger ledger' now =
-      (rest : List ℕ) × (left ≡ Some rest) × (s : Serves A is_kept turns_away start xs rest log log' out out' ledger ledger' now) × (count ≤ length s.turns)
+      (rest : List ℕ) × (left ≡ Some rest) × (s : Serves A is_kept turns_away due start xs rest log log' out out' ledger ledger' now) × (count ≤ length (lines_asked s.turns))
 
   pub so_far_none : (o : Option (List ℕ)) (log : Option Held) (out : Option (List ℕ)) (ledger : Ledger) (s : S) → IfSome o (λ xs. SoFar 0 s xs o log log out out ledger ledger s)
   unfolding serves_none
@@ -145,14 +157,14 @@ module _ {S : Type 0} (A : S → List ℕ → List ℕ → S → Type 0) (is_kep
   so_far_none (Some xs) log out ledger s = (xs, refl, serves_none xs log out ledger s, omega arith)
 
   unfoldable pub serves_join : (xs mid rest : List ℕ) (log log' log'' : Option Held) (out out' out'' : Option (List ℕ)) (ledger ledger' ledger'' : Ledger) (start now end : S)
-      → Serves A is_kept turns_away start xs mid log log' out out' ledger ledger' now → Serves A is_kept turns_away now mid rest log' log'' out' out'' ledger' ledger'' end
-      → Serves A is_kept turns_away start xs rest log log'' out out'' ledger ledger'' end
+      → Serves A is_kept turns_away due start xs mid log log' out out' ledger ledger' now → Serves A is_kept turns_away due now mid rest log' log'' out' out'' ledger' ledger'' end
+      → Serves A is_kept turns_away due start xs rest log log'' out out'' ledger ledger'' end
   serves_join xs mid rest log log' log'' out out' out'' ledger ledger' ledger'' start now end one two = record {
     turns = one.turns ++ two.turns;
     batches = one.batches ++ two.batches;
     parts = one.parts ∙ ap (λ (l : List (List ℕ)). lines_asked one.turns ++ l) two.parts ∙ sym (append_assoc (lines_asked one.turns) (lines_asked two.turns) (lines_of rest))
         ∙ ap (λ (l : List (List ℕ)). l ++ lines_of rest) (sym (lines_join one.turns two.turns));
-    answers = answers_join A is_kept turns_away start now end one.turns two.turns one.answers two.answers;
+    answers = answers_join A is_kept turns_away due start now end one.turns two.turns one.answers two.answers;
     written = subst (Appends out out'') (sym (unlines_join one.turns two.turns)) (Appends-trans out out' out'' _ _ one.written two.written);
     logged = entries_join one.turns two.turns ∙ ap (λ (l : List Entry). l ++ entries two.turns) one.logged ∙ ap (λ (l : List Entry). joined one.batches ++ l) two.logged ∙ sym (joined_join one.batches two.batches);
     plain = all_join IsBatch one.batches two.batches one.plain two.plain;
@@ -164,39 +176,49 @@ module _ {S : Type 0} (A : S → List ℕ → List ℕ → S → Type 0) (is_kep
   }
 
   pub so_far_more : (count : ℕ) (xs : List ℕ) (left left' : Option (List ℕ)) (log log' log'' : Option Held) (out out' out'' : Option (List ℕ)) (ledger ledger' ledger'' : Ledger) (start now end : S)
-      → SoFar count start xs left log log' out out' ledger ledger' now → IfSome left (λ ys. Rounds A is_kept turns_away now true ys left' log' log'' out' out'' ledger' ledger'' end)
+      → SoFar count start xs left log log' out out' ledger ledger' now → IfSome left (λ ys. Rounds A is_kept turns_away due now true ys left' log' log'' out' out'' ledger' ledger'' end)
       → SoFar (count + 1) start xs left' log log'' out out'' ledger ledger'' end
   unfolding serves_join
   so_far_more count xs left left' log log' log'' out out' out'' ledger ledger' ledger'' start now end (mid, is, one, many) more =
-      let (rest, left_is, two, some) = subst (λ (o : Option (List ℕ)). IfSome o (λ ys. Rounds A is_kept turns_away now true ys left' log' log'' out' out'' ledger' ledger'' end)) is more in (
+      let (rest, left_is, two, some, done) = subst (λ (o : Option (List ℕ)). IfSome o (λ ys. Rounds A is_kept turns_away due now true ys left' log' log'' out' out'' ledger' ledger'' end)) is more in (
         rest,
         left_is,
         serves_join xs mid rest log log' log'' out out' out'' ledger ledger' ledger'' start now end one two,
-        omega (arith, many, some, length-append one.turns two.turns),
+        omega (arith, many, some, ap length (lines_join one.turns two.turns), length-append (lines_asked one.turns) (lines_asked two.turns)),
       )
 
   pub so_far_end : (count : ℕ) (xs : List ℕ) (left left' : Option (List ℕ)) (log log' log'' : Option Held) (out out' out'' : Option (List ℕ)) (ledger ledger' ledger'' : Ledger) (start now end : S)
-      → SoFar count start xs left log log' out out' ledger ledger' now → IfSome left (λ ys. Rounds A is_kept turns_away now false ys left' log' log'' out' out'' ledger' ledger'' end)
-      → Serves A is_kept turns_away start xs [] log log'' out out'' ledger ledger'' end
+      → SoFar count start xs left log log' out out' ledger ledger' now → IfSome left (λ ys. Rounds A is_kept turns_away due now false ys left' log' log'' out' out'' ledger' ledger'' end)
+      → ServesAll A is_kept turns_away due start xs log log'' out out'' ledger ledger'' end
+  unfolding serves_join
   so_far_end count xs left left' log log' log'' out out' out'' ledger ledger' ledger'' start now end (mid, is, one, many) more =
-      serves_join xs mid [] log log' log'' out out' out'' ledger ledger' ledger'' start now end one
-      (subst (λ (o : Option (List ℕ)). IfSome o (λ ys. Rounds A is_kept turns_away now false ys left' log' log'' out' out'' ledger' ledger'' end)) is more)
+      let two = subst (λ (o : Option (List ℕ)). IfSome o (λ ys. Rounds A is_kept turns_away due now false ys left' log' log'' out' out'' ledger' ledger'' end)) is more in
+      record {
+        serves = serves_join xs mid [] log log' log'' out out' out'' ledger ledger' ledger'' start now end one two.serves;
+        done = ⊎_elim (λ none. inl none)
+            (λ other. inr (⊎_elim (λ enough. inl (omega (arith, enough, own_behind 0 one.turns two.serves.turns))) (λ full. inr full) other)) two.done;
+      }
 
   last_more : (f : KeepFault) (now end : S) (rest : List ℕ) (left : Option (List ℕ)) (log log' : Option Held) (out out' : Option (List ℕ)) (ledger : Ledger) (before turns : List Turn)
-      → EndsWith A is_kept turns_away f now end rest left log log' out out' ledger turns → EndsWith A is_kept turns_away f now end rest left log log' out out' ledger (before ++ turns)
+      → EndsWith A is_kept turns_away due f now end rest left log log' out out' ledger turns → EndsWith A is_kept turns_away due f now end rest left log log' out out' ledger (before ++ turns)
   last_more fault.Memory now end rest left log log' out out' ledger before turns last = last
   last_more fault.Read now end rest left log log' out out' ledger before turns last = last
   last_more fault.Unended now end rest left log log' out out' ledger before turns last = last
   last_more fault.Write now end rest left log log' out out' ledger before turns last = last
   last_more fault.Log now end rest left log log' out out' ledger before turns last = last
-  last_more fault.TooMany now end rest left log log' out out' ledger before turns (left_is, many, same, written, unrun) =
-      (left_is, ⊎_elim (λ most. inl (omega (arith, most, length-append before turns))) (λ full. inr full) many, same, written, unrun)
+  last_more fault.TooMany now end rest left log log' out out' ledger before turns (left_is, many, same, written, unrun) = (
+    left_is,
+    ⊎_elim (λ most. inl (omega (arith, most, ap length (lines_join before turns), length-append (lines_asked before) (lines_asked turns)))) (λ full. inr full) many,
+    same,
+    written,
+    unrun,
+  )
 
   pub so_far_fails : (f : KeepFault) (count : ℕ) (xs : List ℕ) (left left' : Option (List ℕ)) (log log' log'' : Option Held) (out out' out'' : Option (List ℕ)) (ledger ledger' : Ledger) (start now end : S)
-      → SoFar count start xs left log log' out out' ledger ledger' now → IfSome left (λ ys. Fails A is_kept turns_away f now ys left' log' log'' out' out'' ledger' end) → Fails A is_kept turns_away f start xs left' log log'' out out'' ledger end
+      → SoFar count start xs left log log' out out' ledger ledger' now → IfSome left (λ ys. Fails A is_kept turns_away due f now ys left' log' log'' out' out'' ledger' end) → Fails A is_kept turns_away due f start xs left' log log'' out out'' ledger end
   unfolding serves_join
   so_far_fails f count xs left left' log log' log'' out out' out'' ledger ledger' start now end (mid, is, one, many) fails =
-      let two = subst (λ (o : Option (List ℕ)). IfSome o (λ ys. Fails A is_kept turns_away f now ys left' log' log'' out' out'' ledger' end)) is fails in
+      let two = subst (λ (o : Option (List ℕ)). IfSome o (λ ys. Fails A is_kept turns_away due f now ys left' log' log'' out' out'' ledger' end)) is fails in
       record {
         now = two.now;
         rest = two.rest;
@@ -209,6 +231,6 @@ module _ {S : Type 0} (A : S → List ℕ → List ℕ → S → Type 0) (is_kep
 
   -- too many rounds
   pub so_far_stops : (count : ℕ) (xs : List ℕ) (left : Option (List ℕ)) (log log' : Option Held) (out out' : Option (List ℕ)) (ledger ledger' : Ledger) (start now : S)
-      → 18446744073709551615 ≤ count → SoFar count start xs left log log' out out' ledger ledger' now → Fails A is_kept turns_away fault.TooMany start xs left log log' out out' ledger now
+      → 18446744073709551615 ≤ count → SoFar count start xs left log log' out out' ledger ledger' now → Fails A is_kept turns_away due fault.TooMany start xs left log log' out out' ledger now
   so_far_stops count xs left log log' out out' ledger ledger' start now most (rest, is, one, many) =
       record { now = now; rest = rest; between = log'; written = out'; told = ledger'; done = one; last = (is, inl (omega (arith, most, many)), refl, refl, refl) }

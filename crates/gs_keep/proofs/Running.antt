@@ -13,9 +13,9 @@ use Rattle.gs_keep_mark.specs.Marks.{Totals, noted, starts_mark, text_of, with_b
 use Rattle.gs_keep_mark.specs.Started.{IsBatch, IsPlain}
 use Rattle.gs_keep_mark.specs.declared.Ledger.{Ledger}
 use Rattle.gs_keep.specs.Lines.{MayStand, Turn, entries, is_away, lines_asked, texts_of, turned_away_text}
-use Rattle.gs_keep.specs.Running.{Gathers, LoggedAs, RunsOne, RunsSome, RunsUnless}
+use Rattle.gs_keep.specs.Running.{LoggedAs, RunsOne, RunsSome, RunsUnless, Takes}
 use Rattle.gs_keep.specs.declared.batch.Gathered.TheVariants as gathered
-use Rattle.gs_keep.proofs.Batches.{all_join, answers_join, entries_join, lines_join, text_join, unlines_join, with_join}
+use Rattle.gs_keep.proofs.Batches.{all_join, answers_join, entries_join, line_read, lines_join, text_join, text_read, unlines_join, with_join}
 use Rattle.gs_keep.proofs.Lines.{bad_line_is, logged_unmarked, long_test, long_unlogged, memory_is, next_plain, other_unlogged, short_logged, short_test}
 
 module _ {S : Type 0} (A : S → List ℕ → List ℕ → S → Type 0) (is_kept : List ℕ → Bool) where
@@ -33,27 +33,29 @@ module _ {S : Type 0} (A : S → List ℕ → List ℕ → S → Type 0) (is_kep
   not_lacking bytes (Ok text) shown lacks enough other lacking same is = other enough (sym same ∙ is)
   not_lacking bytes (Err e) shown lacks enough other lacking same is = absurd (true≢false (sym lacking ∙ enough))
 
-  answers_short : (line text : List ℕ) (old new : S) → length (content line) ≤ longest_line → A old (content line) text new → AnswersLine A old line text new
+  pub answers_short : (line text : List ℕ) (old new : S) → length (content line) ≤ longest_line → A old (content line) text new → AnswersLine A old line text new
   answers_short line text old new short answers =
       inr (subst (λ b. AnswersIfShort A b old (content line) text new) (sym (short_test (length (content line)) longest_line short)) answers)
 
-module _ {S : Type 0} (A : S → List ℕ → List ℕ → S → Type 0) (is_kept : List ℕ → Bool) (turns_away : S → List ℕ → Bool) where
+module _ {S : Type 0} (A : S → List ℕ → List ℕ → S → Type 0) (is_kept : List ℕ → Bool) (turns_away : S → List ℕ → Bool) (due : S → Option (List ℕ)) where
   -- what is logged of a turn may stand there, whether it is turned away or not
-  logged_stands : (old : S) (turn : Turn) (new : S) (w : Bool) → turn.logged ≡ true → RunsUnless A is_kept turns_away w old turn new → MayStand is_kept turn.line turn.text
+  logged_stands : (old : S) (turn : Turn) (new : S) (w : Bool) → turn.logged ≡ true → RunsUnless A is_kept turns_away due w old turn new → MayStand is_kept turn.line turn.text
   logged_stands old turn new true logged r = absurd (true≢false (sym logged ∙ r.unlogged))
-  logged_stands old turn new false logged r = subst (λ (k : Bool). LoggedAs A is_kept turns_away k old turn new) logged r.logged
+  logged_stands old turn new false logged r = subst (λ (k : Bool). LoggedAs A is_kept turns_away due k old turn new) logged r.logged
 
   pub ran : (line text : List ℕ) (old new : S) (bytes bytes' answers answers' : List ℕ) (ledger ledger' : Ledger) → length (content line) ≤ longest_line → ends_with_byte 10 line ≡ true
       → is_kept (content line) ≡ true → turns_away old (content line) ≡ false → text ≢ memory_text → A old (content line) text new → bytes' ≡ bytes ++ line → answers' ≡ answers ++ (text ++ 10 ∷ [])
       → ((t : Totals) → IsLedger ledger t → IsLedger ledger' (noted t (record { line = line; answer = text })))
-      → RunsOne A is_kept turns_away line old new bytes bytes' answers answers' ledger ledger'
+      → RunsOne A is_kept turns_away due line old new bytes bytes' answers answers' ledger ledger'
   ran line text old new bytes bytes' answers answers' ledger ledger' short ends kept taken enough answered put told noted = record {
-    turn = record { line = line; text = text; logged = true; away = false };
+    turn = record { line = line; text = text; logged = true; away = false; own = false };
     line_is = refl;
+    read = refl;
     ended = λ logged. ends;
     runs = record {
       away = sym (other_unlogged (turns_away old) line taken);
       runs = record { answers = answers_short A is_kept line text old new short answered; logged = (short_logged is_kept line short kept, enough) };
+      own = tt;
     };
     logged = put ∙ ap (λ (l : List ℕ). bytes ++ l) (sym (append-nil line));
     answered = told;
@@ -62,32 +64,35 @@ module _ {S : Type 0} (A : S → List ℕ → List ℕ → S → Type 0) (is_kep
 
   pub ran_other : (line text : List ℕ) (old new : S) (bytes answers answers' : List ℕ) (ledger : Ledger) → length (content line) ≤ longest_line
       → is_kept (content line) ≡ false → turns_away old (content line) ≡ false → new ≡ old → A old (content line) text new → answers' ≡ answers ++ (text ++ 10 ∷ [])
-      → RunsOne A is_kept turns_away line old new bytes bytes answers answers' ledger ledger
+      → RunsOne A is_kept turns_away due line old new bytes bytes answers answers' ledger ledger
   ran_other line text old new bytes answers answers' ledger short other taken same answered told = record {
-    turn = record { line = line; text = text; logged = false; away = false };
+    turn = record { line = line; text = text; logged = false; away = false; own = false };
     line_is = refl;
+    read = refl;
     ended = λ logged. absurd (true≢false (sym logged));
     runs = record {
       away = sym (other_unlogged (turns_away old) line taken);
       runs = record { answers = answers_short A is_kept line text old new short answered; logged = (same, inl (other_unlogged is_kept line other)) };
+      own = tt;
     };
     logged = sym (append-nil bytes);
     answered = told;
     noted = λ t is. is;
   }
 
-  unheld_runs : (w away : Bool) (s : S) (line : List ℕ) → RunsUnless A is_kept turns_away w s (record { line = line; text = memory_text; logged = false; away = away }) s
+  unheld_runs : (w away : Bool) (s : S) (line : List ℕ) → RunsUnless A is_kept turns_away due w s (record { line = line; text = memory_text; logged = false; away = away; own = false }) s
   unheld_runs true away s line = record { same = refl; unlogged = refl; told = inr refl }
   unheld_runs false away s line = record { answers = inl (refl, refl); logged = (refl, inr refl) }
 
   -- memory is lacking to hold a line or to log it
   pub unheld : (line : List ℕ) (s : S) (bytes bytes' answers answers' : List ℕ) (ledger : Ledger) → bytes' ≡ bytes → answers' ≡ answers ++ (codes "refused 33 Memory" ++ 10 ∷ [])
-      → RunsOne A is_kept turns_away line s s bytes bytes' answers answers' ledger ledger
+      → RunsOne A is_kept turns_away due line s s bytes bytes' answers answers' ledger ledger
   unheld line s bytes bytes' answers answers' ledger kept told = record {
-    turn = record { line = line; text = memory_text; logged = false; away = is_away turns_away s line };
+    turn = record { line = line; text = memory_text; logged = false; away = is_away turns_away s line; own = false };
     line_is = refl;
+    read = refl;
     ended = λ logged. absurd (true≢false (sym logged));
-    runs = record { away = refl; runs = unheld_runs (is_away turns_away s line) (is_away turns_away s line) s line };
+    runs = record { away = refl; runs = unheld_runs (is_away turns_away s line) (is_away turns_away s line) s line; own = tt };
     logged = kept ∙ sym (append-nil bytes);
     answered = told ∙ ap (λ (l : List ℕ). answers ++ (l ++ 10 ∷ [])) memory_is;
     noted = λ t is. is;
@@ -95,22 +100,24 @@ module _ {S : Type 0} (A : S → List ℕ → List ℕ → S → Type 0) (is_kep
 
   -- a line is turned away
   pub turned : (line : List ℕ) (s : S) (bytes answers answers' : List ℕ) (ledger : Ledger) → length (content line) ≤ longest_line → turns_away s (content line) ≡ true
-      → answers' ≡ answers ++ (codes "refused 39 NeedsLab" ++ 10 ∷ []) → RunsOne A is_kept turns_away line s s bytes bytes answers answers' ledger ledger
+      → answers' ≡ answers ++ (codes "refused 39 NeedsLab" ++ 10 ∷ []) → RunsOne A is_kept turns_away due line s s bytes bytes answers answers' ledger ledger
   turned line s bytes answers answers' ledger short away told = record {
-    turn = record { line = line; text = turned_away_text; logged = false; away = true };
+    turn = record { line = line; text = turned_away_text; logged = false; away = true; own = false };
     line_is = refl;
+    read = refl;
     ended = λ logged. absurd (true≢false (sym logged));
-    runs = record { away = sym (short_logged (turns_away s) line short away); runs = record { same = refl; unlogged = refl; told = inl refl } };
+    runs = record { away = sym (short_logged (turns_away s) line short away); runs = record { same = refl; unlogged = refl; told = inl refl }; own = tt };
     logged = sym (append-nil bytes);
     answered = told;
     noted = λ t is. is;
   }
 
   pub too_long : (line : List ℕ) (s : S) (bytes answers answers' : List ℕ) (ledger : Ledger) → longest_line < length (content line) → answers' ≡ answers ++ (codes "refused 34 BadLine" ++ 10 ∷ [])
-      → RunsOne A is_kept turns_away line s s bytes bytes answers answers' ledger ledger
+      → RunsOne A is_kept turns_away due line s s bytes bytes answers answers' ledger ledger
   too_long line s bytes answers answers' ledger long told = record {
-    turn = record { line = line; text = bad_line_text; logged = false; away = false };
+    turn = record { line = line; text = bad_line_text; logged = false; away = false; own = false };
     line_is = refl;
+    read = refl;
     ended = λ logged. absurd (true≢false (sym logged));
     runs = record {
       away = sym (long_unlogged (turns_away s) line long);
@@ -118,6 +125,7 @@ module _ {S : Type 0} (A : S → List ℕ → List ℕ → S → Type 0) (is_kep
         answers = inr (subst (λ b. AnswersIfShort A b s (content line) bad_line_text s) (sym (long_test (length (content line)) longest_line long)) (refl, refl));
         logged = (refl, inl (long_unlogged is_kept line long));
       };
+      own = tt;
     };
     logged = sym (append-nil bytes);
     answered = told ∙ ap (λ (l : List ℕ). answers ++ (l ++ 10 ∷ [])) bad_line_is;
@@ -128,7 +136,7 @@ module _ {S : Type 0} (A : S → List ℕ → List ℕ → S → Type 0) (is_kep
 
   -- so far
   abbrev pub RunsSoFar : ℕ → List ℕ → Option (List ℕ) → S → S → List ℕ → List ℕ → Ledger → Ledger → Type 0
-  RunsSoFar count xs left old new bytes answers ledger ledger' = (rest : List ℕ) × (left ≡ Some rest) × RunsSome A is_kept turns_away count xs rest old new bytes answers ledger ledger'
+  RunsSoFar count xs left old new bytes answers ledger ledger' = (rest : List ℕ) × (left ≡ Some rest) × RunsSome A is_kept turns_away due count xs rest old new bytes answers ledger ledger'
 
   pub runs_none : (o : Option (List ℕ)) (s : S) (bytes answers : List ℕ) (ledger : Ledger) → bytes ≡ [] → answers ≡ [] → IfSome o (λ xs. RunsSoFar 0 xs o s s bytes answers ledger ledger)
   runs_none None s bytes answers ledger no_bytes no_answers = tt
@@ -156,7 +164,7 @@ module _ {S : Type 0} (A : S → List ℕ → List ℕ → S → Type 0) (is_kep
 
   pub runs_more : ((line : List ℕ) → is_kept (35 ∷ line) ≡ false) → (count : ℕ) (line : EndedLine) (xs : List ℕ) (left left' : Option (List ℕ)) (old now new : S) (bytes bytes' answers answers' : List ℕ) (start ledger ledger' : Ledger)
       → RunsSoFar count xs left old now bytes answers start ledger → line ≢ End → IfSome left (λ ys. IsEndedLine (take_through 10 ys) line) → IfSome left (λ ys. left' ≡ Some (drop_through 10 ys))
-      → ((whole : List ℕ) → IsEndedLine whole line → RunsOne A is_kept turns_away whole now new bytes bytes' answers answers' ledger ledger')
+      → ((whole : List ℕ) → IsEndedLine whole line → RunsOne A is_kept turns_away due whole now new bytes bytes' answers answers' ledger ledger')
       → RunsSoFar (count + 1) xs left' old new bytes' answers' start ledger'
   runs_more none count line xs left left' old now new bytes bytes' answers answers' start ledger ledger' (rest, is, r) more next behind one =
       let next' = subst (λ (o : Option (List ℕ)). IfSome o (λ ys. IsEndedLine (take_through 10 ys) line)) is next in
@@ -165,25 +173,28 @@ module _ {S : Type 0} (A : S → List ℕ → List ℕ → S → Type 0) (is_kep
       let some = take_through_nonempty 10 rest (nonempty (take_through 10 rest) line more next') in
       let turns = r.turns in
       let last : List Turn = o.turn ∷ [] in
+      let asked = line_read o.turn o.read in
       let back = lines_of (drop_through 10 rest) in (
         drop_through 10 rest,
         behind',
         record {
           turns = turns ++ last;
-          many = omega (arith, r.many, length-append turns last);
+          many = omega (arith, r.many, ap length (lines_join turns last ∙ ap (λ (l : List (List ℕ)). lines_asked turns ++ l) asked), length-append (lines_asked turns) (o.turn.line ∷ []));
           parts = r.parts ∙ ap (λ (l : List (List ℕ)). lines_asked turns ++ l) (lines_of-step rest some ∙ ap (λ (l : List ℕ). l ∷ back) (sym o.line_is))
-              ∙ sym (append_assoc (lines_asked turns) (o.turn.line ∷ []) back) ∙ ap (λ (l : List (List ℕ)). l ++ back) (sym (lines_join turns last));
-          runs = answers_join A is_kept turns_away old now new turns last r.runs (new, o.runs, refl);
+              ∙ sym (append_assoc (lines_asked turns) (o.turn.line ∷ []) back) ∙ ap (λ (l : List (List ℕ)). (lines_asked turns ++ l) ++ back) (sym asked)
+              ∙ ap (λ (l : List (List ℕ)). l ++ back) (sym (lines_join turns last));
+          runs = answers_join A is_kept turns_away due old now new turns last r.runs (new, o.runs, refl);
           plain = subst IsBatch (sym (entries_join turns last)) (all_join _ (entries turns) (entries last) r.plain (plain_last o some));
           logged = o.logged ∙ ap (λ (l : List ℕ). l ++ text_of (entries last)) r.logged ∙ sym (text_join (entries turns) (entries last)) ∙ ap text_of (sym (entries_join turns last));
           answered = o.answered ∙ ap (λ (l : List ℕ). l ++ (o.turn.text ++ 10 ∷ [])) r.answered
-              ∙ ap (λ (l : List ℕ). unlines (texts_of turns) ++ l) (sym (append-nil (o.turn.text ++ 10 ∷ []))) ∙ sym (unlines_join turns last);
+              ∙ ap (λ (l : List ℕ). unlines (texts_of turns) ++ l) (sym (append-nil (o.turn.text ++ 10 ∷ [])))
+              ∙ ap (λ (l : List (List ℕ)). unlines (texts_of turns) ++ unlines l) (sym (text_read o.turn o.read)) ∙ sym (unlines_join turns last);
           noted = λ t told. subst (IsLedger ledger') (sym (with_join t (entries turns) (entries last)) ∙ ap (with_batch t) (sym (entries_join turns last)))
               (o.noted (with_batch t (entries turns)) (r.noted t told));
         },
       )
     where
-      plain_last : (o : RunsOne A is_kept turns_away (take_through 10 rest) now new bytes bytes' answers answers' ledger ledger') → 0 < length rest → IsBatch (entries (o.turn ∷ []))
+      plain_last : (o : RunsOne A is_kept turns_away due (take_through 10 rest) now new bytes bytes' answers answers' ledger ledger') → 0 < length rest → IsBatch (entries (o.turn ∷ []))
       plain_last o some = at o.turn.logged refl
         where
           at : (k : Bool) → o.turn.logged ≡ k → IsBatch (cond k (record { line = o.turn.line; answer = o.turn.text } ∷ []) [])
@@ -195,8 +206,8 @@ module _ {S : Type 0} (A : S → List ℕ → List ℕ → S → Type 0) (is_kep
 
   -- ---- how it ends
 
-  fewer : (count : ℕ) (xs rest : List ℕ) (old new : S) (bytes answers : List ℕ) (ledger ledger' : Ledger) → RunsSome A is_kept turns_away count xs rest old new bytes answers ledger ledger'
-      → (most : ℕ) → most ≤ count → RunsSome A is_kept turns_away most xs rest old new bytes answers ledger ledger'
+  fewer : (count : ℕ) (xs rest : List ℕ) (old new : S) (bytes answers : List ℕ) (ledger ledger' : Ledger) → RunsSome A is_kept turns_away due count xs rest old new bytes answers ledger ledger'
+      → (most : ℕ) → most ≤ count → RunsSome A is_kept turns_away due most xs rest old new bytes answers ledger ledger'
   fewer count xs rest old new bytes answers ledger ledger' r most less = record {
     turns = r.turns;
     many = omega (arith, less, r.many);
@@ -209,22 +220,22 @@ module _ {S : Type 0} (A : S → List ℕ → List ℕ → S → Type 0) (is_kep
   }
 
   pub gathered_some : (count : ℕ) (xs : List ℕ) (left : Option (List ℕ)) (old new : S) (bytes answers : List ℕ) (ledger ledger' : Ledger) → RunsSoFar count xs left old new bytes answers ledger ledger'
-      → 1 ≤ count → Gathers A is_kept turns_away gathered.Some xs left old new bytes answers ledger ledger'
+      → 1 ≤ count → Takes A is_kept turns_away due gathered.Some xs left old new bytes answers ledger ledger'
   gathered_some count xs left old new bytes answers ledger ledger' (rest, is, r) some =
       record { rest = rest; left_by = is; full = tt; runs = fewer count xs rest old new bytes answers ledger ledger' r 1 some }
 
   pub gathered_full : (count : ℕ) (xs : List ℕ) (left : Option (List ℕ)) (old new : S) (bytes answers : List ℕ) (ledger ledger' : Ledger) → RunsSoFar count xs left old new bytes answers ledger ledger'
-      → is_full ledger' ≡ true → Gathers A is_kept turns_away gathered.Full xs left old new bytes answers ledger ledger'
+      → is_full ledger' ≡ true → Takes A is_kept turns_away due gathered.Full xs left old new bytes answers ledger ledger'
   gathered_full count xs left old new bytes answers ledger ledger' (rest, is, r) full =
       record { rest = rest; left_by = is; full = full; runs = fewer count xs rest old new bytes answers ledger ledger' r 0 (omega arith) }
 
   pub gathered_failed : (count : ℕ) (xs : List ℕ) (left left' : Option (List ℕ)) (old new : S) (bytes answers : List ℕ) (ledger ledger' : Ledger) → RunsSoFar count xs left old new bytes answers ledger ledger'
-      → StaysInLine left left' → Gathers A is_kept turns_away gathered.Failed xs left' old new bytes answers ledger ledger'
+      → StaysInLine left left' → Takes A is_kept turns_away due gathered.Failed xs left' old new bytes answers ledger ledger'
   gathered_failed count xs left left' old new bytes answers ledger ledger' (rest, is, r) stays =
       record { rest = rest; left_by = subst (λ (o : Option (List ℕ)). StaysInLine o left') is stays; full = tt; runs = fewer count xs rest old new bytes answers ledger ledger' r 0 (omega arith) }
 
   pub gathered_unended : (count : ℕ) (xs : List ℕ) (left left' : Option (List ℕ)) (old new : S) (bytes answers : List ℕ) (ledger ledger' : Ledger) → RunsSoFar count xs left old new bytes answers ledger ledger'
-      → IfSome left (λ ys. IsEndedLine (take_through 10 ys) Unended) → IfSome left (λ ys. left' ≡ Some (drop_through 10 ys)) → Gathers A is_kept turns_away gathered.Unended xs left' old new bytes answers ledger ledger'
+      → IfSome left (λ ys. IsEndedLine (take_through 10 ys) Unended) → IfSome left (λ ys. left' ≡ Some (drop_through 10 ys)) → Takes A is_kept turns_away due gathered.Unended xs left' old new bytes answers ledger ledger'
   gathered_unended count xs left left' old new bytes answers ledger ledger' (rest, is, r) next behind =
       let (some, ends) = subst (λ (o : Option (List ℕ)). IfSome o (λ ys. IsEndedLine (take_through 10 ys) Unended)) is next in
       record {
@@ -235,7 +246,7 @@ module _ {S : Type 0} (A : S → List ℕ → List ℕ → S → Type 0) (is_kep
       }
 
   pub gathered_all : (count : ℕ) (xs : List ℕ) (left left' : Option (List ℕ)) (old new : S) (bytes answers : List ℕ) (ledger ledger' : Ledger) → RunsSoFar count xs left old new bytes answers ledger ledger'
-      → IfSome left (λ ys. IsEndedLine (take_through 10 ys) End) → IfSome left (λ ys. left' ≡ Some (drop_through 10 ys)) → Gathers A is_kept turns_away gathered.All xs left' old new bytes answers ledger ledger'
+      → IfSome left (λ ys. IsEndedLine (take_through 10 ys) End) → IfSome left (λ ys. left' ≡ Some (drop_through 10 ys)) → Takes A is_kept turns_away due gathered.All xs left' old new bytes answers ledger ledger'
   gathered_all count xs left left' old new bytes answers ledger ledger' (rest, is, r) next behind =
       let none = take_through-nil 10 rest (ap length (subst (λ (o : Option (List ℕ)). IfSome o (λ ys. IsEndedLine (take_through 10 ys) End)) is next)) in
       let left_is = subst (λ (o : Option (List ℕ)). IfSome o (λ ys. left' ≡ Some (drop_through 10 ys))) is behind in

@@ -181,8 +181,8 @@ module _ (src : Option (List ℕ)) (measure : Measure) (is_second : Bool) (head 
 
   -- ---- what a start does
 
-  module _ {S : Type 0} (A : S → List ℕ → List ℕ → S → Type 0) (is_kept : List ℕ → Bool) (turns_away : S → List ℕ → Bool) (Begins : List ℕ → Bool → S → Type 0) (machine : S) (begins : Begins head is_second machine) where
-    unfoldable found : (h : Held) (aside : List ℕ) → src ≡ Some (whole h) → aside ≡ tail → Found A is_kept turns_away Begins (whole h) aside
+  module _ {S : Type 0} (A : S → List ℕ → List ℕ → S → Type 0) (is_kept : List ℕ → Bool) (turns_away : S → List ℕ → Bool) (due : S → Option (List ℕ)) (Begins : List ℕ → Bool → S → Type 0) (machine : S) (begins : Begins head is_second machine) where
+    unfoldable found : (h : Held) (aside : List ℕ) → src ≡ Some (whole h) → aside ≡ tail → Found A is_kept turns_away due Begins (whole h) aside
     found h aside is put = record {
       measure = measure;
       is_second = is_second;
@@ -197,8 +197,8 @@ module _ (src : Option (List ℕ)) (measure : Measure) (is_second : Bool) (head 
 
     pub started : (o log' : Option Held) (left p : Option (List ℕ)) (out out' : Option (List ℕ)) (aside : List ℕ) (is_alone : Bool) (end : S) → IfSome o (λ h. src ≡ Some (whole h)) → Gives left
         → aside ≡ tail → is_alone ≡ false
-        → IfSome left (λ script. IfSome p (λ input. KeepsOn A is_kept turns_away machine head script input extent.whole o log' out out' end))
-        → IfSome o (λ h. IfSome p (λ input. Starts A is_kept turns_away Begins (whole h) input o log' out out' aside is_alone))
+        → IfSome left (λ script. IfSome p (λ input. KeepsOn A is_kept turns_away due machine head script input extent.whole o log' out out' end))
+        → IfSome o (λ h. IfSome p (λ input. Starts A is_kept turns_away due Begins (whole h) input o log' out out' aside is_alone))
     unfolding found
     started None log' left p out out' aside is_alone end is gives put alone keeps = tt
     started (Some h) log' left None out out' aside is_alone end is gives put alone keeps = tt
@@ -207,13 +207,13 @@ module _ (src : Option (List ℕ)) (measure : Measure) (is_second : Bool) (head 
           found = found h aside is put;
           end = end;
           not_alone = alone;
-          keeps = subst (λ (q : Option (List ℕ)). IfSome q (λ script. KeepsOn A is_kept turns_away machine head script input extent.whole (Some h) log' out out' end)) (gives_in left h is gives) keeps;
+          keeps = subst (λ (q : Option (List ℕ)). IfSome q (λ script. KeepsOn A is_kept turns_away due machine head script input extent.whole (Some h) log' out out' end)) (gives_in left h is gives) keeps;
         }
 
     pub breaks : (f : StoreFault) (o log' : Option Held) (left p back : Option (List ℕ)) (out out' : Option (List ℕ)) (aside : List ℕ) (is_alone : Bool) (end : S) → IfSome o (λ h. src ≡ Some (whole h)) → Gives left
         → aside ≡ tail → AsideAs {T = Unit {0}} (Err f) is_alone
-        → IfSome left (λ script. IfSome p (λ input. StoreFails A is_kept turns_away f machine head script input back extent.whole o log' out out' end))
-        → IfSome o (λ h. IfSome p (λ input. Breaks A is_kept turns_away Begins f (whole h) input back o log' out out' aside is_alone))
+        → IfSome left (λ script. IfSome p (λ input. StoreFails A is_kept turns_away due f machine head script input back extent.whole o log' out out' end))
+        → IfSome o (λ h. IfSome p (λ input. Breaks A is_kept turns_away due Begins f (whole h) input back o log' out out' aside is_alone))
     unfolding found
     breaks f None log' left p back out out' aside is_alone end is gives put alone fails = tt
     breaks f (Some h) log' left None back out out' aside is_alone end is gives put alone fails = tt
@@ -222,5 +222,5 @@ module _ (src : Option (List ℕ)) (measure : Measure) (is_second : Bool) (head 
           found = found h aside is put;
           end = end;
           alone = alone;
-          fails = subst (λ (q : Option (List ℕ)). IfSome q (λ script. StoreFails A is_kept turns_away f machine head script input back extent.whole (Some h) log' out out' end)) (gives_in left h is gives) fails;
+          fails = subst (λ (q : Option (List ℕ)). IfSome q (λ script. StoreFails A is_kept turns_away due f machine head script input back extent.whole (Some h) log' out out' end)) (gives_in left h is gives) fails;
         }

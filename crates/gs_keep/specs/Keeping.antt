@@ -6,8 +6,9 @@ use Rattle.gs_keep_mark.specs.Marks.{Entry, beginning, marked, text_of, totals_b
 use Rattle.gs_keep_mark.specs.Started.{AreBatches, IsBatch}
 use Rattle.gs_keep_mark.specs.declared.Ledger.{Ledger}
 use Rattle.gs_keep_mark.specs.Ledgers.{IsLedger}
-use Rattle.gs_keep.specs.Lines.{joined, kept_behind, lines_asked, taken, texts_of}
+use Rattle.gs_keep.specs.Lines.{joined, kept_behind, lines_taken, texts_taken}
 use Rattle.gs_keep.specs.Replaying.{ReplayFails, RunsAgain}
+use Rattle.gs_keep.specs.Running.{IsDone}
 use Rattle.gs_keep.specs.Serving.{Fails, LeavesAtMost, RestsAt, Serves}
 use Rattle.gs_keep.specs.declared.again.ReplayFault.TheVariants as again
 use Rattle.gs_keep.specs.declared.fault.KeepFault.{KeepFault}
@@ -106,8 +107,8 @@ module _ {S : Type 0} (A : S → List ℕ → List ℕ → S → Type 0) (is_kep
     pub told : IsLedger ledger (kept_behind (totals_behind (beginning head) batches) last)
     pub rests : IfSome log (λ h. RestsAt log' (kept_behind (totals_behind (beginning head) batches) last).text)
 
--- And for a test that says which lines it turns away.
-module _ {S : Type 0} (A : S → List ℕ → List ℕ → S → Type 0) (is_kept : List ℕ → Bool) (turns_away : S → List ℕ → Bool) where
+-- And for tests that say which lines it turns away, and which one of its own is due.
+module _ {S : Type 0} (A : S → List ℕ → List ℕ → S → Type 0) (is_kept : List ℕ → Bool) (turns_away : S → List ℕ → Bool) (due : S → Option (List ℕ)) where
   -- A log is begun on, and then the input is served.
   pub record KeepsOn (start : S) (head script input : List ℕ) (len : ℕ) (log log' : Option Held) (out out' : Option (List ℕ)) (end : S) : Type 0 where
     pub between : Option Held
@@ -115,9 +116,12 @@ module _ {S : Type 0} (A : S → List ℕ → List ℕ → S → Type 0) (is_kep
     pub ended : Ledger
     pub mid : S
     pub begins : Begins A is_kept start head script len log between told mid
-    pub serves : Serves A is_kept turns_away mid input [] between log' out out' told ended end
-    -- what was run again and what is answered to the input are the answers to the log's lines and to those of the input that aren't turned away, one behind the other
-    pub together : Runs A start (map (λ e. e.line) (joined begins.batches ++ begins.last) ++ lines_asked (taken serves.turns)) (map (λ e. e.answer) (joined begins.batches ++ begins.last) ++ texts_of (taken serves.turns)) end
+    pub serves : Serves A is_kept turns_away due mid input [] between log' out out' told ended end
+    -- behind the input no line of the machine's own is due, or 32 were run at the end, or no more lines can be counted
+    pub done : IsDone A is_kept turns_away due serves.turns end ended
+    -- What was run again and what is answered since are the answers to the log's lines, and then to those of the input that aren't turned away and to the
+    -- machine's own, one behind the other. Of the answers since, those to the input are sent.
+    pub together : Runs A start (map (λ e. e.line) (joined begins.batches ++ begins.last) ++ lines_taken serves.turns) (map (λ e. e.answer) (joined begins.batches ++ begins.last) ++ texts_taken serves.turns) end
     -- what stands in the log then leads to where the run has come
     pub stands : RunsAgain A is_kept start ((joined begins.batches ++ begins.last) ++ joined serves.batches) end
     -- the log holds the batches of before and those of the run, each byte for good
@@ -129,7 +133,7 @@ module _ {S : Type 0} (A : S → List ℕ → List ℕ → S → Type 0) (is_kep
     pub told : Ledger
     pub mid : S
     pub begins : Begins A is_kept start head script len log between told mid
-    pub fails : Fails A is_kept turns_away fault mid input left between log' out out' told end
+    pub fails : Fails A is_kept turns_away due fault mid input left between log' out out' told end
     pub crashes : IfSome log (λ h. LeavesAll (totals_behind (kept_behind (totals_behind (beginning head) begins.batches) begins.last) fails.done.batches).text log')
 
   abbrev pub StoreFails : StoreFault → S → List ℕ → List ℕ → List ℕ → Option (List ℕ) → ℕ → Option Held → Option Held → Option (List ℕ) → Option (List ℕ) → S → Type 0

@@ -10,7 +10,7 @@ use Rattle.gs_keep_mark.specs.Marks.{Entry, Totals, mark_of, passed, text_of, to
 use Rattle.gs_keep_mark.specs.Started.{AreBatches, IsBatch}
 use Rattle.gs_keep_mark.specs.declared.Ledger.{Ledger}
 use Rattle.gs_keep.specs.Lines.{Turn, entries, joined, kept_behind, lines_asked, texts_of}
-use Rattle.gs_keep.specs.Running.{AnswersAll, IsUnended}
+use Rattle.gs_keep.specs.Running.{AnswersAll, IsDone, IsUnended}
 use Rattle.gs_keep.specs.declared.batch.Gathered.{Gathered}
 use Rattle.gs_keep.specs.declared.batch.Gathered.TheVariants as gathered
 use Rattle.gs_keep.specs.declared.fault.KeepFault.{KeepFault}
@@ -76,8 +76,8 @@ Ends gathered.Unended result = result ≡ Err fault.Unended
 Ends gathered.Failed result = result ≡ Err fault.Read
 Ends gathered.Full result = result ≡ Err fault.TooMany
 
--- For a relation that says what may be answered to a line, and tests that say which lines a machine acts on, and which it turns away.
-module _ {S : Type 0} (A : S → List ℕ → List ℕ → S → Type 0) (is_kept : List ℕ → Bool) (turns_away : S → List ℕ → Bool) where
+-- For a relation that says what may be answered to a line, and tests that say which lines a machine acts on, which it turns away, and which one of its own is due.
+module _ {S : Type 0} (A : S → List ℕ → List ℕ → S → Type 0) (is_kept : List ℕ → Bool) (turns_away : S → List ℕ → Bool) (due : S → Option (List ℕ)) where
   -- ---- a run, or a part of one
 
   -- The lines of the input before the rest are run. Those that have to be logged are, in batches, each with its mark and for good, and
@@ -86,17 +86,23 @@ module _ {S : Type 0} (A : S → List ℕ → List ℕ → S → Type 0) (is_kep
     pub turns : List Turn
     pub batches : List (List Entry)
     pub parts : lines_of input ≡ lines_asked turns ++ lines_of rest
-    pub answers : AnswersAll A is_kept turns_away start turns end
+    pub answers : AnswersAll A is_kept turns_away due start turns end
     pub written : Appends out out' (unlines (texts_of turns))
     pub logged : entries turns ≡ joined batches
     pub plain : AreBatches batches
     pub kept : (t : Totals) → IsLedger ledger t → IsLedger ledger' (totals_behind t batches) × (RestsAt log t.text → RestsAt log' (totals_behind t batches).text)
 
+  -- all of the input
+  pub record ServesAll (start : S) (input : List ℕ) (log log' : Option Held) (out out' : Option (List ℕ)) (ledger ledger' : Ledger) (end : S) : Type 0 where
+    pub serves : Serves start input [] log log' out out' ledger ledger' end
+    pub done : IsDone A is_kept turns_away due serves.turns end ledger'
+
   -- Where there are no more lines, that is all of the input.
+  -- Behind them no line of the machine's own is due, or 32 were run, or no more lines can be counted.
   abbrev pub Rounds : S → Bool → List ℕ → Option (List ℕ) → Option Held → Option Held → Option (List ℕ) → Option (List ℕ) → Ledger → Ledger → S → Type 0
   Rounds start true input left log log' out out' ledger ledger' end =
-      (rest : List ℕ) × (left ≡ Some rest) × (s : Serves start input rest log log' out out' ledger ledger' end) × (1 ≤ length s.turns)
-  Rounds start false input left log log' out out' ledger ledger' end = Serves start input [] log log' out out' ledger ledger' end
+      (rest : List ℕ) × (left ≡ Some rest) × (s : Serves start input rest log log' out out' ledger ledger' end) × (1 ≤ length (lines_asked s.turns)) × IsDone A is_kept turns_away due s.turns end ledger'
+  Rounds start false input left log log' out out' ledger ledger' end = ServesAll start input log log' out out' ledger ledger' end
 
   -- ---- a run that fails
 
@@ -105,7 +111,7 @@ module _ {S : Type 0} (A : S → List ℕ → List ℕ → S → Type 0) (is_kep
     pub turns : List Turn
     pub back : List ℕ
     pub parts : lines_of rest ≡ lines_asked turns ++ lines_of back
-    pub answers : AnswersAll A is_kept turns_away now turns end
+    pub answers : AnswersAll A is_kept turns_away due now turns end
     pub plain : IsBatch (entries turns)
 
   -- Memory is lacking for an answer, or for the mark: of what was run since nothing is logged or answered. A read fails. The last line
@@ -116,7 +122,7 @@ module _ {S : Type 0} (A : S → List ℕ → List ℕ → S → Type 0) (is_kep
   EndsWith fault.Read now end rest left log log' out out' ledger turns = StaysInLine (Some rest) left × (log' ≡ log) × (out' ≡ out) × (end ≡ now)
   EndsWith fault.Unended now end rest left log log' out out' ledger turns = IsUnended rest × (left ≡ Some (drop_through 10 rest)) × (log' ≡ log) × (out' ≡ out) × (end ≡ now)
   EndsWith fault.TooMany now end rest left log log' out out' ledger turns =
-      (left ≡ Some rest) × ((18446744073709551615 ≤ length turns) ⊎ (is_full ledger ≡ true)) × (log' ≡ log) × (out' ≡ out) × (end ≡ now)
+      (left ≡ Some rest) × ((18446744073709551615 ≤ length (lines_asked turns)) ⊎ (is_full ledger ≡ true)) × (log' ≡ log) × (out' ≡ out) × (end ≡ now)
   EndsWith fault.Write now end rest left log log' out out' ledger turns =
       (w : Waits now rest end) × ((t : Totals) → IsLedger ledger t → RestsAt log t.text → RestsAt log' (kept_behind t (entries w.turns)).text)
       × AppendsBeginning out out' (unlines (texts_of w.turns))

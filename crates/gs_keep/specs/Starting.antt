@@ -98,8 +98,8 @@ abbrev pub IsTold : {E : Type 0} → StartFault E → Type 0 → Type 0 → Type
 IsTold (fault.Standing f) unread unsent = Unit {0}
 IsTold (fault.Run f) unread unsent = run.IsTold f (Unit {0}) unread unsent
 
--- For what may be answered to a line, which lines a machine acts on, which it turns away, and what machine begins for a first line.
-module _ {S : Type 0} (A : S → List ℕ → List ℕ → S → Type 0) (is_kept : List ℕ → Bool) (turns_away : S → List ℕ → Bool) (Begins : List ℕ → Bool → S → Type 0) where
+-- For what may be answered to a line, which lines a machine acts on, which it turns away, which one of its own is due, and what machine begins for a first line.
+module _ {S : Type 0} (A : S → List ℕ → List ℕ → S → Type 0) (is_kept : List ℕ → Bool) (turns_away : S → List ℕ → Bool) (due : S → Option (List ℕ)) (Begins : List ℕ → Bool → S → Type 0) where
   -- What is run again is exactly what the measure of a log says, on a machine that begins new for its first line. This is what stands after it.
   pub record Found (text tail : List ℕ) : Type 0 where
     pub measure : Measure
@@ -117,14 +117,14 @@ module _ {S : Type 0} (A : S → List ℕ → List ℕ → S → Type 0) (is_kep
     pub found : Found text aside
     pub end : S
     pub not_alone : is_alone ≡ false
-    pub keeps : KeepsOn A is_kept turns_away found.machine found.head found.script input found.extent.whole log log' out out' end
+    pub keeps : KeepsOn A is_kept turns_away due found.machine found.head found.script input found.extent.whole log log' out out' end
 
   -- so it is begun, and then it fails
   pub record Breaks (f : StoreFault) (text input : List ℕ) (left : Option (List ℕ)) (log log' : Option Held) (out out' : Option (List ℕ)) (aside : List ℕ) (is_alone : Bool) : Type 0 where
     pub found : Found text aside
     pub end : S
     pub alone : AsideAs {T = Unit {0}} (Err f) is_alone
-    pub fails : StoreFails A is_kept turns_away f found.machine found.head found.script input left found.extent.whole log log' out out' end
+    pub fails : StoreFails A is_kept turns_away due f found.machine found.head found.script input left found.extent.whole log log' out out' end
 
   -- And for why a first line is refused.
   module _ {E : Type 0} (RefusesHead : List ℕ → E → Type 0) where

@@ -1,11 +1,11 @@
 // The lines that come together are run, one after another. What has to be logged of them and their answers are held until then.
-ghost use Rattle.std.specs.Prelude.{◌≡◌, ◌≢◌, ◌<◌, ◌≤◌, ◌++◌, ◌∷◌, [], ℕ, List, true, false, length, IfOk, OnOk, OnErr, IfSome, string_bytes};
+ghost use Rattle.std.specs.Prelude.{◌≡◌, ◌≢◌, ◌<◌, ◌≤◌, ◌++◌, ◌∷◌, [], ℕ, List, true, false, length, Some, IfOk, OnOk, OnErr, IfSome, string_bytes};
 ghost use Rattle.std.specs.Io.BufRead.{ends_with_byte};
 ghost use Rattle.gs_shell_line.specs.Line.{content, longest_line};
 ghost use Rattle.gs_shell_script.specs.Run.{memory_text};
 ghost use Rattle.gs_shell_line.specs.Ended.{HasNoMore, IsEndedLine, remaining};
 ghost use Rattle.gs_keep_mark.specs.Ledgers.{is_full};
-ghost use Rattle.gs_keep.specs.Running.{Gathers, RunsOne};
+ghost use Rattle.gs_keep.specs.Running.{Gathers, RunsDue, RunsOne, RunsOwn, Takes};
 
 use crate::again::says_memory;
 use crate::keeping::Keeping;
@@ -17,6 +17,9 @@ use std::io::BufRead;
 
 /// The bytes that are logged at a time, and those that are answered: no more lines are run once there are so many.
 const MOST_BYTES: usize = 1_048_576;
+
+/// No more lines of the machine's own are run at a time, even if one more is due.
+const MOST_OWN: u64 = 32;
 
 /// The answer to a line that is longer than a line may be.
 pub(crate) const BAD_LINE: &str = "refused 34 BadLine";
@@ -79,7 +82,7 @@ fn run_kept<M: Keeping>(
     requires room { is_full ledger.old ≡ false }
     requires kept { M.is_kept (content line.now) ≡ true }
     requires taken { M.is_turned_away machine.old (content line.now) ≡ false }
-    ensures { OnOk result (length (content line.now) ≤ longest_line → ends_with_byte 10 line.now ≡ true → RunsOne M.Answers M.is_kept M.is_turned_away line.now machine.old machine.new batch.old.bytes.items batch.new.bytes.items
+    ensures { OnOk result (length (content line.now) ≤ longest_line → ends_with_byte 10 line.now ≡ true → RunsOne M.Answers M.is_kept M.is_turned_away M.own line.now machine.old machine.new batch.old.bytes.items batch.new.bytes.items
         batch.old.answers.items batch.new.answers.items ledger.old ledger.new) }
 {
     if batch.bytes.extend_from_slice(line).is_err() {
@@ -103,7 +106,7 @@ fn run_other<M: Keeping>(
 ) -> Result<(), AllocError>
     requires other { M.is_kept (content line.now) ≡ false }
     requires taken { M.is_turned_away machine.old (content line.now) ≡ false }
-    ensures { OnOk result (length (content line.now) ≤ longest_line → (bytes : List ℕ) (ledger : Ledger) → RunsOne M.Answers M.is_kept M.is_turned_away line.now machine.old machine.new bytes bytes
+    ensures { OnOk result (length (content line.now) ≤ longest_line → (bytes : List ℕ) (ledger : Ledger) → RunsOne M.Answers M.is_kept M.is_turned_away M.own line.now machine.old machine.new bytes bytes
         answers.old.items answers.new.items ledger ledger) }
 {
     let answer = machine.answer(alloc, content_of(line));
@@ -119,7 +122,7 @@ fn run_text<M: Keeping>(
     batch: &mut Batch,
 ) -> Result<(), AllocError>
     requires room { is_full ledger.old ≡ false }
-    ensures { OnOk result (length (content line.now) ≤ longest_line → ends_with_byte 10 line.now ≡ true → RunsOne M.Answers M.is_kept M.is_turned_away line.now machine.old machine.new batch.old.bytes.items batch.new.bytes.items
+    ensures { OnOk result (length (content line.now) ≤ longest_line → ends_with_byte 10 line.now ≡ true → RunsOne M.Answers M.is_kept M.is_turned_away M.own line.now machine.old machine.new batch.old.bytes.items batch.new.bytes.items
         batch.old.answers.items batch.new.answers.items ledger.old ledger.new) }
 {
     let Ok(is_turned_away) = machine.turns_away(alloc, content_of(line)) else {
@@ -144,7 +147,7 @@ fn run_line<M: Keeping>(
     batch: &mut Batch,
 ) -> Result<(), AllocError>
     requires room { is_full ledger.old ≡ false }
-    ensures { OnOk result ((whole : List ℕ) → IsEndedLine whole line.now → RunsOne M.Answers M.is_kept M.is_turned_away whole machine.old machine.new
+    ensures { OnOk result ((whole : List ℕ) → IsEndedLine whole line.now → RunsOne M.Answers M.is_kept M.is_turned_away M.own whole machine.old machine.new
         batch.old.bytes.items batch.new.bytes.items batch.old.answers.items batch.new.answers.items ledger.old ledger.new) }
 {
     match line {
@@ -152,6 +155,49 @@ fn run_line<M: Keeping>(
         EndedLine::TooLong => put_answer(&mut batch.answers, BAD_LINE),
         _ => put_answer(&mut batch.answers, MEMORY),
     }
+}
+
+/// Runs a line of the machine's own, and puts it behind what has to be logged. Its answer isn't sent. `Err` where memory is lacking for it:
+/// the run is to end then before anything of the batch is logged.
+fn run_own<M: Keeping>(
+    alloc: Global,
+    machine: &mut M,
+    ledger: &mut Ledger,
+    line: &[u8],
+    bytes: &mut Vec<u8>,
+) -> Result<(), AllocError>
+    requires room { is_full ledger.old ≡ false }
+    requires own { M.own machine.old ≡ Some line.now }
+    ensures { OnOk result (RunsOwn M.Answers M.is_kept M.is_turned_away M.own machine.old machine.new bytes.old.items bytes.new.items ledger.old ledger.new) }
+{
+    bytes.extend_from_slice(line)?;
+    let reply = machine.answer(alloc, content_of(line));
+    if says_memory(&reply) {
+        return Err(AllocError);
+    }
+    ledger.note(line, text_of(&reply).as_bytes());
+    Ok(())
+}
+
+/// Runs the lines of the machine's own that are due, one after another.
+fn run_due<M: Keeping>(
+    alloc: Global,
+    machine: &mut M,
+    ledger: &mut Ledger,
+    bytes: &mut Vec<u8>,
+) -> Result<(), AllocError>
+    ensures { OnOk result (RunsDue M.Answers M.is_kept M.is_turned_away M.own machine.old machine.new bytes.old.items bytes.new.items ledger.old ledger.new) }
+{
+    for count in 0..MOST_OWN {
+        if ledger.is_full() {
+            return Ok(());
+        }
+        let Some(line) = machine.own_line() else {
+            return Ok(());
+        };
+        run_own(alloc, machine, ledger, line, bytes)?;
+    }
+    Ok(())
 }
 
 impl Batch {
@@ -176,9 +222,9 @@ impl Batch {
         is_next_at_hand && self.bytes.len() < MOST_BYTES && self.answers.len() < MOST_BYTES
     }
 
-    /// Runs lines: one, unless the input has ended, and those behind it that the reader holds already, as long as they and their answers
-    /// are few. `Err` where memory was lacking for the answer to a line that was run.
-    pub(crate) fn gather<M: Keeping, R: BufRead>(
+    /// Runs lines of the input: one, unless it has ended, and those behind it that the reader holds already, as long as they and their
+    /// answers are few. `Err` where memory was lacking for the answer to a line that was run.
+    fn take<M: Keeping, R: BufRead>(
         &mut self,
         alloc: Global,
         machine: &mut M,
@@ -187,7 +233,7 @@ impl Batch {
     ) -> Result<Gathered, AllocError>
         requires bytes { self.old.bytes.items ≡ [] }
         requires answers { self.old.answers.items ≡ [] }
-        ensures gathers { IfOk result (λ gathered. IfSome (remaining R.remaining reader.old) (λ xs. Gathers M.Answers M.is_kept M.is_turned_away gathered xs (remaining R.remaining reader.new)
+        ensures gathers { IfOk result (λ gathered. IfSome (remaining R.remaining reader.old) (λ xs. Takes M.Answers M.is_kept M.is_turned_away M.own gathered xs (remaining R.remaining reader.new)
             machine.old machine.new self.new.bytes.items self.new.answers.items ledger.old ledger.new)) }
         ensures unread { IfOk result (λ gathered. gathered ≡ Gathered.Failed → HasNoMore reader.new) }
     {
@@ -208,5 +254,23 @@ impl Batch {
             }
         }
         Ok(Gathered::Some)
+    }
+    /// Runs lines of the input, and then those of the machine's own that are due. `Err` where memory was lacking for the answer to one of them.
+    pub(crate) fn gather<M: Keeping, R: BufRead>(
+        &mut self,
+        alloc: Global,
+        machine: &mut M,
+        ledger: &mut Ledger,
+        reader: &mut EndedLines<R>,
+    ) -> Result<Gathered, AllocError>
+        requires bytes { self.old.bytes.items ≡ [] }
+        requires answers { self.old.answers.items ≡ [] }
+        ensures gathers { IfOk result (λ gathered. IfSome (remaining R.remaining reader.old) (λ xs. Gathers M.Answers M.is_kept M.is_turned_away M.own gathered xs (remaining R.remaining reader.new)
+            machine.old machine.new self.new.bytes.items self.new.answers.items ledger.old ledger.new)) }
+        ensures unread { IfOk result (λ gathered. gathered ≡ Gathered.Failed → HasNoMore reader.new) }
+    {
+        let gathered = self.take(alloc, machine, ledger, reader)?;
+        run_due(alloc, machine, ledger, &mut self.bytes)?;
+        Ok(gathered)
     }
 }

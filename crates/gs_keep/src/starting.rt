@@ -41,10 +41,10 @@ pub fn start<L: Log, S: Source, H: Making, A: Aside, R: BufRead, W: Write, P: Pr
     requires goes_on { L.has_failed log.old ≡ false }
     requires same { IfSome (L.holds log.old) (λ h. S.bytes source.old ≡ Some (whole h)) }
     ensures ok { OnOk result (IfSome (L.holds log.old) (λ h. IfSome (remaining R.remaining reader.old) (λ input.
-        Starts H.Machine.Answers H.Machine.is_kept H.Machine.is_turned_away (H.Begins making.now) (whole h) input (L.holds log.old) (L.holds log.new)
+        Starts H.Machine.Answers H.Machine.is_kept H.Machine.is_turned_away H.Machine.own (H.Begins making.now) (whole h) input (L.holds log.old) (L.holds log.new)
         (sent W.contents writer.old) (sent W.contents writer.new) (A.bytes aside.new) (A.is_alone aside.new)))) }
     ensures err { IfErr result (λ e. IfSome (L.holds log.old) (λ h. IfSome (remaining R.remaining reader.old) (λ input.
-        StartFails H.Machine.Answers H.Machine.is_kept H.Machine.is_turned_away (H.Begins making.now) (H.Refuses making.now) e (whole h) input
+        StartFails H.Machine.Answers H.Machine.is_kept H.Machine.is_turned_away H.Machine.own (H.Begins making.now) (H.Refuses making.now) e (whole h) input
         (remaining R.remaining reader.new) (L.holds log.old) (L.holds log.new)
         (sent W.contents writer.old) (sent W.contents writer.new) (A.bytes aside.new) (A.is_alone aside.new)))) }
     ensures untouched { IfErr result (λ e. IsUntouched e (log.new ≡ log.old)) }

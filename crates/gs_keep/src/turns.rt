@@ -2,7 +2,7 @@
 ghost use Rattle.std.specs.Prelude.{◌≡◌, [], List, ℕ, Bool, false, IfOk, IfErr, OnOk, IfSome};
 ghost use Rattle.gs_shell_line.specs.Ended.{HasNoMore, remaining};
 ghost use Rattle.gs_keep.specs.Sending.{HasStopped, sent};
-ghost use Rattle.gs_keep.specs.Serving.{Closes, Ends, Fails, Keeps, Rounds, SealFails, Seals, Serves, blames_log};
+ghost use Rattle.gs_keep.specs.Serving.{Closes, Ends, Fails, Keeps, Rounds, SealFails, Seals, ServesAll, blames_log};
 
 use crate::batch::{Batch, Gathered};
 use crate::fault::KeepFault;
@@ -103,10 +103,10 @@ fn round<M: Keeping, L: Log, R: BufRead, W: Write>(
 ) -> Result<bool, KeepFault>
     requires { L.has_failed log.old ≡ false }
     ensures ok { IfOk result (λ more. IfSome (remaining R.remaining reader.old) (λ xs.
-        Rounds M.Answers M.is_kept M.is_turned_away machine.old more xs (remaining R.remaining reader.new) (L.holds log.old) (L.holds log.new) (sent W.contents writer.old) (sent W.contents writer.new)
+        Rounds M.Answers M.is_kept M.is_turned_away M.own machine.old more xs (remaining R.remaining reader.new) (L.holds log.old) (L.holds log.new) (sent W.contents writer.old) (sent W.contents writer.new)
         ledger.old ledger.new machine.new)) }
     ensures err { IfErr result (λ e. IfSome (remaining R.remaining reader.old) (λ xs.
-        Fails M.Answers M.is_kept M.is_turned_away e machine.old xs (remaining R.remaining reader.new) (L.holds log.old) (L.holds log.new) (sent W.contents writer.old) (sent W.contents writer.new) ledger.old machine.new)) }
+        Fails M.Answers M.is_kept M.is_turned_away M.own e machine.old xs (remaining R.remaining reader.new) (L.holds log.old) (L.holds log.new) (sent W.contents writer.old) (sent W.contents writer.new) ledger.old machine.new)) }
     ensures failed { L.has_failed log.new ≡ blames_log result }
     ensures unread { IfErr result (λ e. e ≡ KeepFault.Read → HasNoMore reader.new) }
     ensures unsent { IfErr result (λ e. e ≡ KeepFault.Write → HasStopped writer.new) }
@@ -137,6 +137,9 @@ fn round<M: Keeping, L: Log, R: BufRead, W: Write>(
 /// answered, and so are those before a last line that lacks its end, which isn't run. Where a write fails, the lines that were run are
 /// logged, also those that aren't answered. Where the log fails, any bytes may stand behind what it held, and none of the lines is
 /// answered. After 18,446,744,073,709,551,615 lines the fault is `TooMany`.
+///
+/// Behind the lines that come together the machine's own are run, as long as one is due, up to 32. They are logged with them, before the
+/// mark, and their answers aren't sent. Where memory is lacking for one of them the run ends, as above.
 pub fn serve<M: Keeping, L: Log, R: BufRead, W: Write>(
     alloc: Global,
     machine: &mut M,
@@ -147,9 +150,9 @@ pub fn serve<M: Keeping, L: Log, R: BufRead, W: Write>(
 ) -> Result<(), KeepFault>
     requires { L.has_failed log.old ≡ false }
     ensures ok { OnOk result (IfSome (remaining R.remaining reader.old) (λ input.
-        Serves M.Answers M.is_kept M.is_turned_away machine.old input [] (L.holds log.old) (L.holds log.new) (sent W.contents writer.old) (sent W.contents writer.new) ledger.old ledger.new machine.new)) }
+        ServesAll M.Answers M.is_kept M.is_turned_away M.own machine.old input (L.holds log.old) (L.holds log.new) (sent W.contents writer.old) (sent W.contents writer.new) ledger.old ledger.new machine.new)) }
     ensures err { IfErr result (λ e. IfSome (remaining R.remaining reader.old) (λ input.
-        Fails M.Answers M.is_kept M.is_turned_away e machine.old input (remaining R.remaining reader.new) (L.holds log.old) (L.holds log.new) (sent W.contents writer.old) (sent W.contents writer.new) ledger.old machine.new)) }
+        Fails M.Answers M.is_kept M.is_turned_away M.own e machine.old input (remaining R.remaining reader.new) (L.holds log.old) (L.holds log.new) (sent W.contents writer.old) (sent W.contents writer.new) ledger.old machine.new)) }
     ensures failed { L.has_failed log.new ≡ blames_log result }
     ensures unread { IfErr result (λ e. e ≡ KeepFault.Read → HasNoMore reader.new) }
     ensures unsent { IfErr result (λ e. e ≡ KeepFault.Write → HasStopped writer.new) }

@@ -34,10 +34,10 @@ fn cut<L: Log>(log: &mut L, len: u64) -> Result<(), Failed>
 /// cut there. That is where the last mark ends. Of a log of form 1, which has no mark, it is where the last whole line ends, and then a mark
 /// is put there and synced. Then the input is answered as [`serve`] says, each line logged before it is answered.
 ///
-/// So what is answered is the end of what the machine answers to the log's lines and the input's, one behind the other; and what the
-/// log holds at the end stands for the store: run again from the beginning it leads there. Where a call fails, whatever a crash leaves has
-/// all that was answered, for good, and any bytes behind it: what a start makes of these says `a_start_runs_what_was_answered` of
-/// `gs_keep_mark`.
+/// So what is answered is the end of what the machine answers to the log's lines and the input's, one behind the other, but for what it
+/// answers to lines of its own; and what the log holds at the end stands for the store: run again from the beginning it leads there. Where
+/// a call fails, whatever a crash leaves has all that was answered, for good, and any bytes behind it: what a start makes of these says
+/// `a_start_runs_what_was_answered` of `gs_keep_mark`.
 ///
 /// Where the lines can't be run again, or what stands after them not be put aside, the log isn't changed. Then, and where it can't be cut,
 /// nothing of the input is read.
@@ -58,9 +58,9 @@ pub fn keep_on<M: Keeping, L: Log, B: BufRead, A: Rest, R: BufRead, W: Write, P:
     requires logged { ReadsLog head.now len (L.holds log.old) (remaining B.remaining logged.old) }
     requires rest { LeavesRest len (L.holds log.old) (A.bytes rest.old) }
     ensures ok { OnOk result (IfSome (remaining B.remaining logged.old) (λ script. IfSome (remaining R.remaining reader.old) (λ input.
-        KeepsOn M.Answers M.is_kept M.is_turned_away machine.old head.now script input len (L.holds log.old) (L.holds log.new) (sent W.contents writer.old) (sent W.contents writer.new) machine.new))) }
+        KeepsOn M.Answers M.is_kept M.is_turned_away M.own machine.old head.now script input len (L.holds log.old) (L.holds log.new) (sent W.contents writer.old) (sent W.contents writer.new) machine.new))) }
     ensures err { IfErr result (λ e. IfSome (remaining B.remaining logged.old) (λ script. IfSome (remaining R.remaining reader.old) (λ input.
-        StoreFails M.Answers M.is_kept M.is_turned_away e machine.old head.now script input (remaining R.remaining reader.new) len (L.holds log.old) (L.holds log.new) (sent W.contents writer.old) (sent W.contents writer.new) machine.new))) }
+        StoreFails M.Answers M.is_kept M.is_turned_away M.own e machine.old head.now script input (remaining R.remaining reader.new) len (L.holds log.old) (L.holds log.new) (sent W.contents writer.old) (sent W.contents writer.new) machine.new))) }
     ensures untouched { IfErr result (λ e. IsUntouched e (log.new ≡ log.old)) }
     ensures aside { AsideAs result (A.is_alone rest.new) }
     ensures same { A.bytes rest.new ≡ A.bytes rest.old }

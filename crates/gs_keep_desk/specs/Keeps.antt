@@ -2,7 +2,7 @@
 use Rattle.std.specs.Prelude.{◌≡◌, ◌⊎◌, ◌∷◌, ◌==◌, ℕ, List, [], Bool, Option, None, Some, true, false, is_some, MatchOption, refl}
 use Rattle.std.specs.List.{onto_first, slice_split}
 use Rattle.std.specs.Str.{is_utf8}
-use Rattle.std.proofs.Common.{ap, cond, inl, inr, true≢false, ◌∙◌}
+use Rattle.std.proofs.Common.{ap, cond, inl, inr, sym, true≢false, ◌∙◌}
 use Rattle.gs_shell_grammar.specs.Grammar.{Request, ◌>>=◌, form_request, four_words, line_request, number_line, number_request, one_word, three_words, two_words, words_request}
 use Rattle.gs_shell_grammar.specs.Operands.{number_of}
 use Rattle.gs_shell_script.specs.Run.{bad_line_text, memory_text}
@@ -46,6 +46,12 @@ other_lines_are_refused seen failures old new line text other may = at may.answe
     at : AnswersText seen failures old.desk line text new.desk → (text ≡ bad_line_text) ⊎ (text ≡ memory_text)
     at (inl h) = inr h.0
     at (inr h) = none_answered (line_request line) _ _ _ other h
+
+-- ---- lines of its own
+
+-- none is due
+pub none_is_due : {X : Type 0} (line : List ℕ) → None ≡ Some line → X
+none_is_due line due = absurd (true≢false (sym (ap is_some due)))
 
 -- ---- what begins as a mark is none of the grammar
 

@@ -63,14 +63,18 @@ impl<D: Disk + Drop> Answering for KeptDesk<D> {
 }
 
 impl<D: Disk + Drop> Keeping for KeptDesk<D> {
-    ghost use Rattle.std.specs.Prelude.{is_some};
+    ghost use Rattle.std.specs.Prelude.{None, is_some};
     ghost use Rattle.gs_shell_grammar.specs.Grammar.{line_request};
-    ghost use Rattle.gs_keep_desk.specs.Keeps.{marks_are_none, other_lines_are_refused, other_lines_change_nothing};
+    ghost use Rattle.gs_keep_desk.specs.Keeps.{marks_are_none, none_is_due, other_lines_are_refused, other_lines_change_nothing};
     ghost use Rattle.gs_keep_desk.specs.Looks.{harms_line};
 
     ghost is_kept = { λ line. is_some (line_request line) };
 
     ghost is_turned_away = { λ desk line. not desk.is_lab && harms_line line };
+
+    ghost own = { λ desk. None };
+
+    ghost own_lines_stand = { λ desk line due. none_is_due line due };
 
     ghost changes_nothing = { λ old new line text. other_lines_change_nothing D.seen D.failures old new line text };
 
@@ -95,5 +99,10 @@ impl<D: Disk + Drop> Keeping for KeptDesk<D> {
             Err(LineError::Memory) => Err(AllocError),
             Err(_) => Ok(false),
         }
+    }
+
+    /// A desk has no line of its own.
+    fn own_line(&self) -> Option<&'static [u8]> {
+        None
     }
 }

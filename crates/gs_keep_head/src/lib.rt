@@ -7,6 +7,8 @@ ghost use Rattle.gs_keep_head.specs.Head.{HeadAs, MoreAs, Reads, SizedAs, Sizes,
 
 mod before;
 mod name;
+#[cfg(test)]
+mod tests;
 
 pub use before::{Before, SUM_BYTES};
 use before::{BEFORE_WORDS, Sum, before_in};

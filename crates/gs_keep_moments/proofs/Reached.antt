@@ -45,9 +45,9 @@ untouched len h log' same = subst (LeavesFront len (Some h)) (sym same) left
 
 -- ---- where a run ends
 
-module _ {S : Type 0} (A : S → List ℕ → List ℕ → S → Type 0) (is_kept : List ℕ → Bool) (turns_away : S → List ℕ → Bool) where
+module _ {S : Type 0} (A : S → List ℕ → List ℕ → S → Type 0) (is_kept : List ℕ → Bool) (turns_away : S → List ℕ → Bool) (due : S → Option (List ℕ)) where
   at_end : (head script input : List ℕ) (len : ℕ) (h : Held) (log' : Option Held) (out out' : Option (List ℕ)) (start end : S)
-      → KeepsOn A is_kept turns_away start head script input len (Some h) log' out out' end → Answered A is_kept turns_away start head script input log' out out'
+      → KeepsOn A is_kept turns_away due start head script input len (Some h) log' out out' end → Answered A is_kept turns_away due start head script input log' out out'
   at_end head script input len h log' out out' start end k = record {
     batches = k.begins.batches;
     last = k.begins.last;
@@ -68,7 +68,7 @@ module _ {S : Type 0} (A : S → List ℕ → List ℕ → S → Type 0) (is_kep
 
   -- nothing more has gone out than the answers to what was done
   at_done : (f : KeepFault) (head script input : List ℕ) (left : Option (List ℕ)) (len : ℕ) (h : Held) (log' : Option Held) (out out' : Option (List ℕ)) (start end : S)
-      → (s : StopsOn A is_kept turns_away f start head script input left len (Some h) log' out out' end) → out' ≡ s.fails.written → Answered A is_kept turns_away start head script input log' out out'
+      → (s : StopsOn A is_kept turns_away due f start head script input left len (Some h) log' out out' end) → out' ≡ s.fails.written → Answered A is_kept turns_away due start head script input log' out out'
   at_done f head script input left len h log' out out' start end s same = record {
     batches = s.begins.batches;
     last = s.begins.last;
@@ -89,7 +89,7 @@ module _ {S : Type 0} (A : S → List ℕ → List ℕ → S → Type 0) (is_kep
 
   -- of the answers to the lines that waited a beginning has gone out, and the log has these lines for good
   at_write : (head script input : List ℕ) (left : Option (List ℕ)) (len : ℕ) (h : Held) (log' : Option Held) (out out' : Option (List ℕ)) (start end : S)
-      → StopsOn A is_kept turns_away keep.Write start head script input left len (Some h) log' out out' end → Answered A is_kept turns_away start head script input log' out out'
+      → StopsOn A is_kept turns_away due keep.Write start head script input left len (Some h) log' out out' end → Answered A is_kept turns_away due start head script input log' out out'
   at_write head script input left len h log' out out' start end s =
       let (w, kept, sent) = s.fails.last in
       let done = s.fails.done in
@@ -111,7 +111,7 @@ module _ {S : Type 0} (A : S → List ℕ → List ℕ → S → Type 0) (is_kep
         again = s.begins.again;
         parts = done.parts ∙ ap (λ (l : List (List ℕ)). lines_asked done.turns ++ l) w.parts ∙ sym (append_assoc (lines_asked done.turns) (lines_asked w.turns) (lines_of w.back))
             ∙ ap (λ (l : List (List ℕ)). l ++ lines_of w.back) (sym (lines_join done.turns w.turns));
-        answers = answers_join A is_kept turns_away s.mid s.fails.now end done.turns w.turns done.answers w.answers;
+        answers = answers_join A is_kept turns_away due s.mid s.fails.now end done.turns w.turns done.answers w.answers;
         gone_out = subst (AppendsBeginning out out') (sym (unlines_join done.turns w.turns)) (begun_join out s.fails.written out' (unlines (texts_of done.turns)) (unlines (texts_of w.turns)) done.written sent);
         logged = entries_join done.turns w.turns ∙ ap (λ (l : List Entry). l ++ es) done.logged ∙ ap (λ (l : List Entry). joined done.batches ++ l) (alone_joined es) ∙ sym (joined_join done.batches (alone es));
         plain = all_join _ done.batches (alone es) done.plain (alone_plain es w.plain);
@@ -119,7 +119,7 @@ module _ {S : Type 0} (A : S → List ℕ → List ℕ → S → Type 0) (is_kep
       }
 
   at_stop : (f : KeepFault) (head script input : List ℕ) (left : Option (List ℕ)) (len : ℕ) (h : Held) (log' : Option Held) (out out' : Option (List ℕ)) (start end : S)
-      → StopsOn A is_kept turns_away f start head script input left len (Some h) log' out out' end → Answered A is_kept turns_away start head script input log' out out'
+      → StopsOn A is_kept turns_away due f start head script input left len (Some h) log' out out' end → Answered A is_kept turns_away due start head script input log' out out'
   at_stop keep.Memory head script input left len h log' out out' start end s = at_done keep.Memory head script input left len h log' out out' start end s s.fails.last.1
   at_stop keep.Read head script input left len h log' out out' start end s = at_done keep.Read head script input left len h log' out out' start end s s.fails.last.2
   at_stop keep.Unended head script input left len h log' out out' start end s = at_done keep.Unended head script input left len h log' out out' start end s s.fails.last.3
@@ -128,7 +128,7 @@ module _ {S : Type 0} (A : S → List ℕ → List ℕ → S → Type 0) (is_kep
   at_stop keep.Write head script input left len h log' out out' start end s = at_write head script input left len h log' out out' start end s
 
   at_fault : (f : StoreFault) (head script input : List ℕ) (left : Option (List ℕ)) (len : ℕ) (h : Held) (log' : Option Held) (out out' : Option (List ℕ)) (start end : S)
-      → StoreFails A is_kept turns_away f start head script input left len (Some h) log' out out' end → AtMoment A is_kept turns_away start head script input len (Some h) log' out out'
+      → StoreFails A is_kept turns_away due f start head script input left len (Some h) log' out out' end → AtMoment A is_kept turns_away due start head script input len (Some h) log' out out'
   at_fault (fault.Replay f) head script input left len h log' out out' start end (ledger, told, fails, unread, same, unsent) = inl (unsent, inl (untouched len h log' same))
   at_fault fault.Aside head script input left len h log' out out' start end (same, unread, unsent) = inl (unsent, inl (untouched len h log' same))
   at_fault fault.Cut head script input left len h log' out out' start end (leaves, unread, unsent) = inl (unsent, inl leaves)
@@ -136,9 +136,9 @@ module _ {S : Type 0} (A : S → List ℕ → List ℕ → S → Type 0) (is_kep
   at_fault (fault.Serve f) head script input left len h log' out out' start end s = inr (at_stop f head script input left len h log' out out' start end s)
 
   pub at_moment : (r : Result (Unit {0}) StoreFault) (log log' : Option Held) (o p left : Option (List ℕ)) (head : List ℕ) (len : ℕ) (out out' : Option (List ℕ)) (start end : S)
-      → OnOk r (IfSome o (λ script. IfSome p (λ input. KeepsOn A is_kept turns_away start head script input len log log' out out' end)))
-      → IfErr r (λ f. IfSome o (λ script. IfSome p (λ input. StoreFails A is_kept turns_away f start head script input left len log log' out out' end)))
-      → IfSome log (λ h. IfSome o (λ script. IfSome p (λ input. AtMoment A is_kept turns_away start head script input len log log' out out')))
+      → OnOk r (IfSome o (λ script. IfSome p (λ input. KeepsOn A is_kept turns_away due start head script input len log log' out out' end)))
+      → IfErr r (λ f. IfSome o (λ script. IfSome p (λ input. StoreFails A is_kept turns_away due f start head script input left len log log' out out' end)))
+      → IfSome log (λ h. IfSome o (λ script. IfSome p (λ input. AtMoment A is_kept turns_away due start head script input len log log' out out')))
   at_moment r None log' o p left head len out out' start end ok err = tt
   at_moment r (Some h) log' None p left head len out out' start end ok err = tt
   at_moment r (Some h) log' (Some script) None left head len out out' start end ok err = tt

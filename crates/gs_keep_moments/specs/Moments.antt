@@ -17,7 +17,7 @@ pub record Stops {L : Type 0} (old new : StoppingLog L) : Type 0 where
   pub passed : 0 < old.calls → new.has_stopped ≡ old.has_stopped
 
 -- For a relation that says what may be answered to a line, and tests that say which lines a machine acts on, and which it turns away.
-module _ {S : Type 0} (A : S → List ℕ → List ℕ → S → Type 0) (is_kept : List ℕ → Bool) (turns_away : S → List ℕ → Bool) where
+module _ {S : Type 0} (A : S → List ℕ → List ℕ → S → Type 0) (is_kept : List ℕ → Bool) (turns_away : S → List ℕ → Bool) (due : S → Option (List ℕ)) where
   -- The lines that the log had are run again, and some of the input behind them. What has gone out is a beginning of the answers to these. Each crash leaves
   -- all that has to be logged of them, in batches, each with its mark, behind the lines that the log had, and any bytes behind that.
   pub record Answered (start : S) (head script input : List ℕ) (log' : Option Held) (out out' : Option (List ℕ)) : Type 0 where
@@ -31,7 +31,7 @@ module _ {S : Type 0} (A : S → List ℕ → List ℕ → S → Type 0) (is_kep
     pub is : script ≡ marked (beginning head) batches ++ text_of last
     pub again : RunsAgain A is_kept start (joined batches ++ last) mid
     pub parts : lines_of input ≡ lines_asked turns ++ lines_of rest
-    pub answers : AnswersAll A is_kept turns_away mid turns now
+    pub answers : AnswersAll A is_kept turns_away due mid turns now
     pub gone_out : AppendsBeginning out out' (unlines (texts_of turns))
     pub logged : entries turns ≡ joined more
     pub plain : AreBatches more

@@ -33,7 +33,7 @@ pub fn keep_until<M: Keeping, L: Log, B: BufRead, A: Rest, R: BufRead, W: Write,
     requires logged { ReadsLog head.now len (L.holds log.old.log) (remaining B.remaining logged.old) }
     requires rest { LeavesRest len (L.holds log.old.log) (A.bytes rest.old) }
     ensures { IfSome (L.holds log.old.log) (λ h. IfSome (remaining B.remaining logged.old) (λ script. IfSome (remaining R.remaining reader.old) (λ input.
-        AtMoment M.Answers M.is_kept M.is_turned_away machine.old head.now script input len (L.holds log.old.log) (L.holds log.new.log) (sent W.contents writer.old) (sent W.contents writer.new)))) }
+        AtMoment M.Answers M.is_kept M.is_turned_away M.own machine.old head.now script input len (L.holds log.old.log) (L.holds log.new.log) (sent W.contents writer.old) (sent W.contents writer.new)))) }
 {
     keep_on(
         alloc, machine, log, head, len, logged, rest, progress, reader, writer,

@@ -14,5 +14,5 @@ returns g c =
     let answered : g.M.Answering.Answers old (content c.args.line.now) shown new =
     subst (λ (l : List ℕ). g.M.Answering.Answers old l shown new) c.content_of.ensures
     (told g.M.Answering.Answers g.M.Keeping.is_kept string_bytes c.answer-answer.result shown c.content_of.result.now old new c.answer-answer.ensures.ok c.answer-answer.ensures.err c.text_of.ensures.ok c.text_of.ensures.err) in
-    on_ok c.put_answer.result _ _ (λ put short bytes ledger. ran_other g.M.Answering.Answers g.M.Keeping.is_kept g.M.Keeping.is_turned_away c.args.line.now shown old new bytes _ _ ledger short other taken
+    on_ok c.put_answer.result _ _ (λ put short bytes ledger. ran_other g.M.Answering.Answers g.M.Keeping.is_kept g.M.Keeping.is_turned_away g.M.Keeping.own c.args.line.now shown old new bytes _ _ ledger short other taken
     (g.met.M.Keeping.changes_nothing old new (content c.args.line.now) shown other answered) answered put) c.put_answer.ensures
