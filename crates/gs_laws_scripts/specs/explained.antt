@@ -7,6 +7,7 @@ pub mod Following
 pub mod Lines
 pub mod Looked
 pub mod Machine
+pub mod NewStores
 pub mod Rows
 pub mod Scripts
 pub mod Standing

@@ -9,6 +9,7 @@ ghost use Rattle.gs_laws_scripts.specs.explained.CalmCommits.{CalmAfterACommit, 
 ghost use Rattle.gs_laws_scripts.specs.explained.Changes.{CalmLinesAreExplained, ChangesAreExplainedThere, ChangesAreTold};
 ghost use Rattle.gs_laws_scripts.specs.explained.Digested.{DigestsAreExplained};
 ghost use Rattle.gs_laws_scripts.specs.explained.Following.{LooksComeBack, PlainAnswersAreAFunction};
+ghost use Rattle.gs_laws_scripts.specs.explained.NewStores.{BeginningsUntilAReadFails, BeginningsUntilAWriteFails, CalmFromTheBeginning, NewDesksStand};
 ghost use Rattle.gs_laws_scripts.specs.explained.Looked.{PlacesAreToldThere, StatusesAreToldThere};
 ghost use Rattle.gs_laws_scripts.specs.explained.Scripts.{AreExplainedUntilAReadFails, AreExplainedUntilAWriteFails, ScriptsOfTheTreeAreExplained};
 ghost use Rattle.gs_laws_scripts.specs.explained.Standing.{CommitsStand, StillLinesAreExplained};
@@ -107,6 +108,23 @@ pub fn calm_lines_after_a_commit_are_explained<D>()
     ensures ended { CalmAfterACommit D }
     ensures read_fails { CalmUntilAReadFails D }
     ensures write_fails { CalmUntilAWriteFails D }
+{
+    configurations_have_sizes();
+}
+
+/// A desk that has begun over empty disks stands for the new machine, whatever disks fail: for the one without names, in epoch 0 and at moment 0.
+fn a_new_desk_stands<D>()
+    ensures { NewDesksStand D }
+{
+    configurations_have_sizes();
+}
+
+/// From the first line of a script on the new machine explains what is answered: as long as each line is one of those that leave what stands, a `mkdir`, `create`, `mv`, `rm` or `undelete` that isn't answered by 29 (`Unsure`) or 33 (`Memory`), or a line about a path that is none.
+/// What the lines after them are, and are answered, is nothing to it. The disks are empty at first. They may fail, servers may lose and damage what they have, and messages may be held back.
+pub fn calm_lines_of_a_new_store_are_explained<D>()
+    ensures ended { CalmFromTheBeginning D }
+    ensures read_fails { BeginningsUntilAReadFails D }
+    ensures write_fails { BeginningsUntilAWriteFails D }
 {
     configurations_have_sizes();
 }

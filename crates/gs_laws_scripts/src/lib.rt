@@ -15,8 +15,8 @@ mod stops;
 pub use answers::a_script_answers_its_input;
 pub use bytes::{run_by_a_function, run_explained, run_listing, run_plainly, run_twice};
 pub use explained::{
-    calm_lines_after_a_commit_are_explained, lines_after_a_commit_are_explained,
-    scripts_of_the_tree_are_explained,
+    calm_lines_after_a_commit_are_explained, calm_lines_of_a_new_store_are_explained,
+    lines_after_a_commit_are_explained, scripts_of_the_tree_are_explained,
 };
 pub use lists::what_a_script_lists_behind_a_rollback_is_what_it_listed_behind_its_prepare;
 pub use plain::scripts_are_answered_as_by_the_plain_machine;

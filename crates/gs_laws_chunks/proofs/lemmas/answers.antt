@@ -3,6 +3,7 @@ pub mod Asked
 pub mod Parts
 pub mod Resting
 pub mod Sparing
+pub mod Beginning
 pub mod Behind
 pub mod Replied
 pub mod Served

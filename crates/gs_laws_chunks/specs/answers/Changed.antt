@@ -1,5 +1,5 @@
 -- What stands while a change of the tree is under way, and behind its answer.
-use Rattle.std.specs.Prelude.{◌∷◌, ◌≡◌, ◌≤◌, ◌⊎◌, Err, List, Ok, Result, Some, slice_get, true, ℕ}
+use Rattle.std.specs.Prelude.{◌∷◌, ◌≡◌, ◌≤◌, ◌⊎◌, Err, List, Ok, Result, Some, slice_get, true, ℕ, suc, ◌<◌}
 use Rattle.std.specs.List.{AllByRecursion}
 use Rattle.gs_base.specs.declared.config.Config.{Config}
 use Rattle.gs_base.specs.declared.numbers.ClientId.{ClientId}
@@ -64,7 +64,7 @@ pub record IsEdited (moment : Moment) (call : Call) (d e : Durable) : Type 0 whe
   pub phase : e.phase ≡ d.phase
   pub epoch : e.epoch ≡ d.epoch
 
--- Such names stand, of some moment, no call waits, and the client has had its request of this number, or a later one.
+-- Such names stand, of some moment, no call waits, and the client has had all its requests below this number.
 pub record StandsEdited (d : Durable) (call : Call) (client : ClientId) (number : ℕ) (s : State) : Type 0 where
   pub durable : Durable
   pub moment : Moment
@@ -73,11 +73,11 @@ pub record StandsEdited (d : Durable) (call : Call) (client : ClientId) (number 
 
 -- a call is of this client: it is the one that was asked, or it looks, or it is older
 abbrev pub IsOwnLooksOrOld : ClientId → ℕ → ReqId → Call → ReqId → Call → Type 0
-IsOwnLooksOrOld client number req call other said = (other.client ≡ client) × (((other.number ≤ number) × (other.number ≤ req.number)) ⊎ ((is_look said ≡ true) ⊎ ((other ≡ req) × (said ≡ call))))
+IsOwnLooksOrOld client number req call other said = (other.client ≡ client) × (((other.number < number) × (other.number ≤ req.number)) ⊎ ((is_look said ≡ true) ⊎ ((other ≡ req) × (said ≡ call))))
 
 -- The old names stand, or the new ones with the number had.
 abbrev pub StandsEither : Durable → ClientId → ℕ → ReqId → Call → State → Type 0
-StandsEither d client number req call s = StandsStill d client number s ⊎ StandsEdited d call client req.number s
+StandsEither d client number req call s = StandsStill d client number s ⊎ StandsEdited d call client (suc req.number) s
 
 abbrev pub IsUnderWay : {D : Type 0} → Durable → ClientId → ℕ → ReqId → Call → History D → Type 0
 IsUnderWay d client number req call h = IsSo (IsOwnLooksOrOld client number req call) (StandsEither d client number req call) h
@@ -103,12 +103,12 @@ pub record IsChanged {D : Type 0} (d : Durable) (client : ClientId) (number : �
   pub turn : HadItsTurn d client number req call (Ok answer) steps
   pub changes : Changes turn.state req (edit_for turn.state.durable turn.moment call) (new_call turn.config turn.state req turn.moment call)
   pub edited : IsEdited turn.moment call d (new_call turn.config turn.state req turn.moment call).after.durable
-  pub still : IsStill (new_call turn.config turn.state req turn.moment call).after.durable client req.number h
+  pub still : IsStill (new_call turn.config turn.state req turn.moment call).after.durable client (suc req.number) h
 
 -- The old names are what stands, and nothing of before changes them.
 pub record IsLeft {D : Type 0} (d : Durable) (client : ClientId) (number : ℕ) (req : ReqId) (call : Call) (refusal : Refusal) (steps : List Step) (h : History D) : Type 0 where
   pub turn : HadItsTurn d client number req call (Err refusal) steps
-  pub still : IsStill d client req.number h
+  pub still : IsStill d client (suc req.number) h
 
 -- ---- what is to hold
 

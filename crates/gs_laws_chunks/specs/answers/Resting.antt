@@ -1,5 +1,5 @@
 -- What stands while a client only looks.
-use Rattle.std.specs.Prelude.{◌≡◌, ◌≤◌, ◌⊎◌, List, Some, true, ℕ}
+use Rattle.std.specs.Prelude.{◌≡◌, ◌≤◌, ◌⊎◌, List, Some, true, ℕ, zero, suc, ◌<◌}
 use Rattle.std.specs.List.{AllByRecursion}
 use Rattle.gs_base.specs.declared.numbers.ClientId.{ClientId}
 use Rattle.gs_base.specs.declared.numbers.ReqId.{ReqId}
@@ -25,22 +25,27 @@ use Rattle.gs_laws_chunks.specs.answers.Answered.{spares_master}
 use Rattle.gs_laws_chunks.specs.answers.Asked.{IsNumbered}
 use Rattle.std.specs.Prelude.{slice_get}
 
--- the names, the number of the next deletion, the phase and the epoch are these, no call waits, and the client has had its request of this number, or a later one
+-- The client has had its request of the number before this one, or a later one. Of nothing before the first nothing is said.
+abbrev pub HasHadBelow : State → ClientId → ℕ → Type 0
+HasHadBelow s client zero = Unit {0}
+HasHadBelow s client (suc number) = HasHad s client number
+
+-- the names, the number of the next deletion, the phase and the epoch are these, no call waits, and the client has had all its requests below this number that it will ever have
 pub record StandsStill (d : Durable) (client : ClientId) (number : ℕ) (s : State) : Type 0 where
   pub names : s.durable.names ≡ d.names
   pub hidden : s.durable.next_hidden ≡ d.next_hidden
   pub phase : s.durable.phase ≡ d.phase
   pub epoch : s.durable.epoch ≡ d.epoch
   pub none : (req : ReqId) → is_pending s.volatile.pending req ≡ true → ⊥
-  pub had : HasHad s client number
+  pub had : HasHadBelow s client number
 
 abbrev pub StandsStillAt : {D : Type 0} → Durable → ClientId → ℕ → MasterPlace D → Type 0
 StandsStillAt d client number (Standing m) = StandsStill d client number m.state
 StandsStillAt d client number place = Unit {0}
 
--- a call is of this client, and it looks, or its number is at most this
+-- a call is of this client, and it looks, or its number is below this
 abbrev pub IsOldOrLooks : ClientId → ℕ → Body → Type 0
-IsOldOrLooks client number (bodies.Call req call) = (req.client ≡ client) × ((req.number ≤ number) ⊎ (is_look call ≡ true))
+IsOldOrLooks client number (bodies.Call req call) = (req.client ≡ client) × ((req.number < number) ⊎ (is_look call ≡ true))
 IsOldOrLooks client number body = Unit {0}
 
 -- So it is of each call that was ever sent, and so the master stands.

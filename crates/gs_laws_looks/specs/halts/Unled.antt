@@ -1,5 +1,5 @@
 -- That no chunk of a file has a primary while a client only looks.
-use Rattle.std.specs.Prelude.{◌≡◌, List, Result, true, ℕ}
+use Rattle.std.specs.Prelude.{◌≡◌, List, Result, true, ℕ, suc}
 use Rattle.std.specs.List.{AllByRecursion}
 use Rattle.gs_base.specs.declared.numbers.ClientId.{ClientId}
 use Rattle.gs_base.specs.declared.numbers.ReqId.{ReqId}
@@ -70,8 +70,8 @@ module _ {D : Type 0} (seen : D → List ℕ) (failures : D → ℕ) (armed : Di
     pub on_the_way : GoesBy seen failures armed (λ h. Passes seen failures armed h c.steps c.asked mid c.runs) c.steps c.asked mid c.req call answer made
     pub durable : Durable
     pub stands : StandsOn made.next.nodes.master durable
-    pub begun : IsHalted seen durable client c.req.number made.next
-    pub halted : IsHalted seen durable client c.req.number mid
+    pub begun : IsHalted seen durable client (suc c.req.number) made.next
+    pub halted : IsHalted seen durable client (suc c.req.number) mid
 
   -- So it is where it is the only client, and asks nothing else but look-ups meanwhile.
   abbrev pub CommitsHalt : Type 0

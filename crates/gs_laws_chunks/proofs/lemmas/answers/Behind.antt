@@ -1,5 +1,5 @@
 -- What a client lists behind a commit that was answered to it.
-use Rattle.std.proofs.Common.{if◌then◌else◌, ◌≡◌, ◌∙◌, ◌⊎◌, inl, inr, ◌≤◌, ◌++◌, ℕ, zero, suc, Bool, true, false, List, [], ◌∷◌, Option, Some, Result, Ok, Err, refl, sym, ap, subst, arith}
+use Rattle.std.proofs.Common.{if◌then◌else◌, ◌≡◌, ◌∙◌, ◌⊎◌, inl, inr, ◌≤◌, ◌++◌, ℕ, ◌<◌, zero, suc, Bool, true, false, List, [], ◌∷◌, Option, Some, Result, Ok, Err, refl, sym, ap, subst, arith}
 use Rattle.std.specs.Prelude.{Contains, MatchBool}
 use Rattle.std.specs.FinMap as fin
 use Rattle.std.specs.List.{AllByRecursion}
@@ -306,13 +306,13 @@ module _ {D : Type 0} (seen : D → List ℕ) (failures : D → ℕ) (armed : Di
     node_is : {a b : Node} → ◌≡◌ {A = Option Node} (Some a) (Some b) → a ≡ b
     node_is is = cc
 
-    old_calls : (from : NodeId) (body : Body) → SaysOf (HasAsked mid.nodes.clients) from body → IsOldOrLooks client c.req.number body
+    old_calls : (from : NodeId) (body : Body) → SaysOf (HasAsked mid.nodes.clients) from body → IsOldOrLooks client (suc c.req.number) body
     old_calls from (bodies.Call req other) of = (only req.client of.1.node of.1.there, inl (low req of.1))
       where
-        low : (req : ReqId) → HasAsked mid.nodes.clients req → req.number ≤ c.req.number
+        low : (req : ReqId) → HasAsked mid.nodes.clients req → req.number < suc c.req.number
         low req has = up_to req.number has.node.last c.req.number has.number (ap (λ (n : Node). n.last) (node_is (sym (subst (λ k. client_in mid.nodes.clients k ≡ Some has.node) (only req.client has.node has.there) has.there) ∙ c.there)) ∙ c.last)
           where
-            up_to : (a b k : ℕ) → a ≤ b → b ≡ k → a ≤ k
+            up_to : (a b k : ℕ) → a ≤ b → b ≡ k → a < suc k
             up_to a b k first is = omega arith
     old_calls from (bodies.Reply req result) of = tt
     old_calls from (bodies.About chunk said) of = tt
@@ -331,10 +331,10 @@ module _ {D : Type 0} (seen : D → List ℕ) (failures : D → ℕ) (armed : Di
     abbrev d : Durable
     d = there.after.state.durable
 
-    still_next : IsStill d client c.req.number made.next
+    still_next : IsStill d client (suc c.req.number) made.next
     still_next = record {
       sent = λ id message was. old_calls message.from message.body (are_mid.sent id message (stays id message was));
-      master = subst (StandsStillAt d client c.req.number) (sym there.stands) (record {
+      master = subst (StandsStillAt d client (suc c.req.number)) (sym there.stands) (record {
         names = refl;
         hidden = refl;
         phase = refl;
@@ -345,8 +345,8 @@ module _ {D : Type 0} (seen : D → List ℕ) (failures : D → ℕ) (armed : Di
       numbered = are_next.numbered;
     }
 
-    still_mid : IsStill d client c.req.number mid
-    still_mid = stays_still seen failures armed d client c.req.number made.after made.next mid made.rest (all_back (IsLooking client) made.before (Comes made.event ∷ made.after) parts_look).1 still_next
+    still_mid : IsStill d client (suc c.req.number) mid
+    still_mid = stays_still seen failures armed d client (suc c.req.number) made.after made.next mid made.rest (all_back (IsLooking client) made.before (Comes made.event ∷ made.after) parts_look).1 still_next
 
     sound : is_failed there.after.state.fault ≡ false
     sound = ap (λ (u : State). is_failed u.fault) there.is ∙ ap is_failed commits.fault ∙ commits.sound
@@ -362,8 +362,8 @@ module _ {D : Type 0} (seen : D → List ℕ) (failures : D → ℕ) (armed : Di
       are_start : AreAsked seen start
       are_start = asked_spared seen failures armed way mid start leads (all_spare client way way_looks) way_within types_mid lasts_mid are_mid
 
-      still_start : IsStill d client c.req.number start
-      still_start = stays_still seen failures armed d client c.req.number way mid start leads way_looks still_mid
+      still_start : IsStill d client (suc c.req.number) start
+      still_start = stays_still seen failures armed d client (suc c.req.number) way mid start leads way_looks still_mid
 
       told : WasAnswered seen failures armed l.steps l.asked new l.req (calls.List path) listed
       told = (answers_are_made seen failures armed start l.asked new l.moment l.req (calls.List path) l.steps l.node listed are_start l.asks refl l.runs (all_spare client l.steps l.looking) (subst (λ k. client_in new.nodes.clients k ≡ Some l.node) (sym l.own) l.there) l.last l.reply).0
@@ -371,14 +371,14 @@ module _ {D : Type 0} (seen : D → List ℕ) (failures : D → ℕ) (armed : Di
       looks_before : AllByRecursion (IsLooking client) told.before
       looks_before = all_front (IsLooking client) told.before (Comes told.event ∷ told.after) (subst (AllByRecursion (IsLooking client)) told.parts l.looking)
 
-      still_now : IsStill d client c.req.number told.now
-      still_now = stays_still seen failures armed d client c.req.number (asks_call l.moment l.req (calls.List path) ∷ told.before) start told.now (l.asked, (Ok tt, l.asks.happens), told.first) ((refl, (l.own, refl)), looks_before) still_start
+      still_now : IsStill d client (suc c.req.number) told.now
+      still_now = stays_still seen failures armed d client (suc c.req.number) (asks_call l.moment l.req (calls.List path) ∷ told.before) start told.now (l.asked, (Ok tt, l.asks.happens), told.first) ((refl, (l.own, refl)), looks_before) still_start
 
       there_then : MadeThere seen failures armed told.now told.event.moment told.answers.master l.req (calls.List path) listed told.next.nodes
       there_then = made_there seen failures armed told.now told.event told.said told.next told.happens l.req (calls.List path) listed told.answers
 
-      stands_then : StandsStill d client c.req.number told.answers.master.state
-      stands_then = subst (StandsStillAt d client c.req.number) told.answers.stands still_now.master
+      stands_then : StandsStill d client (suc c.req.number) told.answers.master.state
+      stands_then = subst (StandsStillAt d client (suc c.req.number)) told.answers.stands still_now.master
 
       pub lists_by : ListsByCommit seen failures armed client old call answer mid path listed c
       lists_by = record {

@@ -70,7 +70,7 @@ use Rattle.gs_laws_world.specs.steady.Steady.{IsHeardAt, StepWithin}
 use Rattle.gs_laws_world.specs.steady.Through.{LastsThrough}
 use Rattle.gs_laws_chunks.proofs.lemmas.answers.Behind.{made_there}
 use Rattle.gs_laws_chunks.proofs.lemmas.answers.Parts.{Armed, Asked, Heard, Opened, Part, Rested, Served, Ticked, Told, part_of, with_client}
-use Rattle.gs_laws_chunks.proofs.lemmas.answers.Resting.{stays_still}
+use Rattle.gs_laws_chunks.proofs.lemmas.answers.Resting.{had_below, no_less, stays_still}
 use Rattle.gs_laws_chunks.proofs.lemmas.answers.Sparing.{lasts_spared}
 use Rattle.gs_laws_chunks.proofs.lemmas.calls.Turns.{said_is, steady_there, steps_stand_for}
 use Rattle.gs_laws_chunks.specs.answers.Answered.{spares_master}
@@ -280,7 +280,7 @@ module _ (d : Durable) (client : ClientId) (number : ℕ) (config : Config) (s :
       begins req is = by_says (subst (IsOldOrLooks client number) is says)
         where
           by_says : IsOldOrLooks client number (bodies.Call req calls.PrepareBegin) → Calm (handle config s message moment).after
-          by_says (own, inl low) = subst Calm (sym (old_handled config s moment client number so.had message req calls.PrepareBegin is own low)) calm
+          by_says (own, inl low) = subst Calm (sym (old_handled config s moment client req.number (had_below s client number req.number low so.had) message req calls.PrepareBegin is own (no_less req.number))) calm
           by_says (own, inr looks) = absurd (false≢true looks)
 
       by_begin : (b : Bool) → is_begin message.body ≡ b → is_failed s.fault ≡ false → Calm (handle config s message moment).after

@@ -1,5 +1,5 @@
 -- A change of the tree that is under way, and what stands once its client has a reply.
-use Rattle.std.proofs.Common.{◌≡◌, ◌∙◌, inl, inr, ◌<◌, ◌≤◌, ◌++◌, ℕ, Bool, true, false, List, [], ◌∷◌, Option, Some, Result, Ok, Err, refl, sym, ap, subst, arith}
+use Rattle.std.proofs.Common.{◌≡◌, ◌∙◌, inl, inr, ◌<◌, ◌≤◌, ◌++◌, ℕ, suc, Bool, true, false, List, [], ◌∷◌, Option, Some, Result, Ok, Err, refl, sym, ap, subst, arith}
 use Rattle.std.specs.List.{AllByRecursion}
 use Rattle.std.proofs.lemmas.Bool.{false≢true}
 use Rattle.gs_base.specs.Told.{IsNumber}
@@ -200,7 +200,7 @@ module _ {D : Type 0} (seen : D → List ℕ) (failures : D → ℕ) (armed : Di
 
     heard_calm : (m : MasterOf D) (message : Message) (moment : Moment) → CallsSo So message.body → (is_failed m.state.fault ≡ false → EndsOnce m.config (IsMadeWellFor m.config (said_from message.from message.body)) m.state (handle m.config m.state message moment)) → Either m.state → IsCalm m.state
         → IsCalm (handle m.config m.state message moment).after
-    heard_calm m message moment says once (inr new) calm = handle_calm new.durable client req.number m.config m.state new.still message moment (as_old d client number req call is mine message.body says) once calm
+    heard_calm m message moment says once (inr new) calm = handle_calm new.durable client (suc req.number) m.config m.state new.still message moment (as_old d client number req call is mine message.body says) once calm
     heard_calm m message moment says once (inl so) calm = by_begin (is_begin message.body) refl
       where
         by_begin : (b : Bool) → is_begin message.body ≡ b → IsCalm (handle m.config m.state message moment).after
@@ -319,16 +319,16 @@ module _ {D : Type 0} (seen : D → List ℕ) (failures : D → ℕ) (armed : Di
 
     -- behind it
     module _ (there : SaidThere seen failures armed made.now made.event.moment made.answers.master req call result made.next.nodes) where
-      still_next : (e : Durable) → t.after.durable.names ≡ e.names → t.after.durable.next_hidden ≡ e.next_hidden → t.after.durable.phase ≡ e.phase → t.after.durable.epoch ≡ e.epoch → HasHad t.after req.client req.number → IsStill e client req.number made.next
+      still_next : (e : Durable) → t.after.durable.names ≡ e.names → t.after.durable.next_hidden ≡ e.next_hidden → t.after.durable.phase ≡ e.phase → t.after.durable.epoch ≡ e.epoch → HasHad t.after req.client req.number → IsStill e client (suc req.number) made.next
       still_next e names hidden phase epoch had = record {
         sent = λ id message was. as_old d client number req call is mine message.body (way_next.sent id message was);
-        master = subst (StandsStillAt e client req.number) (sym there.stands)
-            (subst (StandsStill e client req.number) (sym there.is) (record { names = names; hidden = hidden; phase = phase; epoch = epoch; none = none_waits; had = subst (λ k. HasHad t.after k req.number) mine had }));
+        master = subst (StandsStillAt e client (suc req.number)) (sym there.stands)
+            (subst (StandsStill e client (suc req.number)) (sym there.is) (record { names = names; hidden = hidden; phase = phase; epoch = epoch; none = none_waits; had = subst (λ k. HasHad t.after k req.number) mine had }));
         numbered = way_next.numbered;
       }
 
-      still_mid : (e : Durable) → IsStill e client req.number made.next → IsStill e client req.number mid
-      still_mid e next = stays_still seen failures armed e client req.number made.after made.next mid made.rest here_look.1 next
+      still_mid : (e : Durable) → IsStill e client (suc req.number) made.next → IsStill e client (suc req.number) mid
+      still_mid e next = stays_still seen failures armed e client (suc req.number) made.after made.next mid made.rest here_look.1 next
 
   -- ---- an answer
 

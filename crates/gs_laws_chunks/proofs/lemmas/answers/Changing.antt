@@ -1,5 +1,5 @@
 -- The turns of a master while a change of the tree is under way.
-use Rattle.std.proofs.Common.{if◌then◌else◌, ◌≡◌, ◌∙◌, inl, inr, ◌<◌, ◌≤◌, ℕ, Bool, true, false, List, [], ◌∷◌, Option, Some, None, Result, Ok, Err, refl, sym, ap, subst, arith}
+use Rattle.std.proofs.Common.{if◌then◌else◌, ◌≡◌, ◌∙◌, inl, inr, ◌<◌, ◌≤◌, ℕ, suc, Bool, true, false, List, [], ◌∷◌, Option, Some, None, Result, Ok, Err, refl, sym, ap, subst, arith}
 use Rattle.std.specs.Prelude.{◌&&◌, ◌==◌, is_none, nat_lt, not}
 use Rattle.std.specs.FinMap as fin
 use Rattle.gs_base.specs.Told.{IsNumber}
@@ -48,7 +48,7 @@ use Rattle.gs_laws_moves.proofs.lemmas.answers.Resting.{no_answer, sound_so}
 use Rattle.gs_laws_chunks.specs.answers.Changed.{CallsSo, IsEdited, IsOwnLooksOrOld, StandsEither}
 use Rattle.gs_laws_chunks.specs.answers.Resting.{IsOldOrLooks, StandsStill}
 use Rattle.gs_laws_chunks.proofs.lemmas.answers.Behind.{turn_is}
-use Rattle.gs_laws_chunks.proofs.lemmas.answers.Resting.{TurnStill, heard_still, nobody_still}
+use Rattle.gs_laws_chunks.proofs.lemmas.answers.Resting.{TurnStill, below_more, heard_still, nobody_still}
 use Rattle.gs_laws_chunks.proofs.lemmas.answers.Staying.{TurnSo}
 
 -- ---- a change that is accepted fits what a firm master has
@@ -167,12 +167,12 @@ module _ (d : Durable) (client : ClientId) (number : ℕ) (req : ReqId) (call : 
   from_old : (s : State) (t : Turn) → TurnStill d client number s t → TurnSo Either s t
   from_old s t so = record { after = inl so.after; cuts = λ place within. inl (so.cuts place within) }
 
-  from_new : (e : Durable) (moment : Moment) → IsEdited moment call d e → (s : State) (t : Turn) → TurnStill e client req.number s t → TurnSo Either s t
+  from_new : (e : Durable) (moment : Moment) → IsEdited moment call d e → (s : State) (t : Turn) → TurnStill e client (suc req.number) s t → TurnSo Either s t
   from_new e moment edited s t so = record { after = inr (record { durable = e; moment = moment; edited = edited; still = so.after }); cuts = λ place within. inr (record { durable = e; moment = moment; edited = edited; still = so.cuts place within }) }
 
   pub nobody_either : (s : State) (t : Turn) → AnswersOnly (IsConcerned s None) s t → Either s → TurnSo Either s t
   nobody_either s t only (inl so) = from_old s t (nobody_still d client number s t only so)
-  nobody_either s t only (inr new) = from_new new.durable new.moment new.edited s t (nobody_still new.durable client req.number s t only new.still)
+  nobody_either s t only (inr new) = from_new new.durable new.moment new.edited s t (nobody_still new.durable client (suc req.number) s t only new.still)
 
   -- what is made of the names that stood is made of the old ones
   pub edited_then : (before : Durable) → before.names ≡ d.names → before.next_hidden ≡ d.next_hidden → before.phase ≡ d.phase → before.epoch ≡ d.epoch → (moment : Moment) (e : Durable) → names_after (edit_for before moment call) before.names ≡ Ok e.names
@@ -213,7 +213,7 @@ module _ (d : Durable) (client : ClientId) (number : ℕ) (req : ReqId) (call : 
       phase = leaves.phase ∙ so.phase;
       epoch = leaves.epoch ∙ so.epoch;
       none = λ other there. so.none other (alone.waits other there);
-      had = subst (λ c. HasHad t.after c number) mine (leaves.had number (subst (λ c. HasHad s c number) (sym mine) so.had));
+      had = below_more s t.after client (λ low had. subst (λ c. HasHad t.after c low) mine (leaves.had low (subst (λ c. HasHad s c low) (sym mine) had))) number so.had;
     })
 
     nought : {n m : ℕ} → m ≤ 1 → n < m → n ≡ 0
@@ -267,19 +267,22 @@ module _ (d : Durable) (client : ClientId) (number : ℕ) (req : ReqId) (call : 
 
   -- ---- whatever it hears
 
-  below_itself : (n : ℕ) → n ≤ n
-  below_itself n = omega arith
+  below_next : (n : ℕ) → n < suc n
+  below_next n = omega arith
+
+  one_more : (a b : ℕ) → a ≤ b → a < suc b
+  one_more a b most = omega arith
 
   -- to who has had the change each call is old, or it looks
-  pub as_old : (body : Body) → CallsSo So body → IsOldOrLooks client req.number body
-  as_old (bodies.Call other said) (same, inl low) = (same, inl low.1)
+  pub as_old : (body : Body) → CallsSo So body → IsOldOrLooks client (suc req.number) body
+  as_old (bodies.Call other said) (same, inl low) = (same, inl (one_more other.number req.number low.1))
   as_old (bodies.Call other said) (same, inr (inl looks)) = (same, inr looks)
-  as_old (bodies.Call other said) (same, inr (inr own)) = (same, inl (subst (λ (r : ReqId). r.number ≤ req.number) (sym own.0) (below_itself req.number)))
+  as_old (bodies.Call other said) (same, inr (inr own)) = (same, inl (subst (λ (r : ReqId). r.number < suc req.number) (sym own.0) (below_next req.number)))
   as_old body says = tt
 
   pub heard_either : (config : Config) (s : State) (message : Message) (moment : Moment) → IsNamedBody message.body → IsNumber moment.0 → (is_failed s.fault ≡ false → IsFirm s) → CallsSo So message.body → Either s → TurnSo Either s (handle config s message moment)
   heard_either config s message moment named bound firm says (inr new) =
-      from_new new.durable new.moment new.edited s (handle config s message moment) (heard_still new.durable client req.number config s message moment message.body refl (as_old message.body says) new.still)
+      from_new new.durable new.moment new.edited s (handle config s message moment) (heard_still new.durable client (suc req.number) config s message moment message.body refl (as_old message.body says) new.still)
   heard_either config s message moment named bound firm says (inl so) = by_body message.body refl named says
     where
       own : (other : ReqId) (said : Call) → message.body ≡ bodies.Call other said → IsNamedCall said → (other ≡ req) × (said ≡ call) → TurnSo Either s (handle config s message moment)

@@ -1,5 +1,5 @@
 -- What stands while a client only looks.
-use Rattle.std.proofs.Common.{if◌then◌else◌, ◌≡◌, ◌∙◌, ◌⊎◌, inl, inr, ◌<◌, ◌≤◌, ◌++◌, ℕ, Bool, true, false, List, [], ◌∷◌, length, Option, Some, None, MatchOption, Result, Ok, Err, refl, sym, ap, subst, arith}
+use Rattle.std.proofs.Common.{if◌then◌else◌, ◌≡◌, ◌∙◌, ◌⊎◌, inl, inr, ◌<◌, ◌≤◌, ◌++◌, ℕ, zero, suc, Bool, true, false, List, [], ◌∷◌, length, Option, Some, None, MatchOption, Result, Ok, Err, refl, sym, ap, subst, arith}
 use Rattle.std.specs.Prelude.{take}
 use Rattle.std.specs.FinMap as fin
 use Rattle.std.specs.List.{AllByRecursion}
@@ -53,7 +53,7 @@ use Rattle.gs_world.specs.Sent.{Sent}
 use Rattle.gs_laws_lift.proofs.lemmas.stores.Posting.{posted_all}
 use Rattle.gs_laws_lift.specs.stores.Going.{AllSent, Posts}
 use Rattle.gs_laws_chunks.specs.answers.Answered.{sent_by, spares_master}
-use Rattle.gs_laws_chunks.specs.answers.Resting.{AsksLooks, IsLooking, IsOldOrLooks, IsStill, StandsStill, StandsStillAt, StaysStill}
+use Rattle.gs_laws_chunks.specs.answers.Resting.{AsksLooks, HasHadBelow, IsLooking, IsOldOrLooks, IsStill, StandsStill, StandsStillAt, StaysStill}
 use Rattle.gs_laws_chunks.proofs.lemmas.answers.Asked.{Numbered_all, Waits, hearing_same, lacking_only, own_id, still_numbered}
 use Rattle.gs_laws_chunks.proofs.lemmas.answers.Parts.{Armed, Asked, Heard, Opened, Part, Rested, Served, Ticked, Told, asking, hearing, part_of, with_client}
 
@@ -66,6 +66,22 @@ look_at_once call is = absurd (false≢true is)
 
 none_called : {T : Type 0} (req : ReqId) → ◌≡◌ {A = Option ReqId} None (Some req) → T
 none_called req is = absurd cc
+
+-- ---- what its client has had
+
+pub below_more : (s u : State) (client : ClientId) → ((low : ℕ) → HasHad s client low → HasHad u client low) → (number : ℕ) → HasHadBelow s client number → HasHadBelow u client number
+below_more s u client more zero had = tt
+below_more s u client more (suc number) had = more number had
+
+pub had_below : (s : State) (client : ClientId) (number low : ℕ) → low < number → HasHadBelow s client number → HasHad s client low
+had_below s client zero low less had = absurd (omega arith)
+had_below s client (suc number) low less had = record { reply = had.reply; has = had.has; late = up_to low number had.reply.number less had.late }
+  where
+    up_to : (a b c : ℕ) → a < suc b → b ≤ c → a ≤ c
+    up_to a b c first second = omega arith
+
+pub no_less : (n : ℕ) → n ≤ n
+no_less n = omega arith
 
 module _ (d : Durable) (client : ClientId) (number : ℕ) where
   abbrev Still : State → Type 0
@@ -86,14 +102,14 @@ module _ (d : Durable) (client : ClientId) (number : ℕ) where
   quiet : (s : State) (messages : List Message) (said : Option Refusal) → Still s → TurnStill s (record { after = s; records = []; sent = messages; said = said })
   quiet s messages said so = record { after = so; cuts = λ place within. absurd (omega arith) }
 
-  had_same : (s u : State) → u.durable.replies ≡ s.durable.replies → u.volatile.replies ≡ s.volatile.replies → HasHad s client number → HasHad u client number
-  had_same s u durable memory had =
-      subst (λ (m : fin.FinMap client_cmp KeptReply). IsFrom number (later (fin.get m client) (fin.get u.volatile.replies client))) (sym durable)
-      (subst (λ (m : fin.FinMap client_cmp KeptReply). IsFrom number (later (fin.get s.durable.replies client) (fin.get m client))) (sym memory) had)
+  had_same : (s u : State) → u.durable.replies ≡ s.durable.replies → u.volatile.replies ≡ s.volatile.replies → (low : ℕ) → HasHad s client low → HasHad u client low
+  had_same s u durable memory low had =
+      subst (λ (m : fin.FinMap client_cmp KeptReply). IsFrom low (later (fin.get m client) (fin.get u.volatile.replies client))) (sym durable)
+      (subst (λ (m : fin.FinMap client_cmp KeptReply). IsFrom low (later (fin.get s.durable.replies client) (fin.get m client))) (sym memory) had)
 
   rests_still : (s u : State) → StaysAtRest s u → ((req : ReqId) → is_pending u.volatile.pending req ≡ true → ⊥) → Still s → Still u
   rests_still s u rests none so =
-      record { names = rests.0.names ∙ so.names; hidden = rests.0.hidden ∙ so.hidden; phase = rests.0.phase ∙ so.phase; epoch = rests.0.epoch ∙ so.epoch; none = none; had = had_same s u rests.0.replies rests.1 so.had }
+      record { names = rests.0.names ∙ so.names; hidden = rests.0.hidden ∙ so.hidden; phase = rests.0.phase ∙ so.phase; epoch = rests.0.epoch ∙ so.epoch; none = none; had = below_more s u client (had_same s u rests.0.replies rests.1) number so.had }
 
   -- nobody is concerned
   pub nobody_still : (s : State) (t : Turn) → AnswersOnly (IsConcerned s None) s t → Still s → TurnStill s t
@@ -137,8 +153,8 @@ module _ (d : Durable) (client : ClientId) (number : ℕ) where
         by_opened false = by_waits (is_pending s.volatile.pending req)
 
     -- one that its client has had
-    old_turn : req.number ≤ number → TurnStill s (call_turn config s req moment call)
-    old_turn low = taken (λ new. absurd (had_not_new s req.client number req.number (subst (λ c. HasHad s c number) (sym same) so.had) low new))
+    old_turn : req.number < number → TurnStill s (call_turn config s req moment call)
+    old_turn low = taken (λ new. absurd (had_not_new s req.client req.number req.number (subst (λ c. HasHad s c req.number) (sym same) (had_below s client number req.number low so.had)) (no_less req.number) new))
 
     -- one that looks
     look_turn : is_look call ≡ true → TurnStill s (call_turn config s req moment call)
@@ -166,13 +182,13 @@ module _ (d : Durable) (client : ClientId) (number : ℕ) where
           phase = leaves.phase ∙ so.phase;
           epoch = leaves.epoch ∙ so.epoch;
           none = λ other there. so.none other (alone.1.waits other there);
-          had = subst (λ c. HasHad t.after c number) same (leaves.had number (subst (λ c. HasHad s c number) (sym same) so.had));
+          had = below_more s t.after client (λ low had. subst (λ c. HasHad t.after c low) same (leaves.had low (subst (λ c. HasHad s c low) (sym same) had))) number so.had;
         }
 
         no_cut : (place : ℕ) → place ≡ 0 → Still (cut s t.records place)
         no_cut place is = subst (λ k. Still (cut s t.records k)) (sym is) (record { names = so.names; hidden = so.hidden; phase = so.phase; epoch = so.epoch; none = so.none; had = so.had })
 
-    called : (req.number ≤ number) ⊎ (is_look call ≡ true) → TurnStill s (call_turn config s req moment call)
+    called : (req.number < number) ⊎ (is_look call ≡ true) → TurnStill s (call_turn config s req moment call)
     called (inl low) = old_turn low
     called (inr is) = look_turn is
 
@@ -180,7 +196,7 @@ module _ (d : Durable) (client : ClientId) (number : ℕ) where
     by_fault true first second = quiet s [] first so
     by_fault false first second = quiet s [] second so
 
-    from_any : (from : NodeId) → (req.number ≤ number) ⊎ (is_look call ≡ true) → TurnStill s (from_node config s moment (bodies.Call req call) from)
+    from_any : (from : NodeId) → (req.number < number) ⊎ (is_look call ≡ true) → TurnStill s (from_node config s moment (bodies.Call req call) from)
     from_any nodes.Master how = quiet s [] (Some refusals.Stray) so
     from_any (nodes.Server server) how = by_fault (is_failed s.fault) (Some refusals.Device) (Some refusals.Stray)
     from_any (nodes.Client other) how = called how

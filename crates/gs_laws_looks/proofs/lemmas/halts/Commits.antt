@@ -1,5 +1,5 @@
 -- Behind the commit of a prepare, or of a rollback, no chunk of a file has a primary.
-use Rattle.std.proofs.Common.{◌≡◌, ◌∙◌, inl, ◌≤◌, ◌++◌, ℕ, true, false, List, [], ◌∷◌, Option, Some, Result, Ok, refl, sym, ap, subst, arith}
+use Rattle.std.proofs.Common.{◌≡◌, ◌∙◌, inl, ◌≤◌, ◌++◌, ℕ, suc, ◌<◌, true, false, List, [], ◌∷◌, Option, Some, Result, Ok, refl, sym, ap, subst, arith}
 use Rattle.std.specs.List.{AllByRecursion}
 use Rattle.std.proofs.lemmas.Bool.{false≢true}
 use Rattle.gs_base.specs.declared.config.Config.{Config}
@@ -218,13 +218,13 @@ module _ {D : Type 0} (seen : D → List ℕ) (failures : D → ℕ) (armed : Di
     node_is : {a b : Node} → ◌≡◌ {A = Option Node} (Some a) (Some b) → a ≡ b
     node_is is = cc
 
-    old_calls : (from : NodeId) (body : Body) → SaysOf (HasAsked mid.nodes.clients) from body → IsOldOrLooks client c.req.number body
+    old_calls : (from : NodeId) (body : Body) → SaysOf (HasAsked mid.nodes.clients) from body → IsOldOrLooks client (suc c.req.number) body
     old_calls from (bodies.Call req other) of = (only req.client of.1.node of.1.there, inl (low req of.1))
       where
-        low : (req : ReqId) → HasAsked mid.nodes.clients req → req.number ≤ c.req.number
+        low : (req : ReqId) → HasAsked mid.nodes.clients req → req.number < suc c.req.number
         low req has = up_to req.number has.node.last c.req.number has.number (ap (λ (n : Node). n.last) (node_is (sym (subst (λ k. client_in mid.nodes.clients k ≡ Some has.node) (only req.client has.node has.there) has.there) ∙ c.there)) ∙ c.last)
           where
-            up_to : (a b k : ℕ) → a ≤ b → b ≡ k → a ≤ k
+            up_to : (a b k : ℕ) → a ≤ b → b ≡ k → a < suc k
             up_to a b k first is = omega arith
     old_calls from body of = tt
 
@@ -234,10 +234,10 @@ module _ {D : Type 0} (seen : D → List ℕ) (failures : D → ℕ) (armed : Di
     abbrev d : Durable
     d = its_there.after.state.durable
 
-    still_next : IsStill d client c.req.number made.next
+    still_next : IsStill d client (suc c.req.number) made.next
     still_next = record {
       sent = λ id message was. old_calls message.from message.body (are_mid.sent id message (sent_stays id message was));
-      master = subst (StandsStillAt d client c.req.number) (sym its_there.stands) (record {
+      master = subst (StandsStillAt d client (suc c.req.number)) (sym its_there.stands) (record {
         names = refl;
         hidden = refl;
         phase = refl;
@@ -270,9 +270,9 @@ module _ {D : Type 0} (seen : D → List ℕ) (failures : D → ℕ) (armed : Di
       stands = record { master = its_there.after; stands = its_there.stands; sound = sound_behind made.now made.next made.event made.said made.happens c.req call answer halt here_within.0 types_now lasts_now made.answers; keeps = refl };
       begun = record { still = still_next; quiet = quiet_next; named = named_next; asked = are_next; types = types_next; lasts = lasts_at_next };
       halted = record {
-        still = stays_still seen failures armed d client c.req.number made.after made.next mid made.rest here_look.1 still_next;
-        quiet = run_quiet seen failures d client c.req.number armed made.after made.next mid made.rest here_within.1 here_look.1 types_next lasts_at_next still_next quiet_next;
-        named = run_named seen failures d client c.req.number armed made.after made.next mid made.rest here_within.1 here_look.1 types_next lasts_at_next still_next named_next;
+        still = stays_still seen failures armed d client (suc c.req.number) made.after made.next mid made.rest here_look.1 still_next;
+        quiet = run_quiet seen failures d client (suc c.req.number) armed made.after made.next mid made.rest here_within.1 here_look.1 types_next lasts_at_next still_next quiet_next;
+        named = run_named seen failures d client (suc c.req.number) armed made.after made.next mid made.rest here_within.1 here_look.1 types_next lasts_at_next still_next named_next;
         asked = are_mid;
         types = run_keeps seen failures armed (ask ∷ c.steps) old mid to_mid c.within keeps;
         lasts = lasts_spared seen failures armed (ask ∷ c.steps) old mid to_mid ask_spares c.within keeps lasts;

@@ -35,7 +35,7 @@ use Rattle.gs_laws_chunks.specs.answers.Answered.{spares_master}
 use Rattle.gs_laws_chunks.specs.answers.Resting.{IsLooking, IsOldOrLooks, IsStill, StandsStill, StandsStillAt}
 use Rattle.gs_laws_chunks.proofs.lemmas.answers.Behind.{all_spare}
 use Rattle.gs_laws_chunks.proofs.lemmas.answers.Parts.{Armed, Asked, Heard, Opened, Part, Rested, Served, Ticked, Told, part_of, with_client}
-use Rattle.gs_laws_chunks.proofs.lemmas.answers.Resting.{stays_still}
+use Rattle.gs_laws_chunks.proofs.lemmas.answers.Resting.{had_below, stays_still}
 use Rattle.gs_laws_chunks.proofs.lemmas.answers.Sparing.{asked_spared, goes_spared, lasts_spared}
 use Rattle.gs_laws_world.proofs.lemmas.steady.Keeping.{run_keeps, step_keeps, step_within}
 use Rattle.gs_laws_world.proofs.lemmas.steady.Through.{sound_tells, step_on, tells_once, tells_some}
@@ -48,13 +48,7 @@ use Rattle.gs_laws_looks.specs.halts.Unled.{HasNames, IsHalted, IsUnledAt, Stays
 -- ---- what is heard calls nothing
 
 calls_nothing : (d : Durable) (client : ClientId) (number : ℕ) (s : State) (body : Body) → StandsStill d client number s → IsOldOrLooks client number body → CallsNothing s body
-calls_nothing d client number s (bodies.Call req call) so (same, inl low) = inr (subst (λ c. HasHad s c req.number) (sym same) (lower so.had))
-  where
-    less : (a b c : ℕ) → a ≤ b → b ≤ c → a ≤ c
-    less a b c first second = omega arith
-
-    lower : HasHad s client number → HasHad s client req.number
-    lower had = record { reply = had.reply; has = had.has; late = less req.number number had.reply.number low had.late }
+calls_nothing d client number s (bodies.Call req call) so (same, inl low) = inr (subst (λ c. HasHad s c req.number) (sym same) (had_below s client number req.number low so.had))
 calls_nothing d client number s (bodies.Call req call) so (same, inr looks) = inl looks
 calls_nothing d client number s body so says = tt
 

@@ -1,5 +1,5 @@
 -- What a client reads behind a rollback is what it read behind its prepare.
-use Rattle.std.proofs.Common.{◌≡◌, ◌∙◌, ◌+◌, ◌++◌, Bool, true, false, List, [], ◌∷◌, None, Option, Some, Ok, ℕ, refl, sym, ap, subst, slice_get}
+use Rattle.std.proofs.Common.{◌≡◌, ◌∙◌, ◌+◌, ◌++◌, Bool, true, false, List, [], ◌∷◌, None, Option, Some, Ok, ℕ, suc, refl, sym, ap, subst, slice_get}
 use Rattle.std.specs.Prelude.{length}
 use Rattle.std.specs.FinMap as fin
 use Rattle.std.specs.List.{AllByRecursion}
@@ -353,11 +353,11 @@ module _ (sizes : HaveSizes) (law : AreNumbered) {D : Type 0} (rises : (x : Setu
       (good_next r.old r.prepared calls.PrepareCommit epoch refl r.prepares old all.prepares one).well
 
   abbrev file_one : Stands
-  file_one = file seen failures (stays_halted seen failures unarmed) (answers_are_by_names seen failures unarmed) config clients disks among (parts_are_given sizes x (fetched x)) (reads_are_of_unled sizes law x) given d1 client r.prepares.req.number path one.made.next so.first reaches.0 one.begun so.is_first
+  file_one = file seen failures (stays_halted seen failures unarmed) (answers_are_by_names seen failures unarmed) config clients disks among (parts_are_given sizes x (fetched x)) (reads_are_of_unled sizes law x) given d1 client (suc r.prepares.req.number) path one.made.next so.first reaches.0 one.begun so.is_first
       (calm_prepared d1.phase upgrades)
 
   are_one : AreOf file_one r.reads.pairs
-  are_one = are_of seen failures (stays_halted seen failures unarmed) (answers_are_by_names seen failures unarmed) config clients disks among (parts_are_given sizes x (fetched x)) (reads_are_of_unled sizes law x) given d1 client r.prepares.req.number path one.made.next so.first reaches.0 one.begun so.is_first
+  are_one = are_of seen failures (stays_halted seen failures unarmed) (answers_are_by_names seen failures unarmed) config clients disks among (parts_are_given sizes x (fetched x)) (reads_are_of_unled sizes law x) given d1 client (suc r.prepares.req.number) path one.made.next so.first reaches.0 one.begun so.is_first
       (calm_prepared d1.phase upgrades) r.reads.pairs looks_one r.start r.end accounts_one.0 accounts_one.1 (all_join (IsLooking client) one.made.after S3 (looking_after r.old r.prepared calls.PrepareCommit epoch refl r.prepares old all.prepares one) r.way.looking)
       r.reads.exchanged (asks_so path reading seen failures client had r.start r.end r.reads) all.reads
 
@@ -374,11 +374,11 @@ module _ (sizes : HaveSizes) (law : AreNumbered) {D : Type 0} (rises : (x : Setu
       (good_next r.later r.back calls.RollbackCommit (epoch + 1) refl r.commits later all.commits two).well
 
   abbrev file_two : Stands
-  file_two = file seen failures (stays_halted seen failures unarmed) (answers_are_by_names seen failures unarmed) config clients disks among (parts_are_given sizes x (fetched x)) (reads_are_of_unled sizes law x) given d2 client r.commits.req.number path two.made.next so.behind reaches.1 two.begun so.is_behind
+  file_two = file seen failures (stays_halted seen failures unarmed) (answers_are_by_names seen failures unarmed) config clients disks among (parts_are_given sizes x (fetched x)) (reads_are_of_unled sizes law x) given d2 client (suc r.commits.req.number) path two.made.next so.behind reaches.1 two.begun so.is_behind
       (calm_back d2.phase ordinary)
 
   are_two : AreOf file_two r.again.pairs
-  are_two = are_of seen failures (stays_halted seen failures unarmed) (answers_are_by_names seen failures unarmed) config clients disks among (parts_are_given sizes x (fetched x)) (reads_are_of_unled sizes law x) given d2 client r.commits.req.number path two.made.next so.behind reaches.1 two.begun so.is_behind
+  are_two = are_of seen failures (stays_halted seen failures unarmed) (answers_are_by_names seen failures unarmed) config clients disks among (parts_are_given sizes x (fetched x)) (reads_are_of_unled sizes law x) given d2 client (suc r.commits.req.number) path two.made.next so.behind reaches.1 two.begun so.is_behind
       (calm_back d2.phase ordinary) r.again.pairs looks_two r.start_then r.last accounts_two.0 accounts_two.1 (all_join (IsLooking client) two.made.after S7 (looking_after r.later r.back calls.RollbackCommit (epoch + 1) refl r.commits later all.commits two) r.way_then.looking)
       r.again.exchanged (asks_so path reading seen failures client has r.start_then r.last r.again) all.again
 

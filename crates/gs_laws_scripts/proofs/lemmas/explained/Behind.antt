@@ -1,5 +1,5 @@
 -- What stands behind a change of the tree that a client has asked and taken the reply to, where the names stand there.
-use Rattle.std.proofs.Common.{[], ap, refl, subst, sym, ◌∷◌, ◌∙◌, ◌≡◌, List, Ok, false, true, ℕ}
+use Rattle.std.proofs.Common.{[], ap, refl, subst, sym, ◌∷◌, ◌∙◌, ◌≡◌, List, Ok, false, true, ℕ, suc}
 use Rattle.std.specs.FinMap as fin
 use Rattle.std.specs.List.{AllByRecursion}
 use Rattle.gs_base.specs.Told.{IsNumber}
@@ -60,7 +60,7 @@ module _ {D : Type 0} (seen : D → List ℕ) (failures : D → ℕ) (d e : Dura
   spare = (refl, all_spare the_client a.steps a.looking)
 
   -- where the names stand behind such a change, nothing disturbs them
-  pub rests_behind : IsStill e the_client a.req.number mid → IsUndisturbed seen e a.req.number mid
+  pub rests_behind : IsStill e the_client (suc a.req.number) mid → IsUndisturbed seen e (suc a.req.number) mid
   rests_behind still = record {
     still = still;
     asked = asked_spared seen failures unarmed steps old mid runs spare a.within u.types u.lasts u.asked;
@@ -97,15 +97,15 @@ module _ {D : Type 0} (seen : D → List ℕ) (failures : D → ℕ) (config : C
     pub ours : IsClientOf config new.caller.client
 
   -- the desk stands for the machine that shows the names then
-  pub stands_behind : (call : Call) → is_change call ≡ true → (mid : History D) (t : IsTaken call mid) (e : Durable) → IsStill e the_client t.since.req.number mid → (next : Machine) → ShowsNames e next → next.moment ≡ m.moment → Stands seen config new next
+  pub stands_behind : (call : Call) → is_change call ≡ true → (mid : History D) (t : IsTaken call mid) (e : Durable) → IsStill e the_client (suc t.since.req.number) mid → (next : Machine) → ShowsNames e next → next.moment ≡ m.moment → Stands seen config new next
   stands_behind call is mid t e still next shows same = record {
     sent = t.after;
     covers = t.covers;
     moment = t.moment;
     ours = t.ours;
     durable = e;
-    number = t.since.req.number;
-    rests = undisturbed_on seen failures e t.since.req.number (Takes the_client ∷ []) mid (history t.after (way_of new.wire)) t.takes (tt, tt) ((refl, tt), tt)
+    number = suc t.since.req.number;
+    rests = undisturbed_on seen failures e (suc t.since.req.number) (Takes the_client ∷ []) mid (history t.after (way_of new.wire)) t.takes (tt, tt) ((refl, tt), tt)
         (rests_behind seen failures st.durable e st.number call is before mid st.rests t.since still);
     shows = shows;
     now = same ∙ st.now ∙ ap (λ (moment : Moment). moment.0) (sym t.same);

@@ -1,5 +1,5 @@
 -- After a prepare or a rollback that is accepted the names stand while nothing is asked but look-ups.
-use Rattle.std.proofs.Common.{[], ap, arith, inl, inr, refl, subst, sym, ◌++◌, ◌<◌, ◌∷◌, ◌∙◌, ◌≡◌, List, None, Ok, Some, false, length, true, ℕ, ◌^◌}
+use Rattle.std.proofs.Common.{[], ap, arith, inl, inr, refl, subst, sym, ◌++◌, ◌<◌, ◌∷◌, ◌∙◌, ◌≡◌, List, None, Ok, Some, false, length, true, ℕ, suc, ◌^◌}
 use Rattle.std.specs.FinMap as fin
 use Rattle.std.specs.List.{AllByRecursion}
 use Rattle.gs_base.specs.Told.{IsNumber}
@@ -155,12 +155,12 @@ module _ (sizes : HaveSizes) {D : Type 0} (seen : D → List ℕ) (failures : D 
         (done.has.within.0, all_front IsStepWithin halts.made.before (StepComes halts.made.event ∷ halts.made.after) within_all) types lasts
 
     calm : IsCalmAt done.mid.nodes.master
-    calm = stays_calm seen failures unarmed halts.durable the_client done.has.req.number halts.made.after halts.made.next done.mid halts.made.rest (all_back IsStepWithin halts.made.before (StepComes halts.made.event ∷ halts.made.after) within_all).1
+    calm = stays_calm seen failures unarmed halts.durable the_client (suc done.has.req.number) halts.made.after halts.made.next done.mid halts.made.rest (all_back IsStepWithin halts.made.before (StepComes halts.made.event ∷ halts.made.after) within_all).1
         (all_back (IsLooking the_client) halts.made.before (StepComes halts.made.event ∷ halts.made.after) later).1 halts.begun.types halts.begun.lasts halts.begun.still
         (commits_are_calm seen failures unarmed halts.made.now halts.made.next halts.made.event halts.made.said halts.made.happens done.has.req commit (says.Epoch epoch) halt lasts_then halts.made.answers)
 
-    rests : IsUndisturbed seen halts.durable done.has.req.number (history done.after (way_of new.wire))
-    rests = undisturbed_on seen failures halts.durable done.has.req.number (Takes the_client ∷ []) done.mid (history done.after (way_of new.wire)) done.takes (tt, tt) ((refl, tt), tt)
+    rests : IsUndisturbed seen halts.durable (suc done.has.req.number) (history done.after (way_of new.wire))
+    rests = undisturbed_on seen failures halts.durable (suc done.has.req.number) (Takes the_client ∷ []) done.mid (history done.after (way_of new.wire)) done.takes (tt, tt) ((refl, tt), tt)
         (record { still = halts.halted.still; asked = halts.halted.asked; types = halts.halted.types; lasts = halts.halted.lasts; served = served; replied = replied; calm = calm; one = one_client })
 
     -- ---- the turn of the commit
@@ -206,7 +206,7 @@ module _ (sizes : HaveSizes) {D : Type 0} (seen : D → List ℕ) (failures : D 
         moment = subst (λ (m : Moment). IsNumber m.0) (sym done.moment) first.moment;
         ours = still_mine seen failures config one.mid (at new) (requests.Call commit) (replies.Answer (says.Epoch epoch)) mine one.commits;
         durable = halts.durable;
-        number = done.has.req.number;
+        number = suc done.has.req.number;
         rests = rests;
         shows = it_shows new.wire.moment.0 halts.durable;
         now = refl;

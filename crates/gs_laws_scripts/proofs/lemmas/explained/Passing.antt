@@ -114,7 +114,7 @@ module _ {D : Type 0} (seen : D → List ℕ) (failures : D → ℕ) (client : C
   calm_on : (old new : Way D) (sent : Sent) → Calm seen failures client old new sent → LooksOn old.moment old new sent
   calm_on old new sent c = record { steps = c.steps; after = c.after; runs = c.runs; covers = c.covers; within = c.within; looking = c.looking; moment = c.moment }
 
-  delivers_on : (old new : Way D) → DeliversWhole seen failures old new → Leads old new
+  pub delivers_on : (old new : Way D) → DeliversWhole seen failures old new → Leads old new
   delivers_on old new d sent covers small = calm_on old new sent (delivers_whole seen failures client old new d sent covers small)
 
   ticks_on : (old new : Way D) → TicksWhole seen failures old new → Leads old new

@@ -32,7 +32,7 @@ use Rattle.gs_laws_scripts.proofs.lemmas.plain.Serving.{client_at}
 use Rattle.gs_laws_scripts.proofs.lemmas.plain.Telling.{IsAt}
 use Rattle.gs_laws_scripts.specs.plain.Machines.{new_machine}
 
-rows_of_blank : fin.entries blank.tree ≡ root_rows
+pub rows_of_blank : fin.entries blank.tree ≡ root_rows
 rows_of_blank =
     same_entries path_cmp path_total paths_antisymmetric (fin.entries blank.tree) root_rows (fin.entries_sorted blank.tree) tt
     (λ q. sym (fin.get-entries blank.tree q) ∙ fin.get-from_entries path_total root_rows q)
