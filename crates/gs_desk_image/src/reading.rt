@@ -82,8 +82,9 @@ fn disk_of(alloc: Global, part: &[u8]) -> Result<MemoryDisk, AllocError>
     Ok(MemoryDisk::new(Vec::from_slice(alloc, part)?))
 }
 
-/// The desk whose image has these parts. It rests: a restart of the master opens its disks. `Form` exactly where they are the parts of
-/// no image: bytes are lacking or left, there is no store of the sizes, or there are other servers than these say.
+/// The desk whose image has these parts. It rests: a restart of the master opens its disks, and says whether they hold a journal. `Form`
+/// exactly where they are the parts of no image: bytes are lacking or left, there is no store of the sizes, or there are other servers
+/// than these say.
 pub fn desk_of(alloc: Global, parts: &[&[u8]]) -> Result<Desk<MemoryDisk>, Fault>
     ensures { IsDeskOf (store_in (pointed parts.now)) result }
 {

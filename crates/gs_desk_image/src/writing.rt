@@ -37,7 +37,8 @@ fn closed_disks<D: Disk>(place: &MasterPlace<D>) -> Option<(&D, &D)>
 }
 
 /// The parts of a desk's image. `Form` exactly where it doesn't rest, or as many bytes as a field has don't tell of it. What a restart
-/// drops of its servers isn't written, nor the number that its client's node used last: it is the client's.
+/// drops of its servers isn't written, nor the number that its client's node used last: it is the client's. Nor is it written which client
+/// it is: who reads the image has client 1, of the sizes.
 pub fn put_parts(desk: &Desk<MemoryDisk>, alloc: Global) -> Result<Vec<Vec<u8>>, Fault>
     ensures { IsImageOf desk.now result }
 {

@@ -80,8 +80,8 @@ Ends gathered.Full result = result ≡ Err fault.TooMany
 module _ {S : Type 0} (A : S → List ℕ → List ℕ → S → Type 0) (is_kept : List ℕ → Bool) (turns_away : S → List ℕ → Bool) (due : S → Option (List ℕ)) where
   -- ---- a run, or a part of one
 
-  -- The lines of the input before the rest are run. Those that have to be logged are, in batches, each with its mark and for good, and
-  -- then their answers are written. At the end the ledger tells of all that the log holds.
+  -- The lines of the input before the rest are run, and among them lines of the machine's own that were due. Those that have to be
+  -- logged are, in batches, each with its mark and for good, and then the answers to the input's are written. At the end the ledger tells of all that the log holds.
   pub record Serves (start : S) (input rest : List ℕ) (log log' : Option Held) (out out' : Option (List ℕ)) (ledger ledger' : Ledger) (end : S) : Type 0 where
     pub turns : List Turn
     pub batches : List (List Entry)

@@ -255,6 +255,7 @@ impl Batch {
         }
         Ok(Gathered::Some)
     }
+
     /// Runs lines of the input, and then those of the machine's own that are due. `Err` where memory was lacking for the answer to one of them.
     pub(crate) fn gather<M: Keeping, R: BufRead>(
         &mut self,

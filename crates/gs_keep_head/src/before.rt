@@ -23,9 +23,9 @@ pub struct Before {
     pub sum: [u8; SUM_BYTES],
     /// How many lines the logs before have, without their marks.
     pub lines: u64,
-    /// The digest of all their bytes.
+    /// The digest of all bytes of the log before, its first line and its marks too.
     pub text: [u8; SUM_BYTES],
-    /// The digest of all answers to their lines, each with its end.
+    /// The digest of all answers to the lines of the log before, each with its end.
     pub answers: [u8; SUM_BYTES],
 }
 

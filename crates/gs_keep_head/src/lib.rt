@@ -1,4 +1,5 @@
-//! The first line of the log of a store that is kept: its form, the sizes of the store, and the name that was drawn for the log.
+//! The first line of the log of a store that is kept: its form, the sizes of the store, the name that was drawn for the log, and what was
+//! before it where it begins from an image.
 #![tactic(auto)]
 
 ghost use Rattle.std.specs.Prelude.{◌≡◌, ◌≢◌, ◌==◌, ℕ, true, false, length, bytes_eq, codes, if◌then◌else◌, IfOk, IfErr, map, string_bytes};

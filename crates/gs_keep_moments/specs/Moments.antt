@@ -16,7 +16,7 @@ pub record Stops {L : Type 0} (old new : StoppingLog L) : Type 0 where
   pub stopped : old.calls ≡ 0 → (new.log ≡ old.log) × (new.has_stopped ≡ true)
   pub passed : 0 < old.calls → new.has_stopped ≡ old.has_stopped
 
--- For a relation that says what may be answered to a line, and tests that say which lines a machine acts on, and which it turns away.
+-- For a relation that says what may be answered to a line, and tests that say which lines a machine acts on, which it turns away, and which one of its own is due.
 module _ {S : Type 0} (A : S → List ℕ → List ℕ → S → Type 0) (is_kept : List ℕ → Bool) (turns_away : S → List ℕ → Bool) (due : S → Option (List ℕ)) where
   -- The lines that the log had are run again, and some of the input behind them. What has gone out is a beginning of the answers to these. Each crash leaves
   -- all that has to be logged of them, in batches, each with its mark, behind the lines that the log had, and any bytes behind that.
