@@ -44,7 +44,7 @@ fn of_each_request_to_a_server_its_client_has_asked<D>()
     configurations_have_sizes();
 }
 
-/// A refusal that a client gets to a call that is answered at once was told in the turn of that very call, since the client asked. Or the master tells it without judging the call: the call is an older one (19), a disk has failed (32), or one fails at the record of the refusal (29).
+/// A refusal that a client gets to a call that is answered at once was told in the turn of that very call, since the client asked. Or the master tells it without judging the call: a disk has failed (32), or one fails at the record of the refusal (29).
 /// No server says anything of the number of a call. The master isn't started again meanwhile, and no failure of a disk is arranged.
 fn a_refusal_is_made_for_its_call<D>()
     ensures { (seen : D → List ℕ) (failures : D → ℕ) (armed : DiskId → ℕ → MasterPlace D → MasterPlace D) → RefusalsAreMade seen failures armed }
@@ -62,7 +62,7 @@ fn each_reply_was_sent_for_its_request<D>()
     ensures kept { (seen : D → List ℕ) (failures : D → ℕ) (armed : DiskId → ℕ → MasterPlace D → MasterPlace D) → StaysReplied seen failures armed }
 {}
 
-/// As long as a client only looks, whatever else comes, the names, the phase and the epoch of the master stand where no call waits, and all that was called before has a number that the client has had: nothing of before changes them.
+/// As long as a client only looks, whatever else comes, the names, the number of the next deletion, the phase and the epoch of the master stand where no call waits, and all that was called before has a number that the client has had: nothing of before changes them.
 fn names_stand_while_a_client_looks<D>()
     ensures { (seen : D → List ℕ) (failures : D → ℕ) (armed : DiskId → ℕ → MasterPlace D → MasterPlace D) → StaysStill seen failures armed }
 {}
@@ -89,7 +89,7 @@ fn a_call_that_is_answered_by_itself_has_its_reply<D>()
 
 /// A client asks for a new directory, a new file, a rename, a deletion or an undelete where no call waits, and all that was called before has a number that it has had. As long as it asks nothing else but look-ups, the old names stand at the master, or the new ones with the number of the call had.
 /// Once it has the answer, the new names stand, with the phase and the epoch of before, no call waits, and all that was called has a number that the client has had. Once it has a refusal that is kept and is sure, the old names stand so. No prepare is begun meanwhile, unless a disk fails, where none was.
-/// It isn't refused since its request is an old one (19), as long as the client asks nothing else. A deletion is of the moment of a step since it was asked, and takes the number of the next one.
+/// It isn't refused since its request is an old one (19), as long as the client asks nothing else. A deletion takes the number of the next one. Where all steps since it was asked are at one moment, it is of that moment.
 /// So it is whatever else comes, how often, and in which order, and whatever disks fail.
 fn a_change_of_the_tree_leaves_a_store_still<D>()
     ensures under_way { (seen : D → List ℕ) (failures : D → ℕ) (armed : DiskId → ℕ → MasterPlace D → MasterPlace D) → ChangesStayUnderWay seen failures armed }

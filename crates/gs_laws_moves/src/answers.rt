@@ -35,7 +35,7 @@ fn looks_leave_names_and_commits_are_had()
 {}
 
 /// A new directory, a new file, a rename, a deletion and an undelete are answered at once where they are new: such a call gets one reply by the event that brings it, no other call is answered, and none begins to wait. Where it is accepted, and its record fits,
-/// the names are those of its edit, the phase and the epoch are what they were, and its client has had its reply. A deletion takes a number, unless nothing stands at its path: then the names stay. Where it is refused nothing changes but what is kept of it. None that is judged is told that its request is an old one.
+/// the names are those of its edit, the phase and the epoch are what they were, and its client has had its reply. A deletion takes the number of the next one. Where nothing stands at its path it takes none, and the names stay. Where it is refused nothing changes but what is kept of it. None that is judged is told that its request is an old one.
 fn changes_are_answered_at_once_and_had()
     ensures at_once { ChangesAnswerAtOnce }
     ensures made { ChangesAreMade }

@@ -15,9 +15,11 @@ pub fn a_script_answers_its_input<D>()
     ensures twice { ScriptsAnswerAlike D }
 {}
 
-/// A `tick` is answered `ok`, and the master ticks first. Where 4,096 records stand behind its last checkpoint, no upgrade is being prepared, and a
-/// checkpoint of what stands has room on a disk, that checkpoint alone is what its journal says right behind its tick. It is said of a master that
-/// stands firm and steady, where memory isn't wanting at the tick and no disk fails in it. So a store that refuses lines since its journal is full goes on.
+/// A `tick` is answered `ok`, and the master ticks first. Say no disk has failed, and the master stands firm and steady. Say 4,096 records stand
+/// behind its last checkpoint, those of this tick among them, a generation is left, no upgrade is being prepared, and a checkpoint of what stands
+/// has room on a disk. Then that checkpoint alone is what its journal says right behind its tick. It is said where the desk has noted no want of
+/// memory, before the tick or in it, and no disk fails in it. So what stood in the journal before takes no room there any more. Whether a later
+/// line finds room isn't said.
 pub fn a_tick_makes_room<D>()
     ensures { TicksMakeRoom D }
 {}

@@ -35,7 +35,7 @@ pub fn run_plainly<R: BufRead, W: Write>(
 
 /// Answers the lines of the reader as `run_telling` of `gs_shell` does. Where it tells that nothing went wrong within the store, and no answer is `refused 33 Memory`, the machine of trees and texts that explains answers
 /// explains what lines of the tree and of an upgrade are answered, so long as no answer is that there is no room (30) or that a counter has no value left (31).
-/// Whatever went wrong, it explains what is answered from the first line on, and right after a prepare or a rollback that is answered by an epoch, while lines look at names, change them or are about nodes (`calm_lines_of_a_new_store_are_explained`, `calm_lines_after_a_commit_are_explained`).
+/// Whatever went wrong, it explains what is answered from the first line on, and right after a prepare or a rollback that is answered by an epoch, while lines are of the kinds, with the answers, that these contracts name (`calm_lines_of_a_new_store_are_explained`, `calm_lines_after_a_commit_are_explained`).
 /// This is said of the bytes that are read and written, and of what is told, alone, however the run ends.
 pub fn run_explained<R: BufRead, W: Write>(
     alloc: Global,

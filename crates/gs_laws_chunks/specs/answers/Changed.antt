@@ -89,7 +89,7 @@ abbrev pub IsAt : Moment → Step → Type 0
 IsAt now (Comes event) = event.moment ≡ now
 IsAt now (Takes client) = Unit {0}
 
--- The call had its turn as a new one, where the old names stood, and this was said to it. Its moment is that of one of the steps since it was asked.
+-- The call had its turn as a new one, where the old names stood, and this was said to it. Where all steps since it was asked are at one moment, so is its turn.
 pub record HadItsTurn (d : Durable) (client : ClientId) (number : ℕ) (req : ReqId) (call : Call) (result : Result Answer Refusal) (steps : List Step) : Type 0 where
   pub config : Config
   pub state : State

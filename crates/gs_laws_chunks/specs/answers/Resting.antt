@@ -25,12 +25,12 @@ use Rattle.gs_laws_chunks.specs.answers.Answered.{spares_master}
 use Rattle.gs_laws_chunks.specs.answers.Asked.{IsNumbered}
 use Rattle.std.specs.Prelude.{slice_get}
 
--- The client has had its request of the number before this one, or a later one. Of nothing before the first nothing is said.
+-- The client has had its request of the number before this one, or a later one. Below the first number there is nothing to be had.
 abbrev pub HasHadBelow : State → ClientId → ℕ → Type 0
 HasHadBelow s client zero = Unit {0}
 HasHadBelow s client (suc number) = HasHad s client number
 
--- the names, the number of the next deletion, the phase and the epoch are these, no call waits, and the client has had all its requests below this number that it will ever have
+-- the names, the number of the next deletion, the phase and the epoch are these, no call waits, and nothing below this number is new of the client any more
 pub record StandsStill (d : Durable) (client : ClientId) (number : ℕ) (s : State) : Type 0 where
   pub names : s.durable.names ≡ d.names
   pub hidden : s.durable.next_hidden ≡ d.next_hidden

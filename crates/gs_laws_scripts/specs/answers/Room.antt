@@ -33,8 +33,8 @@ pub record IsCheckpointDue (s : State) (moment : Moment) : Type 0 where
 abbrev pub IsAloneAt : {D : Type 0} → State → Moment → Way D → Type 0
 IsAloneAt {D} s moment w = (m : MasterOf D) × (w.nodes.master ≡ Standing m) × (m.journal.text ≡ checkpointed (checkpoint_body (before_checkpoint s moment).durable))
 
--- The line is answered `ok`. First the master ticks, then the servers, and what follows is delivered. Where a checkpoint is due, memory isn't wanting
--- at the master's tick, and no disk fails in it, the journal is the checkpoint alone right behind it.
+-- The line is answered `ok`. First the master ticks, then the servers, and what follows is delivered. Where a checkpoint is due, the desk has noted no
+-- want of memory till behind the master's tick, and no disk fails in it, the journal is the checkpoint alone right behind it.
 pub record MakesRoom {D : Type 0} (seen : D → List ℕ) (failures : D → ℕ) (old : Way D) (m : MasterOf D) (result : Result Answer Refusal) (new : Way D) : Type 0 where
   pub answer : result ≡ Ok answers.Done
   pub behind : Way D
@@ -44,7 +44,7 @@ pub record MakesRoom {D : Type 0} (seen : D → List ℕ) (failures : D → ℕ)
   pub delivers : DeliversWhole seen failures ticked new
   pub room : IsCheckpointDue m.state old.moment → IsCalm failures old behind → IsAloneAt m.state old.moment behind
 
--- So it is wherever a master stands firm and steady, as in each store that a script leads to.
+-- So it is wherever a master stands firm and steady, as one does that a script leads to in which no disk failed.
 abbrev pub TicksMakeRoom : Type 0 → Type 0
 TicksMakeRoom D = (seen : D → List ℕ) (failures : D → ℕ) (old new : Way D) (m : MasterOf D) (result : Result Answer Refusal) → Stands old m → StandsFirm seen m → IsSteady m.state
     → NodesDo seen failures lines.Tick old result new → MakesRoom seen failures old m result new

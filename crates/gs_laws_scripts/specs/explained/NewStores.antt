@@ -46,7 +46,7 @@ abbrev some_lines : List (List ℕ)
 some_lines = codes "mkdir /d" ∷ codes "mkdir /d" ∷ codes "mv /d /e" ∷ codes "lose 1 2" ∷ codes "ls /" ∷ codes "append /f 00" ∷ []
 
 abbrev some_texts : List ℕ → List (List ℕ)
-some_texts said = codes "ok" ∷ codes "refused 4 Exists" ∷ codes "ok" ∷ codes "refused 26 NoReplica" ∷ codes "ok e/" ∷ said ∷ []
+some_texts said = codes "ok" ∷ codes "refused 4 Exists" ∷ codes "ok" ∷ codes "refused 28 NoReplica" ∷ codes "ok e/" ∷ said ∷ []
 
 five_are_such : (said : List ℕ) → AreCalmLines (take 5 some_lines) (take 5 (some_texts said))
 unfolding one_word two_words three_words number_line lose_line is_utf8 chars encode_utf8 digits
