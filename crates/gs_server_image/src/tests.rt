@@ -75,7 +75,6 @@ fn it_is_read_with_what_it_refused(rt: HostRuntime) -> Result<(), Fail> {
     let mut cursor = Cursor { rest: &SERVER };
     let server = read_server(alloc, ServerId::new(2).unwrap(), sizes(), &mut cursor)?;
     assert!(rt; cursor.rest.is_empty());
-    assert!(rt; server.refusals().count() == 2);
     for (client, kept) in server.refusals() {
         let wanted = if client == ClientId(5) { 19 } else { 22 };
         assert!(rt; kept.refusal.number() == wanted);
