@@ -69,6 +69,30 @@ fn pointed(alloc: Global, parts: &[Vec<u8>]) -> Result<Vec<&[u8]>, Fail> {
     Ok(slices)
 }
 
+// The same without the first byte of one of them.
+fn cut_at(alloc: Global, parts: &[Vec<u8>], place: usize) -> Result<Vec<&[u8]>, Fail> {
+    let mut slices: Vec<&[u8]> = Vec::new(alloc);
+    let mut at = 0;
+    for part in parts {
+        let bytes = part.as_slice();
+        if at == place && 1 <= bytes.len() {
+            slices.push(&bytes[1..])?;
+        } else {
+            slices.push(bytes)?;
+        }
+        at = at.wrapping_add(1);
+    }
+    Ok(slices)
+}
+
+// Whether this was answered there.
+fn is_answered(told: &[String], place: usize, text: &str) -> bool {
+    match told.get(place) {
+        Some(answer) => answer.as_str() == text,
+        None => false,
+    }
+}
+
 // A store behind its lines, with the disks of its master closed.
 fn rested(alloc: Global) -> Result<Desk<MemoryDisk>, Fail> {
     let mut desk = begun(alloc)?;
@@ -91,8 +115,8 @@ fn a_store_goes_on_from_its_image(rt: HostRuntime) -> Result<(), Fail> {
     assert!(rt; put_parts(&again, alloc)? == parts);
     let wanted = answers(alloc, &mut desk, BEHIND)?;
     assert!(rt; answers(alloc, &mut again, BEHIND)? == wanted);
-    assert!(rt; wanted[6].as_str() == "ok 2");
-    assert!(rt; wanted[7].as_str() == "ok 616263");
+    assert!(rt; is_answered(&wanted, 6, "ok 2"));
+    assert!(rt; is_answered(&wanted, 7, "ok 616263"));
     Ok(())
 }
 
@@ -117,10 +141,7 @@ fn each_part_is_needed_whole(rt: HostRuntime) -> Result<(), Fail> {
         assert!(rt; is_refused(alloc, &slices[..end]));
     }
     for at in [0, 3, 4, 5] {
-        let mut cut = pointed(alloc, &parts)?;
-        let part = parts[at].as_slice();
-        cut[at] = &part[1..];
-        assert!(rt; is_refused(alloc, &cut));
+        assert!(rt; is_refused(alloc, &cut_at(alloc, &parts, at)?));
     }
     Ok(())
 }
