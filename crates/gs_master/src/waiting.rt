@@ -20,7 +20,7 @@ use gs_master_plan::message::reply_to;
 use gs_master_plan::view::{own_request, replace_plan};
 use gs_master_spec::change::Change;
 use gs_master_spec::pending::{Pending, Waiting};
-use gs_master_state::plan::Plan;
+use gs_master_state::plan::{Plan, push_change};
 use gs_msg::{Answer, Copied};
 use gs_path::Path;
 use std::alloc::{AllocError, Global};
@@ -46,8 +46,7 @@ fn ended_plan(
     ensures { IfOk result (λ plan. plan_of plan ≡ record { records = []; changes = before.items ++ changes.End req ∷ []; sent = reply_to req (Ok answer) ∷ []; said = None }) }
 {
     let mut changes = before;
-    changes.reserve_exact(1)?;
-    changes.push_reserved(Change::End(req));
+    push_change(&mut changes, Change::End(req))?;
     Ok(Plan {
         records: Vec::new(alloc),
         changes,
@@ -157,8 +156,8 @@ impl Event {
         self.carry_out_for(req, plan)
     }
 
-    /// A call that waited makes its edit, is answered, and ends. Where the edit is refused the call is. As in `edit_by`, the edit is
-    /// judged where it can't be made.
+    /// A call that waited makes its edit, is answered, and ends. Where the edit is refused the call is. The edit is judged
+    /// only where it can't be made.
     pub fn end_by_edit(
         &mut self,
         req: ReqId,
@@ -281,8 +280,8 @@ impl Event {
         self.put_in_place(req, path, index, old, new)
     }
 
-    /// A copy takes a chunk's place. Then a lease of it is asked for. Where that edit is refused the call is. As in `edit_by`, the
-    /// edit is judged where it can't be made.
+    /// A copy takes a chunk's place. Then a lease of it is asked for. Where that edit is refused the call is. The edit is
+    /// judged only where it can't be made.
     fn replace(
         &mut self,
         req: ReqId,

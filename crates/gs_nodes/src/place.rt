@@ -12,7 +12,7 @@ use std::alloc::{AllocError, Global};
 #[derive(Drop)]
 pub enum MasterPlace<D: Disk> {
     Standing(Master<D>),
-    /// Its disks wait to be opened: a restart was refused.
+    /// Its disks wait to be opened, as behind a restart that was refused.
     Closed { first: D, second: D },
     /// Its disks are being opened.
     Away,

@@ -81,8 +81,8 @@ impl Server {
     ) -> Result<Turn, Refusal>
         ensures { ServerSteps (forwarded_of handle from edit carried moment self.old) result self.old self.new }
     {
-        let promise = self.store.promised(handle);
-        let count = match count_under(edit.stamp, promise, self.store.count(handle)) {
+        let (promise, applied) = self.promise_and_count(handle);
+        let count = match count_under(edit.stamp, promise, applied) {
             Ok(count) => count,
             Err(refusal) => return self.decline(handle, from, edit.stamp, refusal),
         };

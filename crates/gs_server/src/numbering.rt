@@ -59,13 +59,13 @@ impl Server {
         requires { chunk ≡ self.now.chunk }
         ensures { result ≡ unless_numbered (here_of self.now moment handle (Some edit.req)) (place_of handle self.now) edit.stamp edit.op }
     {
-        if self.store.count(handle).is_none() {
+        let (promise, count) = self.promise_and_count(handle);
+        if count.is_none() {
             return Some(Refusal::NoReplica);
         }
         let Some(lease) = self.leases.get(handle) else {
             return Some(Refusal::NotPrimary);
         };
-        let promise = self.store.promised(handle);
         if edit.stamp != lease.stamp() || lease.stamp() != promise {
             return Some(Refusal::Stamp(promise));
         }
@@ -116,8 +116,13 @@ impl Server {
     fn stored(&self, handle: Handle) -> u64
         ensures { result ≡ length_in (slot_of handle (store_of self.now)).live }
     {
-        let promise = self.store.promised(handle);
-        self.store.len(handle, promise).unwrap_or(0)
+        match self.store.slot(handle) {
+            Some(slot) => match slot.live() {
+                Some(live) => live.replica().len(),
+                None => 0,
+            },
+            None => 0,
+        }
     }
 
     /// What is told of an edit where it is numbered: the other members get it, and its client hears of it where there are none.

@@ -2,6 +2,8 @@ ghost use Rattle.std.specs.Prelude.{◌≡◌, ◌≤◌, [], None, IfOk};
 ghost use Rattle.gs_server.specs.Places.{damaged_block, marked_by};
 ghost use Rattle.gs_server.specs.Servers.{new, of_parts, client_cmp, ServerSteps, store_of, with_store, change_slot};
 ghost use Rattle.std.specs.FinMap as fin;
+ghost use Rattle.gs_store.specs.Slots.{count_of};
+ghost use Rattle.gs_store.specs.Stores.{slot_of};
 ghost use Rattle.gs_base_table.specs.Slots.{live};
 ghost use Rattle.gs_server_lease.specs.Leases.{tell};
 ghost use Rattle.gs_server.specs.inner.Answering.{refused_by, promised_by};
@@ -98,6 +100,17 @@ impl Server {
         self.refused.iter()
     }
 
+    /// The promise of a handle, and how many edits its live replica has applied, if there is one.
+    pub(crate) fn promise_and_count(&self, handle: Handle) -> (Stamp, Option<u64>)
+        ensures promise { result.0 ≡ (slot_of handle (store_of self.now)).promise }
+        ensures count { result.1 ≡ count_of (slot_of handle (store_of self.now)).live }
+    {
+        match self.store.slot(handle) {
+            Some(slot) => (slot.promised(), slot.count()),
+            None => (self.store.promised(handle), None),
+        }
+    }
+
     /// What is told of a chunk.
     pub(crate) fn about(&self, handle: Handle, to: NodeId, said: Chunk) -> Message
         ensures { result ≡ tell self.now.me to (About handle said) }
@@ -176,10 +189,14 @@ impl Server {
         ensures sent { result.sent.items ≡ (promised_by handle stamp self.old).sent }
         ensures said { result.said ≡ None }
     {
+        let (count, carried) = match self.store.slot(handle) {
+            Some(slot) => (slot.count().unwrap_or(0), slot.is_carried()),
+            None => (0, false),
+        };
         let promised = Chunk::Promised {
             stamp,
-            count: self.store.count(handle).unwrap_or(0),
-            carried: self.store.is_carried(handle),
+            count,
+            carried,
         };
         sent.put(self.about(handle, NodeId::Master, promised));
         self.spend_below(handle);

@@ -139,7 +139,9 @@ impl<D: Disk + Drop> Wire<D> {
     pub(crate) fn send_all(&mut self, sent: Vec<Message>)
         ensures { SendsAll sent.items (way_of self.old) (way_of self.new) }
     {
-        if self.queue.is_empty() && self.held_kind.is_none() {
+        if sent.is_empty() {
+            drop(sent);
+        } else if self.queue.is_empty() && self.held_kind.is_none() {
             self.send_together(sent);
         } else {
             self.send_each(sent);
