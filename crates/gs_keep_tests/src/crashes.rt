@@ -1,5 +1,5 @@
 use gs_base::{Config, Refusal};
-use gs_keep::{Answers, Progress, Replayed, Rest, keep_on};
+use gs_keep::{Answers, First, Progress, Replayed, Rest, keep_on};
 use gs_keep_desk::KeptDesk;
 use gs_keep_log::{Failed, Fault, MemoryLog};
 use gs_keep_mark::is_mark;
@@ -39,14 +39,14 @@ const PLACES: usize = 200;
 const PARTS: usize = 11;
 
 /// What a call of the log does that doesn't fail.
-const NO_FAULT: Fault = Fault {
+pub(crate) const NO_FAULT: Fault = Fault {
     calls: u64::MAX,
     count: 0,
 };
 
 /// Nobody who is told.
 #[derive(Drop)]
-struct Nobody;
+pub(crate) struct Nobody;
 
 impl Progress for Nobody {
     fn measured(&mut self, _rest: u64) {}
@@ -103,7 +103,10 @@ fn kept_on(
         alloc,
         &mut desk,
         &mut log,
-        b"",
+        First {
+            head: b"",
+            before: 0,
+        },
         len,
         &mut lines,
         &mut NoRest,
