@@ -37,7 +37,7 @@ abbrev never_away : {S : Type 0} → S → List ℕ → Bool
 never_away s line = false
 
 a_tick_stands : {S : Type 0} (s : S) → IsOwnLine is_counted never_away s tick
-a_tick_stands s = record { body = codes "tick"; within = (refl, refl, refl, refl, tt); ended = refl; logged = refl; taken = refl }
+a_tick_stands s = record { body = codes "tick"; within = (refl, (refl, (refl, (refl, tt)))); ended = refl; logged = refl; taken = refl }
 
 only_tick : (b : Bool) (line : List ℕ) → cond b (Some tick) None ≡ Some line → tick ≡ line
 only_tick true line due = cc

@@ -2,7 +2,7 @@
 ghost use Rattle.std.specs.Prelude.{◌≡◌, List, ℕ};
 ghost use Rattle.gs_keep_tests.specs.Counting.{is_counted};
 
-use crate::crashes::{NO_FAULT, Nobody};
+use crate::plain::{NO_FAULT, Nobody};
 use gs_base::Refusal;
 use gs_keep::{Answers, Aside, Ended, Keeping, Made, Making, Rest, Source, StartFault, start};
 use gs_keep_log::{Failed, MemoryLog};

@@ -6,4 +6,6 @@ mod counting;
 #[cfg(test)]
 mod crashes;
 #[cfg(test)]
+mod plain;
+#[cfg(test)]
 mod starts;
