@@ -20,5 +20,5 @@ pub use log::FileLog;
 pub use making::{FirstText, make};
 pub use named::NamedFile;
 pub use opening::{OpenFault, Opened, Standing, open, what_stands};
-pub use renewing::{LogNames, RenewFault, Step, StepFault, put_whole, sync_folder, take_away};
+pub use renewing::{LogNames, RenewFault, Step, StepFault, sync_folder, take_away};
 pub use standard::{Placeholders, fill_standard};

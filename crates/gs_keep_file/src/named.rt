@@ -47,6 +47,11 @@ impl<'a, R: Files> NamedFile<'a, R> {
         }
     }
 
+    /// What the system says of the file, whatever has its name.
+    pub(crate) fn metadata(&self) -> io::Result<Metadata> {
+        self.file.metadata()
+    }
+
     /// How long the file is that has the name, if it is this one.
     fn named_len(&self) -> Result<u64, FileFault> {
         match fs::metadata(self.rt, self.path) {

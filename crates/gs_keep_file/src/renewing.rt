@@ -4,8 +4,9 @@ use crate::log::FileLog;
 use crate::making::{FirstText, begun, put_text};
 use crate::named::NamedFile;
 use crate::opening::{OpenFault, folder_of, has_name};
-use std::fs::{self, File, OpenOptions};
+use std::fs::{self, File, Metadata, OpenOptions};
 use std::io::{self, ErrorKind, Write};
+use std::os::unix::fs::{MetadataExt, PermissionsExt, fchown};
 use std::rt::Files;
 use thiserror::Error;
 
@@ -16,6 +17,8 @@ pub enum Step {
     Clear,
     #[error("it can't be made")]
     Make,
+    #[error("it can't be given the owner and the rights of the log")]
+    Rights,
     #[error("it can't be written")]
     Write,
     #[error("it can't be synced")]
@@ -87,20 +90,37 @@ fn new_file<R: Files<File = File>>(rt: &R, name: &str) -> Result<File, StepFault
     }
 }
 
-/// Writes bytes into a new file, and waits until they are on the disk.
-fn write_new<R: Files<File = File>>(rt: &R, name: &str, bytes: &[u8]) -> Result<(), StepFault> {
+/// Gives a file the owner, the group and the rights of another one.
+fn make_like(file: &File, other: &Metadata) -> io::Result<()> {
+    let own = file.metadata()?;
+    if own.uid() != other.uid() || own.gid() != other.gid() {
+        fchown(file, Some(other.uid()), Some(other.gid()))?;
+    }
+    if own.permissions().mode() != other.permissions().mode() {
+        file.set_permissions(other.permissions())?;
+    }
+    Ok(())
+}
+
+/// Writes bytes into a new file with the owner and the rights of another one, and waits until they are on the disk.
+fn write_new<R: Files<File = File>>(
+    rt: &R,
+    name: &str,
+    other: &Metadata,
+    bytes: &[u8],
+) -> Result<(), StepFault> {
     let mut file = new_file(rt, name)?;
+    at(Step::Rights, make_like(&file, other))?;
     at(Step::Write, file.write_all(bytes))?;
     at(Step::Sync, file.sync_all())
 }
 
-/// Puts bytes into a file whole: they are written under the name `beside`, and get the name `path` once they are on the disk, in place of
-/// what has it. Then its folder is synced. So a crash leaves what had the name, or all of the bytes. What stands under the name `beside`
-/// is taken away first. Where it fails, nothing is left there.
-pub fn put_whole<R: Files<File = File>>(
+/// Puts bytes into a file whole, which is written under the name `beside` and has the owner and the rights of another one.
+fn put_whole<R: Files<File = File>>(
     rt: &R,
     path: &str,
     beside: &str,
+    other: &Metadata,
     bytes: &[u8],
 ) -> Result<(), StepFault> {
     if let Err(error) = take_away(rt, beside) {
@@ -109,7 +129,7 @@ pub fn put_whole<R: Files<File = File>>(
             error,
         });
     }
-    let written = write_new(rt, beside, bytes);
+    let written = write_new(rt, beside, other, bytes);
     let named = match written {
         Ok(()) => at(Step::Name, fs::rename(rt, beside, path)),
         Err(fault) => Err(fault),
@@ -153,6 +173,11 @@ impl<R: Files<File = File> + AllocGlobal> NamedFile<'_, R> {
         at(Step::Folder, sync_folder(self.rt, self.path))
     }
 
+    /// Gives another file the owner and the rights of this one.
+    fn give_rights_to(&self, new: &File) -> io::Result<()> {
+        make_like(new, &self.metadata()?)
+    }
+
     /// Writes the first text of the new log, and gives both their names.
     fn follow(
         &self,
@@ -161,6 +186,7 @@ impl<R: Files<File = File> + AllocGlobal> NamedFile<'_, R> {
         names: &LogNames<'_>,
         text: &FirstText<'_>,
     ) -> Result<(), RenewFault> {
+        at(Step::Rights, self.give_rights_to(new)).map_err(RenewFault::New)?;
         at(Step::Write, put_text(new, text)).map_err(RenewFault::New)?;
         self.is_as_known(len).map_err(RenewFault::Log)?;
         self.also_named(names.before).map_err(RenewFault::Before)?;
@@ -178,6 +204,24 @@ pub struct LogNames<'a> {
 }
 
 impl<R: Files<File = File> + AllocGlobal> FileLog<NamedFile<'_, R>> {
+    /// Whether the log's name is that of a symbolic link to it.
+    pub fn is_linked(&self) -> io::Result<bool> {
+        Ok(fs::symlink_metadata(self.file.rt, self.file.path)?.is_symlink())
+    }
+
+    /// Puts bytes into a file whole: they are written under the name `beside`, and get their name once they are on the disk, in place of what
+    /// has it. Then its folder is synced. So a crash leaves what had the name, or all of the bytes. The file has the owner and the rights
+    /// of the log. What stands under the name `beside` is taken away first. Where it fails, nothing is left there.
+    pub fn put_beside(&self, name: &str, beside: &str, bytes: &[u8]) -> Result<(), StepFault> {
+        match self.file.metadata() {
+            Ok(found) => put_whole(self.file.rt, name, beside, &found, bytes),
+            Err(error) => Err(StepFault {
+                step: Step::Rights,
+                error,
+            }),
+        }
+    }
+
     /// Whether a name is free for this log to keep: nothing has it, or this log has it already.
     pub fn may_keep(&self, before: &str) -> io::Result<bool> {
         match fs::symlink_metadata(self.file.rt, before) {
