@@ -42,6 +42,8 @@ MOST_SECONDS = 0.1
 LINES = 400
 # The bytes of a mark with its end.
 MARK_BYTES = 153
+# Behind so many bytes of lines the store has its nodes tick by itself, and each line counts so many more.
+TICK_BYTES, TICK_LINE = 67_108_864, 256
 # The name in the first line of a file, which is another one in each.
 NAME = re.compile(rb"\A([^\n]*) name [0-9a-f]{32}\n")
 F_SETPIPE_SZ = 1031
@@ -172,8 +174,9 @@ def marked(batches, head=None):
     """The file of a store that has answered lines in batches, each a list of a line and its answer, without their ends."""
     text, count, answers = (HEAD if head is None else head) + b"\n", 0, b""
     for batch in batches:
-        for line, answer in batch:
-            text, count, answers = text + line + b"\n", count + 1, answers + answer + b"\n"
+        text += b"".join(line + b"\n" for line, _ in batch)
+        answers += b"".join(answer + b"\n" for _, answer in batch)
+        count += len(batch)
         text += mark(text, count, answers)
     return text
 
@@ -1143,6 +1146,34 @@ def no_memory_for_a_line(program, path, chance):
     return None if status == 0 and b"refused" not in answered else f"the next start has status {status}: {answered!r} {said}"
 
 
+def own_ticks(path, least, most):
+    """What is wrong with the ticks of a file: there is to be one, of the store's own. It stands behind so many lines, as the last of its batch."""
+    lines = bytes_of(path).splitlines()[1:]
+    ticks = [at for at, line in enumerate(lines) if line == b"tick"]
+    if len(ticks) != 1:
+        return f"the file has {len(ticks)} ticks, in {len(lines)} lines and marks"
+    before = sum(not is_mark(line + b"\n") for line in lines[: ticks[0]])
+    if not least <= before <= most or not is_mark(lines[ticks[0] + 1] + b"\n"):
+        return f"the tick stands behind {before} lines, and the line behind it is {lines[ticks[0] + 1]!r}"
+    return None
+
+
+def ticks_by_itself(program, path, chance):
+    """Behind 64 MiB of lines the nodes tick by a line of the store's own, which isn't answered. A start counts the lines that it runs again."""
+    line = b"ls" + b" /" + b"/".join([b"n" * 199] * chance.randint(30, 40))
+    least = -(-TICK_BYTES // (len(line) + TICK_LINE))
+    kept_file(path)
+    status, answered, said = ended(program, [path], (line + b"\n") * least)
+    if status or answered != b"refused 3 NotFound\n" * least:
+        return f"the status is {status}, and {len(answered)} bytes are answered: {said}"
+    wrong = own_ticks(path, least, least + 2) or goes_on(program, path, "ab") or own_ticks(path, least, least + 2)
+    if wrong:
+        return wrong
+    # a log of a program that had no ticks of its own
+    kept_file(path, marked([[(b"mkdir /a", b"ok")], [(line, b"refused 3 NotFound")] * least]))
+    return goes_on(program, path, "a") or own_ticks(path, least + 2, least + 2)
+
+
 BREAKS = {
     "standard input is closed": is_closed(0),
     "standard output is closed": is_closed(1),
@@ -1201,6 +1232,7 @@ BREAKS = {
     "--upto": is_upto,
     "without --lab": needs_a_lab,
     "no memory for a line": no_memory_for_a_line,
+    "ticks of the store's own": ticks_by_itself,
 }
 
 

@@ -1,2 +1,3 @@
 pub mod Looks
+pub mod Ticks
 pub mod Keeps
