@@ -2,7 +2,7 @@
 use Rattle.std.proofs.Common.{◌≡◌, ◌<◌, ◌++◌, ◌∷◌, [], ℕ, List, Bool, true, false, Option, Some, None, IfSome, length, refl, sym, ap, subst, ◌∙◌, arith, append_assoc, append-nil}
 use Rattle.gs_keep_log.specs.Log.{Held, LogDoes, shortened}
 use Rattle.gs_keep_mark.specs.Ledgers.{IsLedger}
-use Rattle.gs_keep_mark.specs.Marks.{Entry, Totals, beginning, mark_of, marked, text_of, totals_behind, with_batch}
+use Rattle.gs_keep_mark.specs.Marks.{Entry, Totals, begins_from, mark_of, marked, text_of, totals_behind, with_batch}
 use Rattle.gs_keep_mark.specs.declared.Ledger.{Ledger}
 use Rattle.gs_keep.specs.Keeping.{Begins, KeepsOn, LeavesAll, ReadsLog, StoreFails, StopsOn}
 use Rattle.gs_keep.specs.Lines.{entries, joined, kept_behind}
@@ -22,9 +22,9 @@ cut_rests head script len None log' reads cut = tt
 cut_rests head script len (Some h) log' reads cut = cut ∙ ap (λ (l : List ℕ). Some (at_rest l)) reads
 
 -- the text of what is run again
-all_text : (head : List ℕ) (batches : List (List Entry)) (last : List Entry) → head ++ (marked (beginning head) batches ++ text_of last) ≡ (with_batch (totals_behind (beginning head) batches) last).text
-all_text head batches last =
-    let t = beginning head in
+all_text : (head : List ℕ) (before : ℕ) (batches : List (List Entry)) (last : List Entry) → head ++ (marked (begins_from head before) batches ++ text_of last) ≡ (with_batch (totals_behind (begins_from head before) batches) last).text
+all_text head before batches last =
+    let t = begins_from head before in
     sym (append_assoc head (marked t batches) (text_of last)) ∙ ap (λ (l : List ℕ). l ++ text_of last) (sym (text_behind t batches)) ∙ sym (text_with (totals_behind t batches) last)
 
 kept_more : (t : Totals) (batch : List Entry) → (more : List ℕ) × ((kept_behind t batch).text ≡ t.text ++ more)
@@ -46,13 +46,13 @@ module _ {S : Type 0} (A : S → List ℕ → List ℕ → S → Type 0) (is_kep
       let (told', rests) = closes.1 (with_batch t (e ∷ last)) told in
       (told', rests text (append-nil text ∙ is))
 
-  pub begins : (head script : List ℕ) (len : ℕ) (done : Replayed) (log log' log'' : Option Held) (first ledger ledger' : Ledger) (start mid : S) → ReadsLog head len log (Some script) → IsLedger first (beginning head)
-      → Replays A is_kept start script done first ledger mid → LogDoes (shortened len) log log' → Closes done.is_open ledger ledger' log' log'' → Begins A is_kept start head script len log log'' ledger' mid
-  begins head script len done log log' log'' first ledger ledger' start mid reads told p cut closes =
-      let t = totals_behind (beginning head) p.batches in
-      let (is, told') = p.is (beginning head) told in
-      let text : script ≡ marked (beginning head) p.batches ++ text_of p.last = is ∙ ap (λ (l : List ℕ). marked (beginning head) p.batches ++ l) (append-nil (text_of p.last)) in
-      let (told'', rests) = closed done.is_open t p.last ledger ledger' log' log'' (head ++ script) p.none_open p.some_open closes told' (ap (λ (l : List ℕ). head ++ l) text ∙ all_text head p.batches p.last) in
+  pub begins : (head : List ℕ) (before : ℕ) (script : List ℕ) (len : ℕ) (done : Replayed) (log log' log'' : Option Held) (first ledger ledger' : Ledger) (start mid : S) → ReadsLog head len log (Some script) → IsLedger first (begins_from head before)
+      → Replays A is_kept start script done first ledger mid → LogDoes (shortened len) log log' → Closes done.is_open ledger ledger' log' log'' → Begins A is_kept start head before script len log log'' ledger' mid
+  begins head before script len done log log' log'' first ledger ledger' start mid reads told p cut closes =
+      let t = totals_behind (begins_from head before) p.batches in
+      let (is, told') = p.is (begins_from head before) told in
+      let text : script ≡ marked (begins_from head before) p.batches ++ text_of p.last = is ∙ ap (λ (l : List ℕ). marked (begins_from head before) p.batches ++ l) (append-nil (text_of p.last)) in
+      let (told'', rests) = closed done.is_open t p.last ledger ledger' log' log'' (head ++ script) p.none_open p.some_open closes told' (ap (λ (l : List ℕ). head ++ l) text ∙ all_text head before p.batches p.last) in
       record {
         batches = p.batches;
         last = p.last;
@@ -73,23 +73,22 @@ module _ {S : Type 0} (A : S → List ℕ → List ℕ → S → Type 0) (is_kep
   seal_leaves keep.Unended ledger log log' t text fails told rests = absurd fails
   seal_leaves keep.TooMany ledger log log' t text fails told rests = absurd fails
 
-  pub unbegun : (f : KeepFault) (head script : List ℕ) (len : ℕ) (done : Replayed) (log log' log'' : Option Held) (first ledger : Ledger) (start mid : S) → ReadsLog head len log (Some script) → IsLedger first (beginning head)
+  pub unbegun : (f : KeepFault) (head : List ℕ) (before : ℕ) (script : List ℕ) (len : ℕ) (done : Replayed) (log log' log'' : Option Held) (first ledger : Ledger) (start mid : S) → ReadsLog head len log (Some script) → IsLedger first (begins_from head before)
       → Replays A is_kept start script done first ledger mid → LogDoes (shortened len) log log' → SealFails f ledger log' log'' [] → IfSome log (λ h. LeavesAll (head ++ script) log'')
-  unbegun f head script len done log log' log'' first ledger start mid reads told p cut fails =
-      if_some log _ _ (λ h rests. seal_leaves f ledger log' log'' (with_batch (totals_behind (beginning head) p.batches) p.last) (head ++ script) fails (p.is (beginning head) told).1 rests)
+  unbegun f head before script len done log log' log'' first ledger start mid reads told p cut fails =
+      if_some log _ _ (λ h rests. seal_leaves f ledger log' log'' (with_batch (totals_behind (begins_from head before) p.batches) p.last) (head ++ script) fails (p.is (begins_from head before) told).1 rests)
       (cut_rests head script len log log' reads cut)
 
 module _ {S : Type 0} (A : S → List ℕ → List ℕ → S → Type 0) (is_kept : List ℕ → Bool) (turns_away : S → List ℕ → Bool) (due : S → Option (List ℕ)) where
-  pub keeps_on : (head script input : List ℕ) (len : ℕ) (log between log' : Option Held) (out out' : Option (List ℕ)) (ledger ledger' : Ledger) (start mid end : S)
-      → Begins A is_kept start head script len log between ledger mid → ServesAll A is_kept turns_away due mid input between log' out out' ledger ledger' end → KeepsOn A is_kept turns_away due start head script input len log log' out out' end
-  keeps_on head script input len log between log' out out' ledger ledger' start mid end b served =
+  pub keeps_on : (head : List ℕ) (before : ℕ) (script input : List ℕ) (len : ℕ) (log between log' : Option Held) (out out' : Option (List ℕ)) (ledger ledger' : Ledger) (start mid end : S)
+      → Begins A is_kept start head before script len log between ledger mid → ServesAll A is_kept turns_away due mid input between log' out out' ledger ledger' end → KeepsOn A is_kept turns_away due start head before script input len log log' out out' ledger' end
+  keeps_on head before script input len log between log' out out' ledger ledger' start mid end b served =
       let s = served.serves in
       let all = joined b.batches ++ b.last in
-      let (told, rests) = s.kept (kept_behind (totals_behind (beginning head) b.batches) b.last) b.told in
+      let (told, rests) = s.kept (kept_behind (totals_behind (begins_from head before) b.batches) b.last) b.told in
       record {
         between = between;
         told = ledger;
-        ended = ledger';
         mid = mid;
         begins = b;
         serves = s;
@@ -97,6 +96,7 @@ module _ {S : Type 0} (A : S → List ℕ → List ℕ → S → Type 0) (is_kep
         together = again_then A is_kept turns_away due start mid end all s.turns b.again s.answers;
         stands = again_join A is_kept start mid end all (joined s.batches) b.again
             (subst (λ (l : List Entry). RunsAgain A is_kept mid l end) s.logged (answers_again A is_kept turns_away due mid end s.turns s.answers));
+        tells = told;
         holds = if_some log _ _ (λ h r. rests r) b.rests;
       }
 
@@ -123,21 +123,21 @@ module _ {S : Type 0} (A : S → List ℕ → List ℕ → S → Type 0) (is_kep
       let (told', rested) = fails.done.kept t told in
       most_leaves log' u.text (text_of (entries w.turns) ++ mark_of (with_batch u (entries w.turns))) (breaks u told' (rested rests))
 
-  pub stops_on : (f : KeepFault) (head script input : List ℕ) (left : Option (List ℕ)) (len : ℕ) (log between log' : Option Held) (out out' : Option (List ℕ)) (ledger : Ledger) (start mid end : S)
-      → Begins A is_kept start head script len log between ledger mid → Fails A is_kept turns_away due f mid input left between log' out out' ledger end → StopsOn A is_kept turns_away due f start head script input left len log log' out out' end
-  stops_on f head script input left len log between log' out out' ledger start mid end b fails = record {
+  pub stops_on : (f : KeepFault) (head : List ℕ) (before : ℕ) (script input : List ℕ) (left : Option (List ℕ)) (len : ℕ) (log between log' : Option Held) (out out' : Option (List ℕ)) (ledger : Ledger) (start mid end : S)
+      → Begins A is_kept start head before script len log between ledger mid → Fails A is_kept turns_away due f mid input left between log' out out' ledger end → StopsOn A is_kept turns_away due f start head before script input left len log log' out out' end
+  stops_on f head before script input left len log between log' out out' ledger start mid end b fails = record {
     between = between;
     told = ledger;
     mid = mid;
     begins = b;
     fails = fails;
-    crashes = if_some log _ _ (λ h r. fails_leave f mid input left between log' out out' ledger end (kept_behind (totals_behind (beginning head) b.batches) b.last) fails b.told r) b.rests;
+    crashes = if_some log _ _ (λ h r. fails_leave f mid input left between log' out out' ledger end (kept_behind (totals_behind (begins_from head before) b.batches) b.last) fails b.told r) b.rests;
   }
 
-  pub begin_fails : (f : KeepFault) (o p : Option (List ℕ)) (head : List ℕ) (len : ℕ) (done : Replayed) (log log' log'' : Option Held) (out : Option (List ℕ)) (first ledger : Ledger) (start mid end : S)
-      → IfSome o (λ script. ReadsLog head len log (Some script)) → IsLedger first (beginning head) → IfSome o (λ script. Replays A is_kept start script done first ledger mid) → LogDoes (shortened len) log log'
-      → SealFails f ledger log' log'' [] → IfSome o (λ script. IfSome p (λ input. StoreFails A is_kept turns_away due (fault.Begin f) start head script input p len log log'' out out end))
-  begin_fails f None p head len done log log' log'' out first ledger start mid end reads told replayed cut fails = tt
-  begin_fails f (Some script) None head len done log log' log'' out first ledger start mid end reads told replayed cut fails = tt
-  begin_fails f (Some script) (Some input) head len done log log' log'' out first ledger start mid end reads told replayed cut fails =
-      (unbegun A is_kept f head script len done log log' log'' first ledger start mid reads told replayed cut fails, refl, refl)
+  pub begin_fails : (f : KeepFault) (o p : Option (List ℕ)) (head : List ℕ) (before : ℕ) (len : ℕ) (done : Replayed) (log log' log'' : Option Held) (out : Option (List ℕ)) (first ledger : Ledger) (start mid end : S)
+      → IfSome o (λ script. ReadsLog head len log (Some script)) → IsLedger first (begins_from head before) → IfSome o (λ script. Replays A is_kept start script done first ledger mid) → LogDoes (shortened len) log log'
+      → SealFails f ledger log' log'' [] → IfSome o (λ script. IfSome p (λ input. StoreFails A is_kept turns_away due (fault.Begin f) start head before script input p len log log'' out out end))
+  begin_fails f None p head before len done log log' log'' out first ledger start mid end reads told replayed cut fails = tt
+  begin_fails f (Some script) None head before len done log log' log'' out first ledger start mid end reads told replayed cut fails = tt
+  begin_fails f (Some script) (Some input) head before len done log log' log'' out first ledger start mid end reads told replayed cut fails =
+      (unbegun A is_kept f head before script len done log log' log'' first ledger start mid reads told replayed cut fails, refl, refl)

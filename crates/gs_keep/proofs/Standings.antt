@@ -6,6 +6,7 @@ use Rattle.gs_keep_log.specs.Log.{Held, whole}
 use Rattle.gs_shell_line.specs.Line.{content}
 use Rattle.gs_shell_script.specs.Run.{lines_of}
 use Rattle.gs_shell_script.proofs.Lines.{lines_of-step}
+use Rattle.gs_keep_mark.specs.declared.Ledger.{Ledger}
 use Rattle.gs_keep_measure.specs.Extent.{Extends, run_again}
 use Rattle.gs_keep_measure.specs.Measure.{Measures, StopsFirst, bytes_in}
 use Rattle.gs_keep_measure.specs.Tail.{tail_fault}
@@ -98,17 +99,18 @@ stands (Some text) n measure is_second head extent tail long measured first exte
 
 -- ---- what doesn't
 
-module _ {S : Type 0} (Begins : List ℕ → Bool → S → Type 0) where
-  pub refuses_extent : {E : Type 0} (RefusesHead : List ℕ → E → Type 0) (f : ExtentFault) (o : Option (List ℕ)) (n : ℕ) (measure : Measure) (is_second : Bool) (head : List ℕ) (machine : S)
-      → IfSome o (λ text. n ≡ length text) → IfSome o (λ text. Measures (take n text) measure) → IfSome o (λ text. IsHead (take n text) head) → Begins head is_second machine
+module _ {S : Type 0} (Begins : List ℕ → Bool → ℕ → S → Type 0) where
+  pub refuses_extent : {E : Type 0} (RefusesHead : List ℕ → E → Type 0) (f : ExtentFault) (o : Option (List ℕ)) (n : ℕ) (measure : Measure) (is_second : Bool) (head : List ℕ) (before : ℕ) (machine : S)
+      → IfSome o (λ text. n ≡ length text) → IfSome o (λ text. Measures (take n text) measure) → IfSome o (λ text. IsHead (take n text) head) → Begins head is_second before machine
       → Extends (Err f) is_second measure (length head) n → IfSome o (λ text. RefusesExtent Begins RefusesHead f text)
-  refuses_extent RefusesHead f None n measure is_second head machine long measured first begins extends = tt
-  refuses_extent RefusesHead f (Some text) n measure is_second head machine long measured first begins extends =
+  refuses_extent RefusesHead f None n measure is_second head before machine long measured first begins extends = tt
+  refuses_extent RefusesHead f (Some text) n measure is_second head before machine long measured first begins extends =
       let all : take n text ≡ text = take_all n text (omega (arith, long)) in
       record {
         measure = measure;
         is_second = is_second;
         head = head;
+        before = before;
         machine = machine;
         measured = subst (λ (l : List ℕ). Measures l measure) all measured;
         first = subst (λ (l : List ℕ). IsHead l head) all first;
@@ -116,18 +118,19 @@ module _ {S : Type 0} (Begins : List ℕ → Bool → S → Type 0) where
         extends = subst (λ (k : ℕ). Extends (Err f) is_second measure (length head) k) long extends;
       }
 
-  pub refuses_tail : {E : Type 0} (RefusesHead : List ℕ → E → Type 0) (f : TailFault) (o : Option (List ℕ)) (n : ℕ) (measure : Measure) (is_second : Bool) (head : List ℕ) (machine : S) (extent : Extent) (tail : List ℕ)
-      → IfSome o (λ text. n ≡ length text) → IfSome o (λ text. Measures (take n text) measure) → IfSome o (λ text. IsHead (take n text) head) → Begins head is_second machine
+  pub refuses_tail : {E : Type 0} (RefusesHead : List ℕ → E → Type 0) (f : TailFault) (o : Option (List ℕ)) (n : ℕ) (measure : Measure) (is_second : Bool) (head : List ℕ) (before : ℕ) (machine : S) (extent : Extent) (tail : List ℕ)
+      → IfSome o (λ text. n ≡ length text) → IfSome o (λ text. Measures (take n text) measure) → IfSome o (λ text. IsHead (take n text) head) → Begins head is_second before machine
       → Extends (Ok extent) is_second measure (length head) n → IfSome o (λ text. tail ≡ drop extent.whole (take n text))
       → tail_fault is_second measure head tail ≡ Some f → IfSome o (λ text. RefusesTail Begins RefusesHead f extent.lines text)
-  refuses_tail RefusesHead f None n measure is_second head machine extent tail long measured first begins extends rest found = tt
-  refuses_tail RefusesHead f (Some text) n measure is_second head machine extent tail long measured first begins extends rest found =
+  refuses_tail RefusesHead f None n measure is_second head before machine extent tail long measured first begins extends rest found = tt
+  refuses_tail RefusesHead f (Some text) n measure is_second head before machine extent tail long measured first begins extends rest found =
       let all : take n text ≡ text = take_all n text (omega (arith, long)) in
       let tail_is : tail ≡ drop extent.whole text = rest ∙ ap (drop extent.whole) all in
       record {
         measure = measure;
         is_second = is_second;
         head = head;
+        before = before;
         machine = machine;
         extent = extent;
         measured = subst (λ (l : List ℕ). Measures l measure) all measured;
@@ -181,12 +184,13 @@ module _ (src : Option (List ℕ)) (measure : Measure) (is_second : Bool) (head 
 
   -- ---- what a start does
 
-  module _ {S : Type 0} (A : S → List ℕ → List ℕ → S → Type 0) (is_kept : List ℕ → Bool) (turns_away : S → List ℕ → Bool) (due : S → Option (List ℕ)) (Begins : List ℕ → Bool → S → Type 0) (machine : S) (begins : Begins head is_second machine) where
+  module _ {S : Type 0} (A : S → List ℕ → List ℕ → S → Type 0) (is_kept : List ℕ → Bool) (turns_away : S → List ℕ → Bool) (due : S → Option (List ℕ)) (Begins : List ℕ → Bool → ℕ → S → Type 0) (before : ℕ) (machine : S) (begins : Begins head is_second before machine) where
     unfoldable found : (h : Held) (aside : List ℕ) → src ≡ Some (whole h) → aside ≡ tail → Found A is_kept turns_away due Begins (whole h) aside
     found h aside is put = record {
       measure = measure;
       is_second = is_second;
       head = head;
+      before = before;
       script = drop (length head) (take extent.whole (whole h));
       extent = extent;
       machine = machine;
@@ -195,24 +199,23 @@ module _ (src : Option (List ℕ)) (measure : Measure) (is_second : Bool) (head 
       lines = script_in h is;
     }
 
-    pub started : (o log' : Option Held) (left p : Option (List ℕ)) (out out' : Option (List ℕ)) (aside : List ℕ) (is_alone : Bool) (end : S) → IfSome o (λ h. src ≡ Some (whole h)) → Gives left
+    pub started : (o log' : Option Held) (left p : Option (List ℕ)) (out out' : Option (List ℕ)) (aside : List ℕ) (is_alone : Bool) (ended : Ledger) (end : S) → IfSome o (λ h. src ≡ Some (whole h)) → Gives left
         → aside ≡ tail → is_alone ≡ false
-        → IfSome left (λ script. IfSome p (λ input. KeepsOn A is_kept turns_away due machine head script input extent.whole o log' out out' end))
-        → IfSome o (λ h. IfSome p (λ input. Starts A is_kept turns_away due Begins (whole h) input o log' out out' aside is_alone))
+        → IfSome left (λ script. IfSome p (λ input. KeepsOn A is_kept turns_away due machine head before script input extent.whole o log' out out' ended end))
+        → IfSome o (λ h. IfSome p (λ input. Starts A is_kept turns_away due Begins (whole h) input o log' out out' aside is_alone ended end))
     unfolding found
-    started None log' left p out out' aside is_alone end is gives put alone keeps = tt
-    started (Some h) log' left None out out' aside is_alone end is gives put alone keeps = tt
-    started (Some h) log' left (Some input) out out' aside is_alone end is gives put alone keeps =
+    started None log' left p out out' aside is_alone ended end is gives put alone keeps = tt
+    started (Some h) log' left None out out' aside is_alone ended end is gives put alone keeps = tt
+    started (Some h) log' left (Some input) out out' aside is_alone ended end is gives put alone keeps =
         record {
           found = found h aside is put;
-          end = end;
           not_alone = alone;
-          keeps = subst (λ (q : Option (List ℕ)). IfSome q (λ script. KeepsOn A is_kept turns_away due machine head script input extent.whole (Some h) log' out out' end)) (gives_in left h is gives) keeps;
+          keeps = subst (λ (q : Option (List ℕ)). IfSome q (λ script. KeepsOn A is_kept turns_away due machine head before script input extent.whole (Some h) log' out out' ended end)) (gives_in left h is gives) keeps;
         }
 
     pub breaks : (f : StoreFault) (o log' : Option Held) (left p back : Option (List ℕ)) (out out' : Option (List ℕ)) (aside : List ℕ) (is_alone : Bool) (end : S) → IfSome o (λ h. src ≡ Some (whole h)) → Gives left
-        → aside ≡ tail → AsideAs {T = Unit {0}} (Err f) is_alone
-        → IfSome left (λ script. IfSome p (λ input. StoreFails A is_kept turns_away due f machine head script input back extent.whole o log' out out' end))
+        → aside ≡ tail → AsideAs {T = Ledger} (Err f) is_alone
+        → IfSome left (λ script. IfSome p (λ input. StoreFails A is_kept turns_away due f machine head before script input back extent.whole o log' out out' end))
         → IfSome o (λ h. IfSome p (λ input. Breaks A is_kept turns_away due Begins f (whole h) input back o log' out out' aside is_alone))
     unfolding found
     breaks f None log' left p back out out' aside is_alone end is gives put alone fails = tt
@@ -222,5 +225,5 @@ module _ (src : Option (List ℕ)) (measure : Measure) (is_second : Bool) (head 
           found = found h aside is put;
           end = end;
           alone = alone;
-          fails = subst (λ (q : Option (List ℕ)). IfSome q (λ script. StoreFails A is_kept turns_away due f machine head script input back extent.whole (Some h) log' out out' end)) (gives_in left h is gives) fails;
+          fails = subst (λ (q : Option (List ℕ)). IfSome q (λ script. StoreFails A is_kept turns_away due f machine head before script input back extent.whole (Some h) log' out out' end)) (gives_in left h is gives) fails;
         }

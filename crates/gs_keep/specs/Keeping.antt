@@ -2,7 +2,7 @@
 use Rattle.std.specs.Prelude.{◌≡◌, ◌++◌, ℕ, Bool, true, false, List, [], take, drop, map, Option, Some, IfSome, Result, Ok, Err}
 use Rattle.gs_keep_log.specs.Log.{Held, MayLeave, whole}
 use Rattle.gs_shell_script.specs.Run.{Runs}
-use Rattle.gs_keep_mark.specs.Marks.{Entry, beginning, marked, text_of, totals_behind}
+use Rattle.gs_keep_mark.specs.Marks.{Entry, begins_from, marked, text_of, totals_behind}
 use Rattle.gs_keep_mark.specs.Started.{AreBatches, IsBatch}
 use Rattle.gs_keep_mark.specs.declared.Ledger.{Ledger}
 use Rattle.gs_keep_mark.specs.Ledgers.{IsLedger}
@@ -97,25 +97,24 @@ AsideAs (Err (fault.Serve f)) is_alone = is_alone ≡ false
 module _ {S : Type 0} (A : S → List ℕ → List ℕ → S → Type 0) (is_kept : List ℕ → Bool) where
   -- The batches that a log has are run again, and those of its lines that no mark stands behind, as a log of form 1 has them. Then the log is cut
   -- behind them, and a mark is put behind lines that have none.
-  pub record Begins (start : S) (head script : List ℕ) (len : ℕ) (log log' : Option Held) (ledger : Ledger) (now : S) : Type 0 where
+  pub record Begins (start : S) (head : List ℕ) (before : ℕ) (script : List ℕ) (len : ℕ) (log log' : Option Held) (ledger : Ledger) (now : S) : Type 0 where
     pub batches : List (List Entry)
     pub last : List Entry
     pub again : RunsAgain A is_kept start (joined batches ++ last) now
     pub plain : AreBatches batches
     pub last_plain : IsBatch last
-    pub is : script ≡ marked (beginning head) batches ++ text_of last
-    pub told : IsLedger ledger (kept_behind (totals_behind (beginning head) batches) last)
-    pub rests : IfSome log (λ h. RestsAt log' (kept_behind (totals_behind (beginning head) batches) last).text)
+    pub is : script ≡ marked (begins_from head before) batches ++ text_of last
+    pub told : IsLedger ledger (kept_behind (totals_behind (begins_from head before) batches) last)
+    pub rests : IfSome log (λ h. RestsAt log' (kept_behind (totals_behind (begins_from head before) batches) last).text)
 
 -- And for tests that say which lines it turns away, and which one of its own is due.
 module _ {S : Type 0} (A : S → List ℕ → List ℕ → S → Type 0) (is_kept : List ℕ → Bool) (turns_away : S → List ℕ → Bool) (due : S → Option (List ℕ)) where
   -- A log is begun on, and then the input is served.
-  pub record KeepsOn (start : S) (head script input : List ℕ) (len : ℕ) (log log' : Option Held) (out out' : Option (List ℕ)) (end : S) : Type 0 where
+  pub record KeepsOn (start : S) (head : List ℕ) (before : ℕ) (script input : List ℕ) (len : ℕ) (log log' : Option Held) (out out' : Option (List ℕ)) (ended : Ledger) (end : S) : Type 0 where
     pub between : Option Held
     pub told : Ledger
-    pub ended : Ledger
     pub mid : S
-    pub begins : Begins A is_kept start head script len log between told mid
+    pub begins : Begins A is_kept start head before script len log between told mid
     pub serves : Serves A is_kept turns_away due mid input [] between log' out out' told ended end
     -- behind the input no line of the machine's own is due, or 32 were run at the end, or no more lines can be counted
     pub done : IsDone A is_kept turns_away due serves.turns end ended
@@ -124,22 +123,24 @@ module _ {S : Type 0} (A : S → List ℕ → List ℕ → S → Type 0) (is_kep
     pub together : Runs A start (map (λ e. e.line) (joined begins.batches ++ begins.last) ++ lines_taken serves.turns) (map (λ e. e.answer) (joined begins.batches ++ begins.last) ++ texts_taken serves.turns) end
     -- what stands in the log then leads to where the run has come
     pub stands : RunsAgain A is_kept start ((joined begins.batches ++ begins.last) ++ joined serves.batches) end
-    -- the log holds the batches of before and those of the run, each byte for good
-    pub holds : IfSome log (λ h. RestsAt log' (totals_behind (kept_behind (totals_behind (beginning head) begins.batches) begins.last) serves.batches).text)
+    -- the ledger tells of the batches of before and of those of the run
+    pub tells : IsLedger ended (totals_behind (kept_behind (totals_behind (begins_from head before) begins.batches) begins.last) serves.batches)
+    -- the log holds these, each byte for good
+    pub holds : IfSome log (λ h. RestsAt log' (totals_behind (kept_behind (totals_behind (begins_from head before) begins.batches) begins.last) serves.batches).text)
 
   -- A log is begun on, and then the run fails. Each crash leaves all that was answered, and any bytes behind it.
-  pub record StopsOn (fault : KeepFault) (start : S) (head script input : List ℕ) (left : Option (List ℕ)) (len : ℕ) (log log' : Option Held) (out out' : Option (List ℕ)) (end : S) : Type 0 where
+  pub record StopsOn (fault : KeepFault) (start : S) (head : List ℕ) (before : ℕ) (script input : List ℕ) (left : Option (List ℕ)) (len : ℕ) (log log' : Option Held) (out out' : Option (List ℕ)) (end : S) : Type 0 where
     pub between : Option Held
     pub told : Ledger
     pub mid : S
-    pub begins : Begins A is_kept start head script len log between told mid
+    pub begins : Begins A is_kept start head before script len log between told mid
     pub fails : Fails A is_kept turns_away due fault mid input left between log' out out' told end
-    pub crashes : IfSome log (λ h. LeavesAll (totals_behind (kept_behind (totals_behind (beginning head) begins.batches) begins.last) fails.done.batches).text log')
+    pub crashes : IfSome log (λ h. LeavesAll (totals_behind (kept_behind (totals_behind (begins_from head before) begins.batches) begins.last) fails.done.batches).text log')
 
-  abbrev pub StoreFails : StoreFault → S → List ℕ → List ℕ → List ℕ → Option (List ℕ) → ℕ → Option Held → Option Held → Option (List ℕ) → Option (List ℕ) → S → Type 0
-  StoreFails (fault.Replay f) start head script input left len log log' out out' end =
-      (ledger : Ledger) × IsLedger ledger (beginning head) × ReplayFails A is_kept f start script ledger × (left ≡ Some input) × (log' ≡ log) × (out' ≡ out)
-  StoreFails fault.Aside start head script input left len log log' out out' end = (log' ≡ log) × (left ≡ Some input) × (out' ≡ out)
-  StoreFails fault.Cut start head script input left len log log' out out' end = LeavesFront len log log' × (left ≡ Some input) × (out' ≡ out)
-  StoreFails (fault.Begin f) start head script input left len log log' out out' end = IfSome log (λ h. LeavesAll (head ++ script) log') × (left ≡ Some input) × (out' ≡ out)
-  StoreFails (fault.Serve f) start head script input left len log log' out out' end = StopsOn f start head script input left len log log' out out' end
+  abbrev pub StoreFails : StoreFault → S → List ℕ → ℕ → List ℕ → List ℕ → Option (List ℕ) → ℕ → Option Held → Option Held → Option (List ℕ) → Option (List ℕ) → S → Type 0
+  StoreFails (fault.Replay f) start head before script input left len log log' out out' end =
+      (ledger : Ledger) × IsLedger ledger (begins_from head before) × ReplayFails A is_kept f start script ledger × (left ≡ Some input) × (log' ≡ log) × (out' ≡ out)
+  StoreFails fault.Aside start head before script input left len log log' out out' end = (log' ≡ log) × (left ≡ Some input) × (out' ≡ out)
+  StoreFails fault.Cut start head before script input left len log log' out out' end = LeavesFront len log log' × (left ≡ Some input) × (out' ≡ out)
+  StoreFails (fault.Begin f) start head before script input left len log log' out out' end = IfSome log (λ h. LeavesAll (head ++ script) log') × (left ≡ Some input) × (out' ≡ out)
+  StoreFails (fault.Serve f) start head before script input left len log log' out out' end = StopsOn f start head before script input left len log log' out out' end

@@ -23,6 +23,6 @@ pub use rest::Rest;
 pub use sending::Answers;
 pub use source::{Aside, Made, Making, Source};
 pub use standing::{FirstLineFault, Standing, StandingFault, found_in};
-pub use starting::{StartFault, start};
+pub use starting::{Ended, StartFault, start};
 pub use turns::serve;
-pub use whole::keep_on;
+pub use whole::{First, keep_on};

@@ -30,6 +30,8 @@ pub struct Made<M> {
     pub machine: M,
     /// Whether the log is of the second form.
     pub is_second: bool,
+    /// How many lines the logs before have: 0 for a log that begins a new store.
+    pub before: u64,
 }
 
 /// What makes a machine for a log, by its first line.
@@ -41,15 +43,15 @@ pub trait Making {
     /// Why a first line is refused.
     type Fault: Drop;
 
-    /// Whether a machine is one that begins new, for a log that has this first line and is of the second form or not.
-    ghost Begins: { Self → List ℕ → Bool → Self.Machine → Type 0 };
+    /// Whether a machine is one to begin with, for a log that has this first line, is of the second form or not, and has so many lines before it.
+    ghost Begins: { Self → List ℕ → Bool → ℕ → Self.Machine → Type 0 };
 
     /// Whether a first line may be refused so.
     ghost Refuses: { Self → List ℕ → Self.Fault → Type 0 };
 
-    /// A machine that begins new for a log with this first line, which has its end.
+    /// A machine for a log with this first line, which has its end. It stands where the lines before have led: it is new where there are none.
     fn make(&self, alloc: Global, head: &[u8]) -> Result<Made<Self::Machine>, Self::Fault>
-        ensures begins { IfOk result (λ made. Begins self.now head.now made.is_second made.machine) }
+        ensures begins { IfOk result (λ made. Begins self.now head.now made.is_second made.before made.machine) }
         ensures refuses { IfErr result (λ e. Refuses self.now head.now e) };
 }
 

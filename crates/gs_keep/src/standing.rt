@@ -20,6 +20,8 @@ pub struct Standing<M> {
     pub machine: M,
     /// Whether it is of the second form.
     pub is_second: bool,
+    /// How many lines the logs before have.
+    pub before: u64,
     /// Its first line, with its end.
     pub head: Vec<u8>,
     pub measure: Measure,
@@ -120,7 +122,7 @@ fn opened<S: Source, H: Making>(
 ) -> Result<Opening<H::Machine>, StandingFault<H::Fault>>
     ensures measure { IfOk result (λ opened. IfSome (S.bytes source.old) (λ text. Measures (take len text) opened.measure)) }
     ensures head { IfOk result (λ opened. IfSome (S.bytes source.old) (λ text. IsHead (take len text) opened.head.items)) }
-    ensures begins { IfOk result (λ opened. H.Begins making.now opened.head.items opened.made.is_second opened.made.machine) }
+    ensures begins { IfOk result (λ opened. H.Begins making.now opened.head.items opened.made.is_second opened.made.before opened.made.machine) }
     ensures refuses { IfErr result (λ e. IfSome (S.bytes source.old) (λ text. Refuses (H.Begins making.now) (H.Refuses making.now) e (take len text))) }
     ensures same { S.bytes source.new ≡ S.bytes source.old }
 {
@@ -150,7 +152,7 @@ pub fn found_in<S: Source, H: Making>(
     making: &H,
 ) -> Result<Standing<H::Machine>, StandingFault<H::Fault>>
     ensures stands { IfOk result (λ s. IfSome (S.bytes source.old) (λ text. Stands text s.measure s.is_second s.head.items s.extent s.tail.items)) }
-    ensures begins { IfOk result (λ s. H.Begins making.now s.head.items s.is_second s.machine) }
+    ensures begins { IfOk result (λ s. H.Begins making.now s.head.items s.is_second s.before s.machine) }
     ensures refuses { IfErr result (λ e. IfSome (S.bytes source.old) (λ text. Refuses (H.Begins making.now) (H.Refuses making.now) e text)) }
     ensures same { S.bytes source.new ≡ S.bytes source.old }
 {
@@ -183,6 +185,7 @@ pub fn found_in<S: Source, H: Making>(
     Ok(Standing {
         machine: made.machine,
         is_second: made.is_second,
+        before: made.before,
         head,
         measure,
         extent,

@@ -1,5 +1,5 @@
 // A start of a store that a log has kept, from the log as it stands.
-ghost use Rattle.std.specs.Prelude.{◌≡◌, false, Some, IfErr, IfSome, OnOk};
+ghost use Rattle.std.specs.Prelude.{◌≡◌, false, Some, IfErr, IfOk, IfSome};
 ghost use Rattle.gs_keep_log.specs.Log.{whole};
 ghost use Rattle.gs_shell_line.specs.Ended.{HasNoMore, remaining};
 ghost use Rattle.gs_keep.specs.Sending.{HasStopped, sent};
@@ -10,8 +10,9 @@ use crate::fault::StoreFault;
 use crate::sending::Answers;
 use crate::source::{Aside, Making, Source};
 use crate::standing::{Standing, StandingFault, found_in};
-use crate::whole::keep_on;
+use crate::whole::{First, keep_on};
 use gs_keep_log::Log;
+use gs_keep_mark::Ledger;
 use gs_shell_line::EndedLines;
 use std::alloc::Global;
 use std::io::{BufRead, Write};
@@ -24,10 +25,20 @@ pub enum StartFault<E> {
     Run(StoreFault),
 }
 
+/// What a start has come to behind the input.
+#[derive(Drop)]
+pub struct Ended<M> {
+    /// The machine, as it stands behind the last line.
+    pub machine: M,
+    /// What the log's marks tell of, up to its end.
+    pub ledger: Ledger,
+}
+
 /// Goes on with the store that a log has kept, whatever stands in it. The log is locked, and `source` gives what stands in it.
 ///
 /// Of the log nothing is changed before all of it is measured, its first line is taken, what is run again is run, each mark of it compared, and
-/// what stands after that put aside. Then that is cut off, and the input is answered, as [`keep_on`] says.
+/// what stands after that put aside. Then that is cut off, and the input is answered, as [`keep_on`] says. With what is given back [`serve`](crate::serve)
+/// answers more lines over the same log.
 pub fn start<L: Log, S: Source, H: Making, A: Aside, R: BufRead, W: Write, P: Progress>(
     alloc: Global,
     log: &mut L,
@@ -37,12 +48,12 @@ pub fn start<L: Log, S: Source, H: Making, A: Aside, R: BufRead, W: Write, P: Pr
     progress: &mut P,
     reader: &mut EndedLines<R>,
     writer: &mut Answers<W>,
-) -> Result<(), StartFault<H::Fault>>
+) -> Result<Ended<H::Machine>, StartFault<H::Fault>>
     requires goes_on { L.has_failed log.old ≡ false }
     requires same { IfSome (L.holds log.old) (λ h. S.bytes source.old ≡ Some (whole h)) }
-    ensures ok { OnOk result (IfSome (L.holds log.old) (λ h. IfSome (remaining R.remaining reader.old) (λ input.
+    ensures ok { IfOk result (λ ended. IfSome (L.holds log.old) (λ h. IfSome (remaining R.remaining reader.old) (λ input.
         Starts H.Machine.Answers H.Machine.is_kept H.Machine.is_turned_away H.Machine.own (H.Begins making.now) (whole h) input (L.holds log.old) (L.holds log.new)
-        (sent W.contents writer.old) (sent W.contents writer.new) (A.bytes aside.new) (A.is_alone aside.new)))) }
+        (sent W.contents writer.old) (sent W.contents writer.new) (A.bytes aside.new) (A.is_alone aside.new) ended.ledger ended.machine))) }
     ensures err { IfErr result (λ e. IfSome (L.holds log.old) (λ h. IfSome (remaining R.remaining reader.old) (λ input.
         StartFails H.Machine.Answers H.Machine.is_kept H.Machine.is_turned_away H.Machine.own (H.Begins making.now) (H.Refuses making.now) e (whole h) input
         (remaining R.remaining reader.new) (L.holds log.old) (L.holds log.new)
@@ -58,6 +69,7 @@ pub fn start<L: Log, S: Source, H: Making, A: Aside, R: BufRead, W: Write, P: Pr
     let Standing {
         mut machine,
         is_second: _,
+        before,
         head,
         measure: _,
         extent,
@@ -74,7 +86,10 @@ pub fn start<L: Log, S: Source, H: Making, A: Aside, R: BufRead, W: Write, P: Pr
         alloc,
         &mut machine,
         log,
-        &head,
+        First {
+            head: &head,
+            before,
+        },
         extent.whole,
         &mut logged,
         aside,
@@ -82,7 +97,7 @@ pub fn start<L: Log, S: Source, H: Making, A: Aside, R: BufRead, W: Write, P: Pr
         reader,
         writer,
     ) {
-        Ok(()) => Ok(()),
+        Ok(ledger) => Ok(Ended { machine, ledger }),
         Err(fault) => Err(StartFault::Run(fault)),
     }
 }

@@ -11,6 +11,7 @@ mod log;
 mod making;
 mod named;
 mod opening;
+mod renewing;
 mod standard;
 
 pub use aside::{open_to_read, put_aside};
@@ -19,4 +20,5 @@ pub use log::FileLog;
 pub use making::{FirstText, make};
 pub use named::NamedFile;
 pub use opening::{OpenFault, Opened, Standing, open, what_stands};
+pub use renewing::{LogNames, RenewFault, Step, StepFault, put_whole, sync_folder, take_away};
 pub use standard::{Placeholders, fill_standard};

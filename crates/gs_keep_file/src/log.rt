@@ -8,9 +8,9 @@ use std::io::{self, ErrorKind};
 /// A log in a file.
 #[derive(Drop)]
 pub struct FileLog<F> {
-    file: F,
+    pub(crate) file: F,
     /// How long the file is, as far as the log knows.
-    len: u64,
+    pub(crate) len: u64,
     /// How long it was when it was synced last, if it was since it was opened.
     synced_len: Option<u64>,
     /// Why a call failed, if one has.
@@ -51,6 +51,13 @@ impl<F> FileLog<F> {
             synced_len: None,
             fault: None,
         }
+    }
+
+    /// How long the file is, as far as the log knows.
+    pub fn len(&self) -> u64
+        ensures { result ≡ self.now.len }
+    {
+        self.len
     }
 
     /// Why a call failed, if one has. The file is closed.

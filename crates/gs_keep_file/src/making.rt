@@ -42,7 +42,7 @@ fn is_begun(alloc: Global, mut file: &File, text: &FirstText<'_>) -> io::Result<
 }
 
 /// Puts a text into a file in place of what stands there, and waits until it is on the disk.
-fn put(mut file: &File, text: &FirstText<'_>) -> io::Result<()> {
+pub(crate) fn put_text(mut file: &File, text: &FirstText<'_>) -> io::Result<()> {
     file.set_len(0)?;
     file.write_all(text.fixed)?;
     file.write_all(text.drawn)?;
@@ -77,7 +77,7 @@ fn named<R: Files<File = File>>(
     text: &FirstText<'_>,
 ) -> io::Result<()> {
     let folder = File::open(rt, folder_of(path))?;
-    put(file, text)?;
+    put_text(file, text)?;
     let has_both = give_name(rt, beside, path)?;
     folder.sync_all()?;
     if has_both {
@@ -104,7 +104,7 @@ fn is_link<R: Files>(rt: &R, path: &str) -> bool {
 }
 
 /// The file beside the name, locked. Refused where it holds anything but a beginning of the text, or of one that another run has drawn.
-fn begun<R: Files<File = File> + AllocGlobal>(
+pub(crate) fn begun<R: Files<File = File> + AllocGlobal>(
     rt: &R,
     beside: &str,
     text: &FirstText<'_>,

@@ -28,10 +28,10 @@ impl Identity {
 /// next one.
 #[derive(Drop)]
 pub struct NamedFile<'a, R> {
-    rt: &'a R,
-    path: &'a str,
+    pub(crate) rt: &'a R,
+    pub(crate) path: &'a str,
     file: File,
-    identity: Identity,
+    pub(crate) identity: Identity,
 }
 
 impl<'a, R: Files> NamedFile<'a, R> {
@@ -58,7 +58,7 @@ impl<'a, R: Files> NamedFile<'a, R> {
     }
 
     /// Looks whether the file has its name, and is so long.
-    fn is_as_known(&self, known: u64) -> Result<(), FileFault> {
+    pub(crate) fn is_as_known(&self, known: u64) -> Result<(), FileFault> {
         let found = self.named_len()?;
         if found == known {
             return Ok(());

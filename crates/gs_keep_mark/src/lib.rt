@@ -3,6 +3,7 @@
 
 ghost use Rattle.std.specs.Prelude.{◌≡◌, ◌==◌, ◌++◌, ℕ, List, false, length, IfOk, OnOk};
 ghost use Rattle.sha2.specs.Hashers.{Holds256};
+ghost use Rattle.sha2.specs.Sha256.{sha256};
 ghost use Rattle.gs_keep_mark.specs.Marks.{Totals, beginning, begins_from, digest, digits_of, is_whole_mark, mark_of, noted, passed, starts_mark};
 ghost use Rattle.gs_keep_mark.specs.Ledgers.{IsLedger, is_full};
 
@@ -34,11 +35,19 @@ fn push_digits(bytes: &mut Vec<u8>, places: u64, count: u64) -> Result<(), Alloc
     Ok(())
 }
 
+/// The digest of what a hasher holds.
+fn sum_of(hasher: &Sha256) -> Result<[u8; 32], AllocError>
+    ensures { IfOk result (λ sum. (m : List ℕ) → Holds256 hasher.now m → sum ≡ sha256 m) }
+{
+    let sum: [u8; 32] = hasher.clone()?.finalize();
+    Ok(sum)
+}
+
 /// The digest of what a hasher holds, as hexadecimal digits.
 fn digest_of(hasher: &Sha256) -> Result<[u8; 64], AllocError>
     ensures { IfOk result (λ digits. (m : List ℕ) → Holds256 hasher.now m → digits ≡ digest m) }
 {
-    let sum: [u8; 32] = hasher.clone()?.finalize();
+    let sum = sum_of(hasher)?;
     let mut digits = [0u8; 64];
     let _ = hex::encode_to_slice(sum, &mut digits);
     Ok(digits)
@@ -78,6 +87,27 @@ impl Ledger {
             text,
             answers: Sha256::new(),
         }
+    }
+
+    /// How many lines the log has and those before it, without their marks.
+    pub fn lines(&self) -> u64
+        ensures { (t : Totals) → IsLedger self.now t → result ≡ t.count }
+    {
+        self.lines
+    }
+
+    /// The digest of all bytes of the log, its first line and its marks too.
+    pub fn text(&self) -> Result<[u8; 32], AllocError>
+        ensures { IfOk result (λ sum. (t : Totals) → IsLedger self.now t → sum ≡ sha256 t.text) }
+    {
+        sum_of(&self.text)
+    }
+
+    /// The digest of all answers to the log's lines, each with its end.
+    pub fn answers(&self) -> Result<[u8; 32], AllocError>
+        ensures { IfOk result (λ sum. (t : Totals) → IsLedger self.now t → sum ≡ sha256 t.answers) }
+    {
+        sum_of(&self.answers)
     }
 
     /// Whether no line more can be counted.

@@ -1,11 +1,12 @@
 -- What a run has come to at some moment.
-use Rattle.std.proofs.Common.{◌≡◌, ◌+◌, ◌++◌, [], ℕ, List, Bool, Option, Some, None, IfSome, Result, Ok, Err, OnOk, IfErr, length, take, drop, inl, inr, sym, ap, subst, ◌∙◌, arith, append_assoc, take_all, length-append}
+use Rattle.std.proofs.Common.{◌≡◌, ◌+◌, ◌++◌, [], ℕ, List, Bool, Option, Some, None, IfSome, Result, Ok, Err, IfOk, IfErr, length, take, drop, inl, inr, sym, ap, subst, ◌∙◌, arith, append_assoc, take_all, length-append}
 use Rattle.std.proofs.Math.Seq.{take-append-add}
 use Rattle.std.proofs.lemmas.List.{take-append-drop}
 use Rattle.std.specs.Io.KnownBytes.{Appends}
 use Rattle.gs_keep_log.specs.Log.{Held}
 use Rattle.gs_shell_script.specs.Run.{AppendsBeginning, lines_of, unlines}
-use Rattle.gs_keep_mark.specs.Marks.{Entry, Totals, beginning, totals_behind}
+use Rattle.gs_keep_mark.specs.Marks.{Entry, Totals, begins_from, totals_behind}
+use Rattle.gs_keep_mark.specs.declared.Ledger.{Ledger}
 use Rattle.gs_keep.specs.Keeping.{KeepsOn, LeavesAll, LeavesFront, StoreFails, StopsOn}
 use Rattle.gs_keep.specs.Lines.{entries, joined, kept_behind, lines_asked, texts_of}
 use Rattle.gs_keep.specs.declared.fault.KeepFault.{KeepFault}
@@ -46,9 +47,9 @@ untouched len h log' same = subst (LeavesFront len (Some h)) (sym same) left
 -- ---- where a run ends
 
 module _ {S : Type 0} (A : S → List ℕ → List ℕ → S → Type 0) (is_kept : List ℕ → Bool) (turns_away : S → List ℕ → Bool) (due : S → Option (List ℕ)) where
-  at_end : (head script input : List ℕ) (len : ℕ) (h : Held) (log' : Option Held) (out out' : Option (List ℕ)) (start end : S)
-      → KeepsOn A is_kept turns_away due start head script input len (Some h) log' out out' end → Answered A is_kept turns_away due start head script input log' out out'
-  at_end head script input len h log' out out' start end k = record {
+  at_end : (head : List ℕ) (before : ℕ) (script input : List ℕ) (len : ℕ) (h : Held) (log' : Option Held) (out out' : Option (List ℕ)) (ledger : Ledger) (start end : S)
+      → KeepsOn A is_kept turns_away due start head before script input len (Some h) log' out out' ledger end → Answered A is_kept turns_away due start head before script input log' out out'
+  at_end head before script input len h log' out out' ledger start end k = record {
     batches = k.begins.batches;
     last = k.begins.last;
     turns = k.serves.turns;
@@ -67,9 +68,9 @@ module _ {S : Type 0} (A : S → List ℕ → List ℕ → S → Type 0) (is_kep
   }
 
   -- nothing more has gone out than the answers to what was done
-  at_done : (f : KeepFault) (head script input : List ℕ) (left : Option (List ℕ)) (len : ℕ) (h : Held) (log' : Option Held) (out out' : Option (List ℕ)) (start end : S)
-      → (s : StopsOn A is_kept turns_away due f start head script input left len (Some h) log' out out' end) → out' ≡ s.fails.written → Answered A is_kept turns_away due start head script input log' out out'
-  at_done f head script input left len h log' out out' start end s same = record {
+  at_done : (f : KeepFault) (head : List ℕ) (before : ℕ) (script input : List ℕ) (left : Option (List ℕ)) (len : ℕ) (h : Held) (log' : Option Held) (out out' : Option (List ℕ)) (start end : S)
+      → (s : StopsOn A is_kept turns_away due f start head before script input left len (Some h) log' out out' end) → out' ≡ s.fails.written → Answered A is_kept turns_away due start head before script input log' out out'
+  at_done f head before script input left len h log' out out' start end s same = record {
     batches = s.begins.batches;
     last = s.begins.last;
     turns = s.fails.done.turns;
@@ -88,12 +89,12 @@ module _ {S : Type 0} (A : S → List ℕ → List ℕ → S → Type 0) (is_kep
   }
 
   -- of the answers to the lines that waited a beginning has gone out, and the log has these lines for good
-  at_write : (head script input : List ℕ) (left : Option (List ℕ)) (len : ℕ) (h : Held) (log' : Option Held) (out out' : Option (List ℕ)) (start end : S)
-      → StopsOn A is_kept turns_away due keep.Write start head script input left len (Some h) log' out out' end → Answered A is_kept turns_away due start head script input log' out out'
-  at_write head script input left len h log' out out' start end s =
+  at_write : (head : List ℕ) (before : ℕ) (script input : List ℕ) (left : Option (List ℕ)) (len : ℕ) (h : Held) (log' : Option Held) (out out' : Option (List ℕ)) (start end : S)
+      → StopsOn A is_kept turns_away due keep.Write start head before script input left len (Some h) log' out out' end → Answered A is_kept turns_away due start head before script input log' out out'
+  at_write head before script input left len h log' out out' start end s =
       let (w, kept, sent) = s.fails.last in
       let done = s.fails.done in
-      let t = kept_behind (totals_behind (beginning head) s.begins.batches) s.begins.last in
+      let t = kept_behind (totals_behind (begins_from head before) s.begins.batches) s.begins.last in
       let u = totals_behind t done.batches in
       let es = entries w.turns in
       let (told, rested) = done.kept t s.begins.told in
@@ -118,29 +119,29 @@ module _ {S : Type 0} (A : S → List ℕ → List ℕ → S → Type 0) (is_kep
         left = subst (λ (l : List ℕ). LeavesAll l log') text (rest_leaves log' (kept_behind u es).text (kept u told (rested s.begins.rests)));
       }
 
-  at_stop : (f : KeepFault) (head script input : List ℕ) (left : Option (List ℕ)) (len : ℕ) (h : Held) (log' : Option Held) (out out' : Option (List ℕ)) (start end : S)
-      → StopsOn A is_kept turns_away due f start head script input left len (Some h) log' out out' end → Answered A is_kept turns_away due start head script input log' out out'
-  at_stop keep.Memory head script input left len h log' out out' start end s = at_done keep.Memory head script input left len h log' out out' start end s s.fails.last.1
-  at_stop keep.Read head script input left len h log' out out' start end s = at_done keep.Read head script input left len h log' out out' start end s s.fails.last.2
-  at_stop keep.Unended head script input left len h log' out out' start end s = at_done keep.Unended head script input left len h log' out out' start end s s.fails.last.3
-  at_stop keep.TooMany head script input left len h log' out out' start end s = at_done keep.TooMany head script input left len h log' out out' start end s s.fails.last.3
-  at_stop keep.Log head script input left len h log' out out' start end s = at_done keep.Log head script input left len h log' out out' start end s s.fails.last.2
-  at_stop keep.Write head script input left len h log' out out' start end s = at_write head script input left len h log' out out' start end s
+  at_stop : (f : KeepFault) (head : List ℕ) (before : ℕ) (script input : List ℕ) (left : Option (List ℕ)) (len : ℕ) (h : Held) (log' : Option Held) (out out' : Option (List ℕ)) (start end : S)
+      → StopsOn A is_kept turns_away due f start head before script input left len (Some h) log' out out' end → Answered A is_kept turns_away due start head before script input log' out out'
+  at_stop keep.Memory head before script input left len h log' out out' start end s = at_done keep.Memory head before script input left len h log' out out' start end s s.fails.last.1
+  at_stop keep.Read head before script input left len h log' out out' start end s = at_done keep.Read head before script input left len h log' out out' start end s s.fails.last.2
+  at_stop keep.Unended head before script input left len h log' out out' start end s = at_done keep.Unended head before script input left len h log' out out' start end s s.fails.last.3
+  at_stop keep.TooMany head before script input left len h log' out out' start end s = at_done keep.TooMany head before script input left len h log' out out' start end s s.fails.last.3
+  at_stop keep.Log head before script input left len h log' out out' start end s = at_done keep.Log head before script input left len h log' out out' start end s s.fails.last.2
+  at_stop keep.Write head before script input left len h log' out out' start end s = at_write head before script input left len h log' out out' start end s
 
-  at_fault : (f : StoreFault) (head script input : List ℕ) (left : Option (List ℕ)) (len : ℕ) (h : Held) (log' : Option Held) (out out' : Option (List ℕ)) (start end : S)
-      → StoreFails A is_kept turns_away due f start head script input left len (Some h) log' out out' end → AtMoment A is_kept turns_away due start head script input len (Some h) log' out out'
-  at_fault (fault.Replay f) head script input left len h log' out out' start end (ledger, told, fails, unread, same, unsent) = inl (unsent, inl (untouched len h log' same))
-  at_fault fault.Aside head script input left len h log' out out' start end (same, unread, unsent) = inl (unsent, inl (untouched len h log' same))
-  at_fault fault.Cut head script input left len h log' out out' start end (leaves, unread, unsent) = inl (unsent, inl leaves)
-  at_fault (fault.Begin f) head script input left len h log' out out' start end (leaves, unread, unsent) = inl (unsent, inr leaves)
-  at_fault (fault.Serve f) head script input left len h log' out out' start end s = inr (at_stop f head script input left len h log' out out' start end s)
+  at_fault : (f : StoreFault) (head : List ℕ) (before : ℕ) (script input : List ℕ) (left : Option (List ℕ)) (len : ℕ) (h : Held) (log' : Option Held) (out out' : Option (List ℕ)) (start end : S)
+      → StoreFails A is_kept turns_away due f start head before script input left len (Some h) log' out out' end → AtMoment A is_kept turns_away due start head before script input len (Some h) log' out out'
+  at_fault (fault.Replay f) head before script input left len h log' out out' start end (ledger, told, fails, unread, same, unsent) = inl (unsent, inl (untouched len h log' same))
+  at_fault fault.Aside head before script input left len h log' out out' start end (same, unread, unsent) = inl (unsent, inl (untouched len h log' same))
+  at_fault fault.Cut head before script input left len h log' out out' start end (leaves, unread, unsent) = inl (unsent, inl leaves)
+  at_fault (fault.Begin f) head before script input left len h log' out out' start end (leaves, unread, unsent) = inl (unsent, inr leaves)
+  at_fault (fault.Serve f) head before script input left len h log' out out' start end s = inr (at_stop f head before script input left len h log' out out' start end s)
 
-  pub at_moment : (r : Result (Unit {0}) StoreFault) (log log' : Option Held) (o p left : Option (List ℕ)) (head : List ℕ) (len : ℕ) (out out' : Option (List ℕ)) (start end : S)
-      → OnOk r (IfSome o (λ script. IfSome p (λ input. KeepsOn A is_kept turns_away due start head script input len log log' out out' end)))
-      → IfErr r (λ f. IfSome o (λ script. IfSome p (λ input. StoreFails A is_kept turns_away due f start head script input left len log log' out out' end)))
-      → IfSome log (λ h. IfSome o (λ script. IfSome p (λ input. AtMoment A is_kept turns_away due start head script input len log log' out out')))
-  at_moment r None log' o p left head len out out' start end ok err = tt
-  at_moment r (Some h) log' None p left head len out out' start end ok err = tt
-  at_moment r (Some h) log' (Some script) None left head len out out' start end ok err = tt
-  at_moment (Ok done) (Some h) log' (Some script) (Some input) left head len out out' start end ok err = inr (at_end head script input len h log' out out' start end ok)
-  at_moment (Err f) (Some h) log' (Some script) (Some input) left head len out out' start end ok err = at_fault f head script input left len h log' out out' start end err
+  pub at_moment : (r : Result Ledger StoreFault) (log log' : Option Held) (o p left : Option (List ℕ)) (head : List ℕ) (before : ℕ) (len : ℕ) (out out' : Option (List ℕ)) (start end : S)
+      → IfOk r (λ ledger. IfSome o (λ script. IfSome p (λ input. KeepsOn A is_kept turns_away due start head before script input len log log' out out' ledger end)))
+      → IfErr r (λ f. IfSome o (λ script. IfSome p (λ input. StoreFails A is_kept turns_away due f start head before script input left len log log' out out' end)))
+      → IfSome log (λ h. IfSome o (λ script. IfSome p (λ input. AtMoment A is_kept turns_away due start head before script input len log log' out out')))
+  at_moment r None log' o p left head before len out out' start end ok err = tt
+  at_moment r (Some h) log' None p left head before len out out' start end ok err = tt
+  at_moment r (Some h) log' (Some script) None left head before len out out' start end ok err = tt
+  at_moment (Ok ledger) (Some h) log' (Some script) (Some input) left head before len out out' start end ok err = inr (at_end head before script input len h log' out out' ledger start end ok)
+  at_moment (Err f) (Some h) log' (Some script) (Some input) left head before len out out' start end ok err = at_fault f head before script input left len h log' out out' start end err

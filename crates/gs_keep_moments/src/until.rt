@@ -7,8 +7,9 @@ ghost use Rattle.gs_keep.specs.Sending.{sent};
 ghost use Rattle.gs_keep_moments.specs.Moments.{AtMoment};
 
 use crate::stopping::StoppingLog;
-use gs_keep::{Answers, Keeping, Progress, Rest, StoreFault, keep_on};
+use gs_keep::{Answers, First, Keeping, Progress, Rest, StoreFault, keep_on};
 use gs_keep_log::Log;
+use gs_keep_mark::Ledger;
 use gs_shell_line::EndedLines;
 use std::alloc::Global;
 use std::io::{BufRead, Write};
@@ -20,22 +21,22 @@ pub fn keep_until<M: Keeping, L: Log, B: BufRead, A: Rest, R: BufRead, W: Write,
     alloc: Global,
     machine: &mut M,
     log: &mut StoppingLog<L>,
-    head: &[u8],
+    first: First<'_>,
     len: u64,
     logged: &mut EndedLines<B>,
     rest: &mut A,
     progress: &mut P,
     reader: &mut EndedLines<R>,
     writer: &mut Answers<W>,
-) -> Result<(), StoreFault>
+) -> Result<Ledger, StoreFault>
     requires goes_on { (log.old.has_stopped || L.has_failed log.old.log) ≡ false }
     requires within { IfSome (L.holds log.old.log) (λ h. len ≤ length (whole h)) }
-    requires logged { ReadsLog head.now len (L.holds log.old.log) (remaining B.remaining logged.old) }
+    requires logged { ReadsLog first.head.now len (L.holds log.old.log) (remaining B.remaining logged.old) }
     requires rest { LeavesRest len (L.holds log.old.log) (A.bytes rest.old) }
     ensures { IfSome (L.holds log.old.log) (λ h. IfSome (remaining B.remaining logged.old) (λ script. IfSome (remaining R.remaining reader.old) (λ input.
-        AtMoment M.Answers M.is_kept M.is_turned_away M.own machine.old head.now script input len (L.holds log.old.log) (L.holds log.new.log) (sent W.contents writer.old) (sent W.contents writer.new)))) }
+        AtMoment M.Answers M.is_kept M.is_turned_away M.own machine.old first.entry.head.now first.entry.before script input len (L.holds log.old.log) (L.holds log.new.log) (sent W.contents writer.old) (sent W.contents writer.new)))) }
 {
     keep_on(
-        alloc, machine, log, head, len, logged, rest, progress, reader, writer,
+        alloc, machine, log, first, len, logged, rest, progress, reader, writer,
     )
 }

@@ -9,12 +9,12 @@ use Rattle.clap.specs.declared.error.kind.ErrorKind.TheVariants as kind
 use Rattle.gs_keep_options.specs.Words.{app, mode_app, sized_app, words_asked}
 
 none_given : words_asked (codes "chunkkeep" ∷ codes "kept" ∷ [])
-    ≡ Some (record { path = codes "kept"; sizes = record { servers = None; racks = None; replicas = None; chunk = None; block = None }; is_existing = false; mode = record { is_check = false; is_read_only = false; is_lab = false; upto = None } })
+    ≡ Some (record { path = codes "kept"; sizes = record { servers = None; racks = None; replicas = None; chunk = None; block = None }; is_existing = false; mode = record { is_check = false; is_read_only = false; is_lab = false; upto = None; is_image = false; image_at = None } })
 unfolding app mode_app sized_app walked bundle_met chars encode_utf8 flags_pass walk_passes flags_fault walk_fault defaults_fault
 none_given = refl
 
 some_given : words_asked (codes "chunkkeep" ∷ codes "--servers" ∷ codes "5" ∷ codes "kept" ∷ codes "--block=4" ∷ [])
-    ≡ Some (record { path = codes "kept"; sizes = record { servers = Some 5; racks = None; replicas = None; chunk = None; block = Some 4 }; is_existing = false; mode = record { is_check = false; is_read_only = false; is_lab = false; upto = None } })
+    ≡ Some (record { path = codes "kept"; sizes = record { servers = Some 5; racks = None; replicas = None; chunk = None; block = Some 4 }; is_existing = false; mode = record { is_check = false; is_read_only = false; is_lab = false; upto = None; is_image = false; image_at = None } })
 unfolding app mode_app sized_app walked bundle_met chars encode_utf8 flags_pass walk_passes flags_fault walk_fault defaults_fault
 some_given = refl
 
@@ -43,14 +43,24 @@ unfolding app mode_app sized_app walked bundle_met chars encode_utf8 flags_pass 
 value-no_number = refl
 
 existing : words_asked (codes "chunkkeep" ∷ codes "--existing" ∷ codes "kept" ∷ [])
-    ≡ Some (record { path = codes "kept"; sizes = record { servers = None; racks = None; replicas = None; chunk = None; block = None }; is_existing = true; mode = record { is_check = false; is_read_only = false; is_lab = false; upto = None } })
+    ≡ Some (record { path = codes "kept"; sizes = record { servers = None; racks = None; replicas = None; chunk = None; block = None }; is_existing = true; mode = record { is_check = false; is_read_only = false; is_lab = false; upto = None; is_image = false; image_at = None } })
 unfolding app mode_app sized_app walked bundle_met chars encode_utf8 flags_pass walk_passes flags_fault walk_fault defaults_fault
 existing = refl
 
 read_only_upto : words_asked (codes "chunkkeep" ∷ codes "kept" ∷ codes "--read-only" ∷ codes "--upto" ∷ codes "7" ∷ [])
-    ≡ Some (record { path = codes "kept"; sizes = record { servers = None; racks = None; replicas = None; chunk = None; block = None }; is_existing = false; mode = record { is_check = false; is_read_only = true; is_lab = false; upto = Some 7 } })
+    ≡ Some (record { path = codes "kept"; sizes = record { servers = None; racks = None; replicas = None; chunk = None; block = None }; is_existing = false; mode = record { is_check = false; is_read_only = true; is_lab = false; upto = Some 7; is_image = false; image_at = None } })
 unfolding app mode_app sized_app walked bundle_met chars encode_utf8 flags_pass walk_passes flags_fault walk_fault defaults_fault
 read_only_upto = refl
+
+an_image : words_asked (codes "chunkkeep" ∷ codes "kept" ∷ codes "--image" ∷ [])
+    ≡ Some (record { path = codes "kept"; sizes = record { servers = None; racks = None; replicas = None; chunk = None; block = None }; is_existing = false; mode = record { is_check = false; is_read_only = false; is_lab = false; upto = None; is_image = true; image_at = None } })
+unfolding app mode_app sized_app walked bundle_met chars encode_utf8 flags_pass walk_passes flags_fault walk_fault defaults_fault
+an_image = refl
+
+an_image_at : words_asked (codes "chunkkeep" ∷ codes "kept" ∷ codes "--image-at=10" ∷ [])
+    ≡ Some (record { path = codes "kept"; sizes = record { servers = None; racks = None; replicas = None; chunk = None; block = None }; is_existing = false; mode = record { is_check = false; is_read_only = false; is_lab = false; upto = None; is_image = false; image_at = Some 10 } })
+unfolding app mode_app sized_app walked bundle_met chars encode_utf8 flags_pass walk_passes flags_fault walk_fault defaults_fault
+an_image_at = refl
 
 help_is_shown : fault_of app (codes "chunkkeep" ∷ codes "--help" ∷ []) ≡ kind.DisplayHelp ∷ []
 unfolding app mode_app sized_app walked bundle_met chars encode_utf8 flags_pass walk_passes flags_fault walk_fault defaults_fault

@@ -1,5 +1,5 @@
 -- What the words of a command line ask for.
-use Rattle.std.specs.Prelude.{◌≡◌, ◌≢◌, ◌∷◌, ◌||◌, [], Bool, true, is_some, List, codes, string_bytes, if◌then◌else◌, Option, Some, None, Result, Ok, Err}
+use Rattle.std.specs.Prelude.{◌≡◌, ◌≢◌, ◌∷◌, ◌||◌, [], ℕ, Bool, true, is_some, List, codes, string_bytes, if◌then◌else◌, Option, Some, None, Result, Ok, Err}
 use Rattle.std.specs.Option.{option_map}
 use Rattle.clap.specs.Faults.{fault_of}
 use Rattle.clap.specs.Walk.{is_empty}
@@ -18,6 +18,7 @@ use Rattle.gs_keep_options.specs.declared.Task.TheVariants as task
 use Rattle.gs_keep_options.specs.declared.Shown.{Shown}
 use Rattle.gs_keep_options.specs.declared.Shown.TheVariants as shown
 use Rattle.gs_keep_options.specs.declared.Sizes.{Sizes}
+use Rattle.gs_keep_options.specs.Sizes.{given_or}
 
 -- an option that takes a whole number below 2 ^ 64
 abbrev pub number_rule : Text → Rule
@@ -39,11 +40,13 @@ sized_app = with_rule (with_rule (with_rule (with_rule (with_rule (with_rule (ne
 
 -- and what is to be done
 unfoldable pub mode_app : App
-mode_app = with_rule (with_rule (with_rule (with_rule sized_app
+mode_app = with_rule (with_rule (with_rule (with_rule (with_rule (with_rule sized_app
     (named_rule (codes "check") SetTrue))
     (named_rule (codes "read-only") SetTrue))
     (named_rule (codes "lab") SetTrue))
-    (number_rule (codes "upto"))
+    (number_rule (codes "upto")))
+    (named_rule (codes "image") SetTrue))
+    (number_rule (codes "image-at"))
 
 unfoldable pub app : App
 app = with_rule (with_rule mode_app (named_rule (codes "existing") SetTrue)) (named_rule (codes "version") Version)
@@ -63,14 +66,21 @@ mode_in rows = record {
   is_read_only = flag_in (codes "read-only") rows;
   is_lab = flag_in (codes "lab") rows;
   upto = number_in (codes "upto") rows;
+  is_image = flag_in (codes "image") rows;
+  image_at = number_in (codes "image-at") rows;
 }
 
--- what is to be done: a check goes before all else
+-- what is to be done: a check goes before all else, and what changes nothing before an image
 abbrev pub task_of : Mode → Task
 task_of m =
     if m.is_check then task.Check
     else if m.is_read_only || is_some m.upto then task.Look m.upto
+    else if m.is_image then task.Image
     else task.Serve
+
+-- an image is taken of a log so many times as long as the last one
+abbrev pub times_of : Mode → ℕ
+times_of m = given_or m.image_at 2
 
 -- a file, the sizes that are given, whether the store has to be there already, and what is to be done
 pub record Asks : Type 0 where

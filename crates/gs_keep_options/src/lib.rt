@@ -8,7 +8,7 @@ ghost use Rattle.clap.specs.Faults.{fault_of};
 ghost use Rattle.gs_base.specs.Configured.{Configured};
 ghost use Rattle.gs_shell_options.specs.Options.{RefusesWords, flag_in, named_rule};
 ghost use Rattle.gs_keep_options.specs.Sizes.{Tells, difference, fits, given_or, is_given_as};
-ghost use Rattle.gs_keep_options.specs.Words.{AskedAs, ShownAs, app, file_rule, mode_app, mode_in, number_rule, sized_app, sizes_in, task_of, words_asked};
+ghost use Rattle.gs_keep_options.specs.Words.{AskedAs, ShownAs, app, file_rule, mode_app, mode_in, number_rule, sized_app, sizes_in, task_of, times_of, words_asked};
 
 use clap::error::ErrorKind;
 use clap::{Arg, ArgAction, ArgMatches, Command};
@@ -46,6 +46,10 @@ pub struct Mode {
     pub is_lab: bool,
     /// The line of the file after which the store is looked at as it stood.
     pub upto: Option<u64>,
+    /// An image is taken of what stands, and nothing is answered.
+    pub is_image: bool,
+    /// How many times as long as its image a log is when another one is taken.
+    pub image_at: Option<u64>,
 }
 
 /// What is to be done with a store.
@@ -57,10 +61,12 @@ pub enum Task {
     Check,
     /// Lines that look are answered, and nothing is kept: of the whole store, or of that which stood after a line of the file.
     Look(Option<u64>),
+    /// An image is taken of what stands.
+    Image,
 }
 
 impl Mode {
-    /// What is to be done: a check, if it is asked for, whatever else is.
+    /// What is to be done: a check, if it is asked for, whatever else is, and then what changes nothing.
     pub fn task(&self) -> Task
         ensures { result ≡ task_of self.now }
     {
@@ -70,7 +76,18 @@ impl Mode {
         if self.is_read_only || self.upto.is_some() {
             return Task::Look(self.upto);
         }
+        if self.is_image {
+            return Task::Image;
+        }
         Task::Serve
+    }
+
+    /// How many times as long as its image a log is when another one is taken: 2, where nothing else is asked for. With 0 none is
+    /// taken.
+    pub fn times(&self) -> u64
+        ensures { result ≡ times_of self.now }
+    {
+        self.image_at.unwrap_or(2)
     }
 }
 
@@ -251,6 +268,15 @@ const UPTO: NumberOption<'static> = NumberOption {
     help: "Answers lines that only look, of the store as it stood after this line of FILE",
 };
 
+const IMAGE_HELP: &str =
+    "Writes down the store as it stands, so that a start runs the lines from here on alone, and answers nothing";
+
+const IMAGE_AT: NumberOption<'static> = NumberOption {
+    name: "image-at",
+    value_name: "TIMES",
+    help: "How many times as long as its image FILE is when the store is written down by itself, at an end and at a start; else 2, and 0 is never",
+};
+
 const VERSION_HELP: &str = "Shows the program's name and the form of the file";
 
 /// The word that isn't an option's.
@@ -292,7 +318,9 @@ fn mode_command<'a>(alloc: Global) -> Result<Command<'a>, AllocError>
         ArgAction::SetTrue,
     )?;
     let command = with_flag(alloc, command, "lab", LAB_HELP, ArgAction::SetTrue)?;
-    with_number(alloc, command, UPTO)
+    let command = with_number(alloc, command, UPTO)?;
+    let command = with_flag(alloc, command, "image", IMAGE_HELP, ArgAction::SetTrue)?;
+    with_number(alloc, command, IMAGE_AT)
 }
 
 /// The command of which clap reads the words.
@@ -358,6 +386,8 @@ fn mode_in(matches: &ArgMatches<'_>) -> Mode
         is_read_only: flag_in(matches, "read-only"),
         is_lab: flag_in(matches, "lab"),
         upto: number_in(matches, "upto"),
+        is_image: flag_in(matches, "image"),
+        image_at: number_in(matches, "image-at"),
     }
 }
 

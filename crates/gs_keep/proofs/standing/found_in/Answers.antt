@@ -17,7 +17,7 @@ returns-in-Some-clause-refuses g c =
     let two = c.opened.ensures.same ∙ one in
     let found : tail_fault opened.made.is_second opened.measure head tail ≡ Some c.in-Some.fault = search rules in
     let extends : Extends (Ok extent) opened.made.is_second opened.measure (length head) n = search rules in
-    refuses_tail (g.H.Making.Begins c.args.making.now) (g.H.Making.Refuses c.args.making.now) c.in-Some.fault (g.S.Source.bytes c.args.source.now) n opened.measure opened.made.is_second head opened.made.machine extent tail
+    refuses_tail (g.H.Making.Begins c.args.making.now) (g.H.Making.Refuses c.args.making.now) c.in-Some.fault (g.S.Source.bytes c.args.source.now) n opened.measure opened.made.is_second head opened.made.before opened.made.machine extent tail
     c.in-Ok.ensures.len
     (subst (λ (q : Option (List ℕ)). IfSome q (λ text. Measures (take n text) opened.measure)) one c.in-Ok-opened.ensures.measure)
     (subst (λ (q : Option (List ℕ)). IfSome q (λ text. IsHead (take n text) head)) one c.in-Ok-opened.ensures.head)
