@@ -192,11 +192,29 @@ class Session(contextlib.AbstractContextManager["Session"]):
     def ended(self) -> Ended:
         return Ended(f"the store's program has ended, with status {self.program.wait()}: {self.last_said()[-1] or 'it said nothing'}")
 
+    @property
+    def is_from_image(self) -> bool:
+        """Whether the store's file begins from an image, so that not all of its lines stand there."""
+        if self.file is None:
+            return False
+        with open(self.file, "rb") as log:
+            return log.readline(1_000).startswith(b"chunkkeep 3 ")
+
+    def names(self) -> list[str]:
+        """Each path but the root at which something stands in the store's file, hidden ones too."""
+        words = [launch.program_of("chunkkeep").path, self.file, "--names"]
+        told = subprocess.run(words, stdin=subprocess.DEVNULL, stdout=subprocess.PIPE, stderr=subprocess.PIPE)
+        if told.returncode:
+            raise Failed(told.stderr.decode(errors="replace").strip().split("\n")[-1])
+        return [line.split(" ", 1)[1] for line in told.stdout.decode(errors="surrogateescape").splitlines()]
+
     def history(self) -> Iterator[str]:
-        """All lines that the store was ever asked."""
+        """All lines that the store was ever asked. A store from an image hasn't got them."""
         if self.file is None:
             yield from list(self.recorded)
             return
+        if self.is_from_image:
+            raise Failed(f"{self.file} begins from an image, and the lines before it don't stand there")
         with open(self.file, newline="\n", encoding="utf-8", errors="surrogateescape") as log:
             next(log)
             # A line that begins with # is a mark. One may end with \r\n.
@@ -205,6 +223,10 @@ class Session(contextlib.AbstractContextManager["Session"]):
     def again(self) -> "Session":
         """A store without a file, that is asked nothing yet, for the lines of this one to be run again."""
         return Session(None, self.sizes._asdict(), is_recorded=False)
+
+    def tried(self) -> "Session":
+        """The store of this one's file, of which all lines are answered and nothing is kept."""
+        return Session(self.file, {}, ["--try"])
 
     def set_moment(self) -> None:
         """From now on the store's moment is that of the clock."""

@@ -3,20 +3,25 @@
 
 ghost use Rattle.std.specs.Prelude.{◌≡◌, ◌&&◌, not, IfOk};
 ghost use Rattle.gs_keep_desk.specs.Looks.{harms_line};
+ghost use Rattle.gs_keep_desk.specs.Names.{AreNames};
 
 use gs_journal::Disk;
 use gs_keep::Keeping;
 use gs_shell_desk::Desk;
 use gs_shell_grammar::LineError;
 use gs_shell_script::Answering;
+use gs_tree::TreeEntry;
 use std::alloc::{AllocError, Global};
 
 mod lines;
 mod looking;
+mod names;
 mod ticks;
 
 pub use lines::{harms, only_looks};
 pub use looking::LookingDesk;
+pub use names::name_line;
+use names::names_of;
 use ticks::{BYTES_BETWEEN_TICKS, since_tick};
 
 /// A client's desk. Each line of the grammar is kept, also one that only reads. A line that harms the store is turned away where the desk
@@ -50,6 +55,14 @@ impl<D: Disk + Drop> KeptDesk<D> {
             is_lab,
             since: 0,
         }
+    }
+
+    /// What stands at each path but the root, hidden names too, in the order of the paths. `None` where the master's disks aren't open, as behind
+    /// a restart that was refused. It costs what is listed.
+    pub fn names(&self, alloc: Global) -> Result<Option<Vec<TreeEntry>>, AllocError>
+        ensures { IfOk result (λ found. AreNames self.now.desk.wire.nodes.master found) }
+    {
+        names_of(&self.desk, alloc)
     }
 
     /// What it has come to is only looked at from now on.
