@@ -31,13 +31,14 @@ fn run_again<R: Eprint + Clock + AllocGlobal>(
 ) -> Result<Again, Fault> {
     let Standing {
         machine: mut desk,
+        before,
         head,
         extent,
         ..
     } = standing;
     let mut teller = Teller::new(rt, &asked.path);
     teller.measured(extent.rest);
-    let mut ledger = Ledger::new(&head);
+    let mut ledger = Ledger::of(&head, before);
     match replay(rt.alloc(), &mut desk, &mut ledger, lines, &mut teller) {
         Ok(replayed) => Ok(Again { desk, replayed }),
         Err(fault) => Err(Fault::of_replay(fault)),

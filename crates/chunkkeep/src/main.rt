@@ -139,7 +139,7 @@ fn serve<'a, R: Files<File = File> + Input + Print + Eprint + Clock + AllocGloba
         &mut EndedLines::new(reader),
         &mut Answers::new(writer),
     ) {
-        Ok(()) => Ok(()),
+        Ok(_) => Ok(()),
         Err(StartFault::Standing(fault)) => Err(why_unrun(alloc, &mut source, fault)),
         Err(StartFault::Run(fault)) => {
             give_up(rt, path, &mut log);

@@ -72,7 +72,7 @@ impl Making for Opener {
 
     type Fault = Fault;
 
-    ghost Begins = { λ opener head is_second desk. Unit {0} };
+    ghost Begins = { λ opener head is_second before desk. Unit {0} };
 
     ghost Refuses = { λ opener head fault. Unit {0} };
 
@@ -85,6 +85,7 @@ impl Making for Opener {
         Ok(Made {
             machine: MemoryDesk::new(alloc, head.config, self.is_lab)?,
             is_second: head.form == Form::Two,
+            before: 0,
         })
     }
 }

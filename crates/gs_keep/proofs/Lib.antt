@@ -8,3 +8,4 @@ pub mod Replaying
 pub mod Going
 pub mod Standings
 mod Own
+mod Behind

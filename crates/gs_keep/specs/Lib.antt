@@ -5,3 +5,4 @@ pub mod Serving
 pub mod Replaying
 pub mod Keeping
 pub mod Starting
+pub mod Behind

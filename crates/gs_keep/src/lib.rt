@@ -18,7 +18,9 @@ mod whole;
 pub use again::{Progress, ReplayFault, Replayed, Wrong, replay};
 pub use fault::{KeepFault, StoreFault};
 pub use keeping::Keeping;
-pub use promises::a_machine_without_lines_of_its_own_sends_all_answers;
+pub use promises::{
+    a_log_goes_on_where_another_has_ended, a_machine_without_lines_of_its_own_sends_all_answers,
+};
 pub use rest::Rest;
 pub use sending::Answers;
 pub use source::{Aside, Made, Making, Source};

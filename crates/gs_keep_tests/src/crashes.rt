@@ -1,5 +1,6 @@
+use crate::plain::{NO_FAULT, Nobody};
 use gs_base::{Config, Refusal};
-use gs_keep::{Answers, Progress, Replayed, Rest, keep_on};
+use gs_keep::{Answers, First, Rest, keep_on};
 use gs_keep_desk::KeptDesk;
 use gs_keep_log::{Failed, Fault, MemoryLog};
 use gs_keep_mark::is_mark;
@@ -37,26 +38,6 @@ const PLACES: usize = 200;
 
 /// The parts that what isn't synced is left in.
 const PARTS: usize = 11;
-
-/// What a call of the log does that doesn't fail.
-const NO_FAULT: Fault = Fault {
-    calls: u64::MAX,
-    count: 0,
-};
-
-/// Nobody who is told.
-#[derive(Drop)]
-struct Nobody;
-
-impl Progress for Nobody {
-    fn measured(&mut self, _rest: u64) {}
-
-    fn passed(&mut self, _lines: u64) {}
-
-    fn ended(&mut self, _replayed: Replayed) {}
-
-    fn cut(&mut self) {}
-}
 
 /// Nothing stands after what is run again.
 #[derive(Drop)]
@@ -103,7 +84,10 @@ fn kept_on(
         alloc,
         &mut desk,
         &mut log,
-        b"",
+        First {
+            head: b"",
+            before: 0,
+        },
         len,
         &mut lines,
         &mut NoRest,

@@ -2,4 +2,10 @@
 #![tactic(auto)]
 
 #[cfg(test)]
+mod counting;
+#[cfg(test)]
 mod crashes;
+#[cfg(test)]
+mod plain;
+#[cfg(test)]
+mod starts;
