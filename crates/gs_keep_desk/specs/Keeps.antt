@@ -1,13 +1,15 @@
 -- What a desk may answer. A line that isn't of the grammar changes nothing, and is refused. A line of its own is due where a tick is.
-use Rattle.std.specs.Prelude.{◌≡◌, ◌⊎◌, ◌∷◌, ◌++◌, ◌==◌, ◌&&◌, ℕ, List, [], Bool, Option, None, Some, true, false, is_some, nat_lt, not, unwrap_or, MatchOption, refl}
+use Rattle.std.specs.Prelude.{◌≡◌, ◌⊎◌, ◌∷◌, ◌++◌, ◌==◌, ◌&&◌, ℕ, List, [], Bool, Option, None, Some, codes, true, false, is_some, nat_lt, not, unwrap_or, MatchOption, refl}
 use Rattle.std.specs.List.{onto_first, slice_split}
-use Rattle.std.specs.Str.{is_utf8}
+use Rattle.std.specs.Char.{encode_utf8}
+use Rattle.std.specs.Fmt.{digits}
+use Rattle.std.specs.Str.{chars, is_utf8}
 use Rattle.std.proofs.Common.{ap, cond, inl, inr, subst, sym, true≢false, ◌∙◌}
 use Rattle.gs_shell_grammar.specs.Grammar.{Request, ◌>>=◌, form_request, four_words, line_request, number_line, number_request, one_word, three_words, two_words, words_request}
 use Rattle.gs_shell_grammar.specs.Operands.{number_of}
 use Rattle.gs_shell_script.specs.Run.{bad_line_text, memory_text}
 use Rattle.gs_shell_desk.specs.Answering.{AnswersText}
-use Rattle.gs_keep.specs.Lines.{IsOwnLine}
+use Rattle.gs_keep.specs.Lines.{IsOwnLine, is_logged}
 use Rattle.gs_keep_desk.specs.Looks.{harms_line}
 use Rattle.gs_keep_desk.specs.Ticks.{due_line, bytes_between_ticks, since_tick, tick_line}
 use Rattle.gs_keep_desk.specs.declared.KeptDesk.{KeptDesk}
@@ -30,10 +32,18 @@ same_desk old new lab since desk =
     ap (λ d. record { desk = d; is_lab = new.is_lab; since = new.since }) desk ∙ ap (λ b. record { desk = old.desk; is_lab = b; since = new.since }) lab
     ∙ ap (λ n. record { desk = old.desk; is_lab = old.is_lab; since = n }) since
 
+bad_line_is : bad_line_text ≡ codes "refused 34 BadLine"
+unfolding digits
+bad_line_is = refl
+
+pub memory_is : memory_text ≡ codes "refused 33 Memory"
+unfolding digits
+memory_is = refl
+
 -- what is answered so counts for nothing
 passed_over : (n : ℕ) (line text : List ℕ) → (text ≡ bad_line_text) ⊎ (text ≡ memory_text) → since_tick n line text ≡ n
-passed_over n line text (inl bad) = ap (λ t. since_tick n line t) bad
-passed_over n line text (inr lacking) = ap (λ t. since_tick n line t) lacking
+passed_over n line text (inl bad) = ap (λ t. since_tick n line t) (bad ∙ bad_line_is)
+passed_over n line text (inr lacking) = ap (λ t. since_tick n line t) (lacking ∙ memory_is)
 
 -- the answer where nothing is asked
 none_answered : (asked : Option Request) (P R : Type 0) (Q : Request → Type 0) → is_some asked ≡ false → MatchOption asked (P × R) Q → P
@@ -73,8 +83,13 @@ is_due n line due = at (nat_lt n bytes_between_ticks) due
 
 -- a tick harms nothing, be it in a lab or not
 not_turned_away : (is_lab : Bool) → not is_lab && harms_line tick_line ≡ false
+unfolding one_word is_utf8 chars encode_utf8
 not_turned_away true = refl
 not_turned_away false = refl
+
+a_tick_is_logged : is_logged (λ line. is_some (line_request line)) (tick_line ++ 10 ∷ []) ≡ true
+unfolding one_word is_utf8 chars encode_utf8
+a_tick_is_logged = refl
 
 -- For any machine that turns away what harms the store, unless it is one of a lab.
 module _ {S : Type 0} (is_lab : S → Bool) (s : S) where
@@ -84,9 +99,9 @@ module _ {S : Type 0} (is_lab : S → Bool) (s : S) where
   a_tick_stands : IsOwn (tick_line ++ 10 ∷ [])
   a_tick_stands = record {
     body = tick_line;
-    within = (refl, refl, refl, refl, tt);
+    within = (refl, (refl, (refl, (refl, tt))));
     ended = refl;
-    logged = refl;
+    logged = a_tick_is_logged;
     taken = not_turned_away (is_lab s);
   }
 

@@ -1,6 +1,5 @@
 -- When a kept store has its nodes tick by a line of its own.
 use Rattle.std.specs.Prelude.{◌≡◌, ◌+◌, ◌++◌, ◌∷◌, ◌||◌, ℕ, Bool, List, [], length, Option, None, Some, bytes_eq, codes, nat_lt, if◌then◌else◌, refl}
-use Rattle.gs_shell_script.specs.Run.{bad_line_text, memory_text}
 
 -- so many bytes of lines behind a tick the next one is due
 abbrev pub bytes_between_ticks : ℕ
@@ -16,7 +15,7 @@ tick_line = codes "tick"
 
 -- A line with this answer counts for nothing: it is none of the grammar, or memory was lacking for it.
 abbrev pub is_passed_over : List ℕ → Bool
-is_passed_over text = bytes_eq text bad_line_text || bytes_eq text memory_text
+is_passed_over text = bytes_eq text (codes "refused 34 BadLine") || bytes_eq text (codes "refused 33 Memory")
 
 -- No more is counted once a tick is due.
 abbrev pub up_to_due : ℕ → ℕ

@@ -89,10 +89,9 @@ impl<D: Disk + Drop> Answering for KeptDesk<D> {
         if self.desk.wire.is_short {
             return Err(AllocError);
         }
-        if let Ok(text) = &answer {
-            self.since = since_tick(self.since, line, text.as_bytes());
-        }
-        answer
+        let text = answer?;
+        self.since = since_tick(self.since, line, text.as_bytes());
+        Ok(text)
     }
 }
 

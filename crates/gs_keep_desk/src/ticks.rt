@@ -2,8 +2,6 @@
 ghost use Rattle.std.specs.Prelude.{◌≡◌, ◌+◌, ℕ, length};
 ghost use Rattle.gs_keep_desk.specs.Ticks.{bytes_of_a_line, is_passed_over, since_tick, up_to_due};
 
-use gs_shell_script::MEMORY;
-
 /// So many bytes of lines behind a tick the next one is due.
 pub(crate) const BYTES_BETWEEN_TICKS: u64 = 67_108_864;
 
@@ -16,11 +14,14 @@ const TICK: &[u8] = b"tick";
 /// The answer to a line that is none of the grammar.
 const BAD_LINE: &[u8] = b"refused 34 BadLine";
 
+/// The answer to a line for which memory is lacking.
+const LACKING: &[u8] = b"refused 33 Memory";
+
 /// Whether a line with this answer counts for nothing: it is none of the grammar, or memory was lacking for it.
 fn is_passed_over(text: &[u8]) -> bool
     ensures { result ≡ is_passed_over text.now }
 {
-    text == BAD_LINE || text == MEMORY.as_bytes()
+    text == BAD_LINE || text == LACKING
 }
 
 /// What lines count with a line more. No more is counted once a tick is due.
