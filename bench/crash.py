@@ -43,6 +43,8 @@ MOST_SECONDS = 0.1
 LINES = 400
 # The bytes of a mark with its end.
 MARK_BYTES = 153
+# Behind so many bytes of lines the store has its nodes tick by itself, and each line counts so many more.
+TICK_BYTES, TICK_LINE = 67_108_864, 256
 # The name in the first line of a file, which is another one in each.
 NAME = re.compile(rb"\A([^\n]*) name [0-9a-f]{32}\n")
 F_SETPIPE_SZ = 1031
@@ -173,8 +175,9 @@ def marked(batches, head=None):
     """The file of a store that has answered lines in batches, each a list of a line and its answer, without their ends."""
     text, count, answers = (HEAD if head is None else head) + b"\n", 0, b""
     for batch in batches:
-        for line, answer in batch:
-            text, count, answers = text + line + b"\n", count + 1, answers + answer + b"\n"
+        text += b"".join(line + b"\n" for line, _ in batch)
+        answers += b"".join(answer + b"\n" for _, answer in batch)
+        count += len(batch)
         text += mark(text, count, answers)
     return text
 
@@ -533,9 +536,9 @@ def lines_unlike(path, text):
     return None if found is not None and unmarked(unnamed(found)) == unmarked(text) else f"the file holds {found!r} where the lines of {text!r} are meant"
 
 
-def goes_on(program, path, names):
+def goes_on(program, path, names, *words):
     """What is wrong with a start on a file behind which these directories stand."""
-    status, answered, said = ended(program, [path], b"ls /\n")
+    status, answered, said = ended(program, [path, *words], b"ls /\n")
     wanted = f"ok {' '.join(f'{name}/' for name in names)}\n".encode()
     return None if (status, answered) == (0, wanted) else f"the next start has status {status} and answers {answered!r}: {said}"
 
@@ -1526,6 +1529,35 @@ def is_looked_at_from_an_image(program, path, chance):
     return unlike(path, text)
 
 
+def own_ticks(path, least, most):
+    """What is wrong with the ticks of a file: there is to be one, of the store's own. It stands behind so many lines, as the last of its batch."""
+    lines = bytes_of(path).splitlines()[1:]
+    ticks = [at for at, line in enumerate(lines) if line == b"tick"]
+    if len(ticks) != 1:
+        return f"the file has {len(ticks)} ticks, in {len(lines)} lines and marks"
+    before = sum(not is_mark(line + b"\n") for line in lines[: ticks[0]])
+    if not least <= before <= most or not is_mark(lines[ticks[0] + 1] + b"\n"):
+        return f"the tick stands behind {before} lines, and the line behind it is {lines[ticks[0] + 1]!r}"
+    return None
+
+
+def ticks_by_itself(program, path, chance):
+    """Behind 64 MiB of lines the nodes tick by a line of the store's own, which isn't answered. A start counts the lines that it runs again."""
+    line = b"ls" + b" /" + b"/".join([b"n" * 199] * chance.randint(30, 40))
+    least = -(-TICK_BYTES // (len(line) + TICK_LINE))
+    kept_file(path)
+    never = ("--image-at", "0")
+    status, answered, said = ended(program, [path, *never], (line + b"\n") * least)
+    if status or answered != b"refused 3 NotFound\n" * least:
+        return f"the status is {status}, and {len(answered)} bytes are answered: {said}"
+    wrong = own_ticks(path, least, least + 2) or goes_on(program, path, "ab", *never) or own_ticks(path, least, least + 2)
+    if wrong:
+        return wrong
+    # a log of a program that had no ticks of its own
+    kept_file(path, marked([[(b"mkdir /a", b"ok")], [(line, b"refused 3 NotFound")] * least]))
+    return goes_on(program, path, "a", *never) or own_ticks(path, least + 2, least + 2)
+
+
 BREAKS = {
     "standard input is closed": is_closed(0),
     "standard output is closed": is_closed(1),
@@ -1599,6 +1631,7 @@ BREAKS = {
     "--check and its like from an image": is_looked_at_from_an_image,
     **{f"killed at {name} while an image is taken": is_killed_while_imaged(name) for name in IMAGE_CALLS},
     **{f"{name} fails while an image is taken": is_failed_while_imaged(name) for name in IMAGE_CALLS},
+    "ticks of the store's own": ticks_by_itself,
 }
 
 

@@ -31,8 +31,6 @@ READ = re.compile(r"read \S+ \d+ (\d{1,9})")
 SIZE = re.compile(r"--(servers|racks|replicas|chunk|block) (\d+)")
 # What the first line of a log tells that begins from an image: the image's number, and the digest of the log before.
 BEGINS = re.compile(r"chunkkeep 3 .* image (\d+) [0-9a-f]{64} lines \d+ ([0-9a-f]{64}) [0-9a-f]{64}\n")
-# What was deleted is found by all lines that the store was ever asked, so no image is taken by itself.
-NO_IMAGE = ("--image-at", "0")
 # How the commands of this client call what lines ask for.
 CALLED = {"rollingUpgrade": "upgrade", "rollback-commit": "upgrade rollback", "scan": "expunge"}
 
@@ -120,7 +118,7 @@ class Session(contextlib.AbstractContextManager["Session"]):
         # The lines of a store that has no file, by which it can be run again.
         self.recorded: deque[str] = deque(maxlen=None if is_recorded and not file else 0)
         self.said = tempfile.TemporaryFile()
-        words = [launch.program_of("chunkkeep").path, file, *NO_IMAGE, *flags] if file else [launch.program_of("chunkstore").path]
+        words = [launch.program_of("chunkkeep").path, file, *flags] if file else [launch.program_of("chunkstore").path]
         words += [str(word) for name, size in given.items() for word in (f"--{name}", size)]
         how = {"stdin": subprocess.PIPE, "stdout": subprocess.PIPE, "stderr": self.said, "pipesize": PIPE_BYTES}
         # What is typed at a terminal is for the client, which ends the program itself.
@@ -226,8 +224,24 @@ class Session(contextlib.AbstractContextManager["Session"]):
             logs.insert(0, log_before(self.file, *image))
         return logs
 
+    @property
+    def has_history(self) -> bool:
+        """Whether all lines that the store was ever asked are there. Where it begins from an image, those before it may not be."""
+        try:
+            return self.file is None or bool(self.logs())
+        except Failed:
+            return False
+
+    def names(self) -> list[str]:
+        """Each path but the root at which something stands in the store's file, hidden ones too."""
+        words = [launch.program_of("chunkkeep").path, self.file, "--names"]
+        told = subprocess.run(words, stdin=subprocess.DEVNULL, stdout=subprocess.PIPE, stderr=subprocess.PIPE)
+        if told.returncode:
+            raise Failed(told.stderr.decode(errors="replace").strip().split("\n")[-1])
+        return [line.split(" ", 1)[1] for line in told.stdout.decode(errors="surrogateescape").splitlines()]
+
     def history(self) -> Iterator[str]:
-        """All lines that the store was ever asked."""
+        """All lines that the store was ever asked, where they are there."""
         if self.file is None:
             yield from list(self.recorded)
             return
@@ -240,6 +254,10 @@ class Session(contextlib.AbstractContextManager["Session"]):
     def again(self) -> "Session":
         """A store without a file, that is asked nothing yet, for the lines of this one to be run again."""
         return Session(None, self.sizes._asdict(), is_recorded=False)
+
+    def tried(self) -> "Session":
+        """The store of this one's file, of which all lines are answered and nothing is kept."""
+        return Session(self.file, {}, ["--try"])
 
     def set_moment(self) -> None:
         """From now on the store's moment is that of the clock."""

@@ -1,7 +1,8 @@
 """What was deleted and may come back.
 
-No line lists hidden names. So the lines of the store are run again in a store without a file, whose answers tell where each thing went that was
-deleted, and the store itself is asked which of them stand."""
+No line lists hidden names. So the program that keeps the store is asked for all names. In a store without a file, and of a store as it was, the lines
+are run again in another one without a file, whose answers tell where each thing went that was deleted, and the store itself is asked which of
+them stand."""
 
 from argparse import Namespace
 from bisect import bisect_left
@@ -41,7 +42,19 @@ def moves(answers: Iterable[Answer]) -> Iterator[tuple[str, str]]:
 
 
 def hidden_paths(session: Session) -> list[str]:
-    """Each place where something deleted may stand. It stays one after a move away from it, since a rollback may bring that back."""
+    """Each place where something deleted may stand now, in the order in which it was deleted."""
+    if session.file is None:
+        return past_hidden_paths(session)
+    return in_order(path for path in session.names() if hidden_parts(path))
+
+
+def in_order(paths: Iterable[str]) -> list[str]:
+    """Hidden paths in the order in which they were deleted."""
+    return sorted(paths, key=lambda path: hidden_parts(path)[1])
+
+
+def past_hidden_paths(session: Session) -> list[str]:
+    """Each place where something deleted may stand, or stood. It stays one after a move away from it, since a rollback may bring that back."""
     places: list[str] = []
     with session.again() as again:
         for before, after in moves(again.ask_all(with_looks(session.history()))):
@@ -51,13 +64,13 @@ def hidden_paths(session: Session) -> list[str]:
                 at = bisect_left(places, place)
                 if places[at : at + 1] != [place]:
                     places.insert(at, place)
-    return sorted(places, key=lambda path: hidden_parts(path)[1])
+    return in_order(places)
 
 
 def removed(session: Session, then: Session | None = None) -> dict[str, Entry | Refused]:
     """What stands in the trash, or stood there in a store that has run a beginning of the lines, by its hidden paths, in the order in which it was
     deleted. Of a file of which no server has a chunk any more that refusal stands there, and any other is raised."""
-    paths = hidden_paths(session)
+    paths = past_hidden_paths(session) if then else hidden_paths(session)
     found = {path: told for path, told in zip(paths, stats(then or session, paths)) if isinstance(told, Entry) or told.number != NOT_FOUND}
     for told in found.values():
         if isinstance(told, Refused) and told.number != NO_REPLICA:

@@ -5,7 +5,7 @@ import launch
 
 from client.session import Answer
 from client.tests import TINY, StoreCase
-from client.trash import hidden_paths, moves, with_looks
+from client.trash import hidden_paths, moves, past_hidden_paths, with_looks
 
 LISTED = re.compile(r"^(\S+ \S+) +(\S+) (\S+) (\S+)$", re.MULTILINE)
 
@@ -86,7 +86,8 @@ class Trash(StoreCase):
         self.lines("create /a/f", "rm /a/f", *(["mv /a /b", "mv /b /a"] * 40))
         self.assertEqual(self.listed(), [("0", "/a/f")])
         with self.session() as session:
-            self.assertEqual(len(hidden_paths(session)), 2)
+            self.assertEqual(len(past_hidden_paths(session)), 2)
+            self.assertEqual(len(hidden_paths(session)), 1)
 
     def test_a_move_of_a_path_that_is_nearly_too_deep(self) -> None:
         deep = "/a" + "".join(f"/{number}" for number in range(62))

@@ -95,6 +95,8 @@ pub(crate) enum Fault {
     Script(RunFault),
     #[error("standard output can't be written: {0}")]
     Tell(io::Error),
+    #[error("the disks of its master aren't open, so no names can be told; `restart master` opens them, with --lab")]
+    NoMaster,
     #[error("{0}")]
     Run(StoreFault),
 }

@@ -17,13 +17,13 @@ use std::rt::{Clock, Files};
 
 /// A desk that has come to what a file's lines lead to, and what was run for that.
 #[derive(Drop)]
-struct Again {
-    desk: MemoryDesk,
+pub(crate) struct Again {
+    pub(crate) desk: MemoryDesk,
     replayed: Replayed,
 }
 
 /// Runs the lines of a file again. The file stays locked as long as they are there.
-fn run_again<R: Eprint + Clock + AllocGlobal>(
+pub(crate) fn run_again<R: Eprint + Clock + AllocGlobal>(
     rt: &R,
     asked: &Asked,
     standing: Standing<MemoryDesk>,
@@ -45,19 +45,29 @@ fn run_again<R: Eprint + Clock + AllocGlobal>(
     }
 }
 
-/// Answers the lines of standard input that only look, of the store as it stands or stood after a line of the file. Nothing is kept.
+/// Which lines are answered where none is kept.
+#[derive(Clone, Copy, Debug, PartialEq, Eq)]
+pub(crate) enum Answered {
+    /// Those that only look. The file is locked meanwhile.
+    Looks,
+    /// All.
+    All,
+}
+
+/// Answers lines of standard input, of the store as it stands or stood after a line of the file. Nothing is kept.
 pub(crate) fn look<R: Files<File = File> + Input + Print + Eprint + Clock + AllocGlobal>(
     rt: &R,
     asked: &Asked,
     upto: Option<u64>,
+    answered: Answered,
 ) -> Result<(), Fault> {
     let alloc = rt.alloc();
-    // The file is locked as long as it is open.
+    // The file is locked, if it is, as long as it is open.
     let Held {
         standing,
         mut lines,
         ..
-    } = looked_at(rt, asked, true, upto)?;
+    } = looked_at(rt, asked, answered == Answered::Looks, upto)?;
     let input = Patient::new(rt, rt.reader());
     let Ok(mut reader) = BufReader::with_capacity(alloc, INPUT_BYTES, input) else {
         return Err(Fault::Memory);
@@ -65,14 +75,19 @@ pub(crate) fn look<R: Files<File = File> + Input + Print + Eprint + Clock + Allo
     let Ok(mut writer) = BufWriter::new(alloc, io::writer(rt)) else {
         return Err(Fault::Memory);
     };
-    let Again { desk, replayed } = run_again(rt, asked, standing, &mut lines)?;
+    let Again { mut desk, replayed } = run_again(rt, asked, standing, &mut lines)?;
     let path = &asked.path;
     let count = replayed.lines;
-    let _ = eprintln!(rt;
-        "chunkkeep: {path}: {count} lines run again; only lines that look are answered"
-    );
-    let mut desk = desk.looking();
-    run(alloc, &mut desk, &mut reader, &mut writer).map_err(Fault::Script)
+    let which = match answered {
+        Answered::Looks => "only lines that look are answered",
+        Answered::All => "nothing is kept of what is answered",
+    };
+    let _ = eprintln!(rt; "chunkkeep: {path}: {count} lines run again; {which}");
+    let done = match answered {
+        Answered::Looks => run(alloc, &mut desk.looking(), &mut reader, &mut writer),
+        Answered::All => run(alloc, &mut desk, &mut reader, &mut writer),
+    };
+    done.map_err(Fault::Script)
 }
 
 /// Says on standard output what the first line of a file says.

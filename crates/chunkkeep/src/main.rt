@@ -6,6 +6,7 @@ mod beside;
 mod drawing;
 mod fault;
 mod imaging;
+mod listing;
 mod loading;
 mod looking;
 mod memory_desk;
@@ -22,7 +23,8 @@ use gs_base::Refusal;
 use gs_keep_file::fill_standard;
 use gs_keep_options::{Asked, Shown, Task, explanation, read_words, what_to_show};
 use imaging::{image, serve};
-use looking::{check, look};
+use listing::names;
+use looking::{Answered, check, look};
 use quoting::line_text;
 use std::alloc::{AllocError, Global};
 use std::fs::File;
@@ -99,7 +101,9 @@ fn run(
         Task::Serve => serve(rt, asked),
         Task::Image => image(rt, asked),
         Task::Check => check(rt, asked),
-        Task::Look(upto) => look(rt, asked, upto),
+        Task::Look(upto) => look(rt, asked, upto, Answered::Looks),
+        Task::Try(upto) => look(rt, asked, upto, Answered::All),
+        Task::Names(upto) => names(rt, asked, upto),
     }
 }
 

@@ -1,8 +1,9 @@
 // The desk of a store whose journal is in memory.
-ghost use Rattle.std.specs.Prelude.{◌&&◌, None, not, is_some};
+ghost use Rattle.std.specs.Prelude.{◌&&◌, not, is_some};
 ghost use Rattle.gs_journal.specs.Memory.{bytes_of, times_failed};
-ghost use Rattle.gs_keep_desk.specs.Keeps.{MayAnswer, marks_are_none, none_is_due, other_lines_are_refused, other_lines_change_nothing};
+ghost use Rattle.gs_keep_desk.specs.Keeps.{MayAnswer, due_lines_stand, marks_are_none, other_lines_are_refused, other_lines_change_nothing};
 ghost use Rattle.gs_keep_desk.specs.Looks.{harms_line};
+ghost use Rattle.gs_keep_desk.specs.Ticks.{due_line};
 ghost use Rattle.gs_shell_grammar.specs.Grammar.{line_request};
 
 use crate::fault::Fault;
@@ -18,6 +19,7 @@ use gs_keep_image::{Image, image_of, may_rest};
 use gs_nodes::{MasterPlace, empty_disks};
 use gs_shell_desk::Desk;
 use gs_shell_script::Answering;
+use gs_tree::TreeEntry;
 use std::alloc::{AllocError, Global};
 
 /// A kept desk whose journal is in memory, which answers all. It is a type without parameters: the checker takes no other for what
@@ -57,6 +59,11 @@ impl MemoryDesk {
             Ok(_) => Err(Unread::Master),
             Err(_) => Err(Unread::Memory),
         }
+    }
+
+    /// What stands at each path but the root, hidden names too. `None` where the disks of its master aren't open.
+    pub(crate) fn names(&self, alloc: Global) -> Result<Option<Vec<TreeEntry>>, AllocError> {
+        self.desk.names(alloc)
     }
 
     /// Whether its store rests once the disks of its master are closed.
@@ -118,9 +125,9 @@ impl Keeping for MemoryDesk {
 
     ghost is_turned_away = { λ desk line. not desk.desk.is_lab && harms_line line };
 
-    ghost own = { λ desk. None };
+    ghost own = { λ desk. due_line desk.desk.since };
 
-    ghost own_lines_stand = { λ desk line due. none_is_due line due };
+    ghost own_lines_stand = { λ desk line due. due_lines_stand (λ d. d.desk.is_lab) desk desk.desk.since line due };
 
     ghost changes_nothing = { λ old new line text other may. ap (λ d. record { desk = d }) (other_lines_change_nothing bytes_of times_failed old.desk new.desk line text other may) };
 

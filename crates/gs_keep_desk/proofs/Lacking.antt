@@ -5,6 +5,7 @@ use Rattle.gs_shell_script.specs.Run.{memory_text}
 use Rattle.gs_shell_desk.specs.Answering.{AnswersText}
 use Rattle.gs_shell_desk.specs.declared.desk.Desk.{Desk}
 use Rattle.gs_keep_desk.specs.Keeps.{MayAnswer}
+use Rattle.gs_keep_desk.specs.Ticks.{since_tick}
 use Rattle.gs_keep_desk.specs.declared.KeptDesk.{KeptDesk}
 
 same_lacking : (asked : Option Request) (none none' : Type 0) (some some' : Request → Type 0) → (none → none') → ((r : Request) → some r → some' r) → MatchOption asked none some → MatchOption asked none' some'
@@ -22,16 +23,16 @@ module _ {D A E : Type 0} (bytes : A → List ℕ) (seen : D → List ℕ) (fail
   lacks old new (Ok t) ok err = lacking seen failures old new line (bytes t) ok
   lacks old new (Err e) ok err = err
 
-  pub kept_lacks : (old new : KeptDesk D) (r : Result A E) → new.is_lab ≡ old.is_lab → IfOk r (λ t. AnswersText seen failures old.desk line (bytes t) new.desk)
+  pub kept_lacks : (old new : KeptDesk D) (r : Result A E) → new.is_lab ≡ old.is_lab → new.since ≡ old.since → IfOk r (λ t. AnswersText seen failures old.desk line (bytes t) new.desk)
       → OnErr r (AnswersText seen failures old.desk line memory_text new.desk) → MayAnswer seen failures old line memory_text new
-  kept_lacks old new r lab ok err = record { lab = lab; answers = lacks old.desk new.desk r ok err; enough = inl refl }
+  kept_lacks old new r lab since ok err = record { lab = lab; since = since; answers = lacks old.desk new.desk r ok err; enough = inl refl }
 
   -- where no node lacks memory
-  pub kept_answers : (old new : KeptDesk D) (r : Result A E) → new.is_lab ≡ old.is_lab → new.desk.wire.is_short ≡ false → IfOk r (λ t. AnswersText seen failures old.desk line (bytes t) new.desk)
+  pub kept_answers : (old new : KeptDesk D) (r : Result A E) → new.is_lab ≡ old.is_lab → IfOk r (λ t. new.since ≡ since_tick old.since line (bytes t)) → new.desk.wire.is_short ≡ false → IfOk r (λ t. AnswersText seen failures old.desk line (bytes t) new.desk)
       → IfOk r (λ t. MayAnswer seen failures old line (bytes t) new)
-  kept_answers old new (Ok t) lab enough ok = record { lab = lab; answers = ok; enough = inr enough }
-  kept_answers old new (Err e) lab enough ok = tt
+  kept_answers old new (Ok t) lab since enough ok = record { lab = lab; since = since; answers = ok; enough = inr enough }
+  kept_answers old new (Err e) lab since enough ok = tt
 
-  pub kept_fails : (old new : KeptDesk D) (r : Result A E) → new.is_lab ≡ old.is_lab → OnErr r (AnswersText seen failures old.desk line memory_text new.desk) → OnErr r (MayAnswer seen failures old line memory_text new)
-  kept_fails old new (Ok t) lab err = tt
-  kept_fails old new (Err e) lab err = record { lab = lab; answers = err; enough = inl refl }
+  pub kept_fails : (old new : KeptDesk D) (r : Result A E) → new.is_lab ≡ old.is_lab → OnErr r (new.since ≡ old.since) → OnErr r (AnswersText seen failures old.desk line memory_text new.desk) → OnErr r (MayAnswer seen failures old line memory_text new)
+  kept_fails old new (Ok t) lab since err = tt
+  kept_fails old new (Err e) lab since err = record { lab = lab; since = since; answers = err; enough = inl refl }

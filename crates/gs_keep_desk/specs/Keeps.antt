@@ -1,12 +1,17 @@
--- What a desk may answer. A line that isn't of the grammar changes nothing, and is refused.
-use Rattle.std.specs.Prelude.{◌≡◌, ◌⊎◌, ◌∷◌, ◌==◌, ℕ, List, [], Bool, Option, None, Some, true, false, is_some, MatchOption, refl}
+-- What a desk may answer. A line that isn't of the grammar changes nothing, and is refused. A line of its own is due where a tick is.
+use Rattle.std.specs.Prelude.{◌≡◌, ◌⊎◌, ◌∷◌, ◌++◌, ◌==◌, ◌&&◌, ℕ, List, [], Bool, Option, None, Some, codes, true, false, is_some, nat_lt, not, unwrap_or, MatchOption, refl}
 use Rattle.std.specs.List.{onto_first, slice_split}
-use Rattle.std.specs.Str.{is_utf8}
-use Rattle.std.proofs.Common.{ap, cond, inl, inr, sym, true≢false, ◌∙◌}
+use Rattle.std.specs.Char.{encode_utf8}
+use Rattle.std.specs.Fmt.{digits}
+use Rattle.std.specs.Str.{chars, is_utf8}
+use Rattle.std.proofs.Common.{ap, cond, inl, inr, subst, sym, true≢false, ◌∙◌}
 use Rattle.gs_shell_grammar.specs.Grammar.{Request, ◌>>=◌, form_request, four_words, line_request, number_line, number_request, one_word, three_words, two_words, words_request}
 use Rattle.gs_shell_grammar.specs.Operands.{number_of}
 use Rattle.gs_shell_script.specs.Run.{bad_line_text, memory_text}
 use Rattle.gs_shell_desk.specs.Answering.{AnswersText}
+use Rattle.gs_keep.specs.Lines.{IsOwnLine, is_logged}
+use Rattle.gs_keep_desk.specs.Looks.{harms_line}
+use Rattle.gs_keep_desk.specs.Ticks.{due_line, bytes_between_ticks, since_tick, tick_line}
 use Rattle.gs_keep_desk.specs.declared.KeptDesk.{KeptDesk}
 
 -- where nothing is asked
@@ -18,20 +23,27 @@ none_asked (Some request) P Q old new other h = absurd (true≢false other)
 module _ {D : Type 0} (seen : D → List ℕ) (failures : D → ℕ) where
   pub record MayAnswer (old : KeptDesk D) (line text : List ℕ) (new : KeptDesk D) : Type 0 where
     pub lab : new.is_lab ≡ old.is_lab
+    pub since : new.since ≡ since_tick old.since line text
     pub answers : AnswersText seen failures old.desk line text new.desk
     pub enough : (text ≡ memory_text) ⊎ (new.desk.wire.is_short ≡ false)
 
-same_desk : {D : Type 0} (old new : KeptDesk D) → new.is_lab ≡ old.is_lab → new.desk ≡ old.desk → new ≡ old
-same_desk old new lab desk = ap (λ d. record { desk = d; is_lab = new.is_lab }) desk ∙ ap (λ b. record { desk = old.desk; is_lab = b }) lab
+same_desk : {D : Type 0} (old new : KeptDesk D) → new.is_lab ≡ old.is_lab → new.since ≡ old.since → new.desk ≡ old.desk → new ≡ old
+same_desk old new lab since desk =
+    ap (λ d. record { desk = d; is_lab = new.is_lab; since = new.since }) desk ∙ ap (λ b. record { desk = old.desk; is_lab = b; since = new.since }) lab
+    ∙ ap (λ n. record { desk = old.desk; is_lab = old.is_lab; since = n }) since
 
-pub other_lines_change_nothing : {D : Type 0} (seen : D → List ℕ) (failures : D → ℕ) (old new : KeptDesk D) (line text : List ℕ) → is_some (line_request line) ≡ false
-    → MayAnswer seen failures old line text new → new ≡ old
-unfolding AnswersText
-other_lines_change_nothing seen failures old new line text other may = at may.answers
-  where
-    at : AnswersText seen failures old.desk line text new.desk → new ≡ old
-    at (inl h) = same_desk old new may.lab h.1
-    at (inr h) = same_desk old new may.lab (none_asked (line_request line) _ _ old.desk new.desk other h)
+bad_line_is : bad_line_text ≡ codes "refused 34 BadLine"
+unfolding digits
+bad_line_is = refl
+
+pub memory_is : memory_text ≡ codes "refused 33 Memory"
+unfolding digits
+memory_is = refl
+
+-- what is answered so counts for nothing
+passed_over : (n : ℕ) (line text : List ℕ) → (text ≡ bad_line_text) ⊎ (text ≡ memory_text) → since_tick n line text ≡ n
+passed_over n line text (inl bad) = ap (λ t. since_tick n line t) (bad ∙ bad_line_is)
+passed_over n line text (inr lacking) = ap (λ t. since_tick n line t) (lacking ∙ memory_is)
 
 -- the answer where nothing is asked
 none_answered : (asked : Option Request) (P R : Type 0) (Q : Request → Type 0) → is_some asked ≡ false → MatchOption asked (P × R) Q → P
@@ -47,11 +59,55 @@ other_lines_are_refused seen failures old new line text other may = at may.answe
     at (inl h) = inr h.0
     at (inr h) = none_answered (line_request line) _ _ _ other h
 
+pub other_lines_change_nothing : {D : Type 0} (seen : D → List ℕ) (failures : D → ℕ) (old new : KeptDesk D) (line text : List ℕ) → is_some (line_request line) ≡ false
+    → MayAnswer seen failures old line text new → new ≡ old
+unfolding AnswersText
+other_lines_change_nothing seen failures old new line text other may = at may.answers
+  where
+    counted : new.since ≡ old.since
+    counted = may.since ∙ passed_over old.since line text (other_lines_are_refused seen failures old new line text other may)
+
+    at : AnswersText seen failures old.desk line text new.desk → new ≡ old
+    at (inl h) = same_desk old new may.lab counted h.1
+    at (inr h) = same_desk old new may.lab counted (none_asked (line_request line) _ _ old.desk new.desk other h)
+
 -- ---- lines of its own
 
--- none is due
-pub none_is_due : {X : Type 0} (line : List ℕ) → None ≡ Some line → X
-none_is_due line due = absurd (true≢false (sym (ap is_some due)))
+-- what is due is a tick
+is_due : (n : ℕ) (line : List ℕ) → due_line n ≡ Some line → line ≡ tick_line ++ 10 ∷ []
+is_due n line due = at (nat_lt n bytes_between_ticks) due
+  where
+    at : (b : Bool) → cond b None (Some (tick_line ++ 10 ∷ [])) ≡ Some line → line ≡ tick_line ++ 10 ∷ []
+    at true h = absurd (true≢false (sym (ap is_some h)))
+    at false h = sym (ap (λ o. unwrap_or o []) h)
+
+-- a tick harms nothing, be it in a lab or not
+not_turned_away : (is_lab : Bool) → not is_lab && harms_line tick_line ≡ false
+unfolding one_word is_utf8 chars encode_utf8
+not_turned_away true = refl
+not_turned_away false = refl
+
+a_tick_is_logged : is_logged (λ line. is_some (line_request line)) (tick_line ++ 10 ∷ []) ≡ true
+unfolding one_word is_utf8 chars encode_utf8
+a_tick_is_logged = refl
+
+-- For any machine that turns away what harms the store, unless it is one of a lab.
+module _ {S : Type 0} (is_lab : S → Bool) (s : S) where
+  abbrev IsOwn : List ℕ → Type 0
+  IsOwn line = IsOwnLine (λ line. is_some (line_request line)) (λ s line. not (is_lab s) && harms_line line) s line
+
+  a_tick_stands : IsOwn (tick_line ++ 10 ∷ [])
+  a_tick_stands = record {
+    body = tick_line;
+    within = (refl, (refl, (refl, (refl, tt))));
+    ended = refl;
+    logged = a_tick_is_logged;
+    taken = not_turned_away (is_lab s);
+  }
+
+  -- What is due may stand in a log, and isn't turned away.
+  pub due_lines_stand : (n : ℕ) (line : List ℕ) → due_line n ≡ Some line → IsOwnLine (λ line. is_some (line_request line)) (λ s line. not (is_lab s) && harms_line line) s line
+  due_lines_stand n line due = subst IsOwn (sym (is_due n line due)) a_tick_stands
 
 -- ---- what begins as a mark is none of the grammar
 

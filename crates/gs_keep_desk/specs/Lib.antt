@@ -1,2 +1,4 @@
 pub mod Looks
+pub mod Ticks
+pub mod Names
 pub mod Keeps

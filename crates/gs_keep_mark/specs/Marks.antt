@@ -15,14 +15,10 @@ pub record Totals : Type 0 where
   pub text : List ℕ
   pub answers : List ℕ
 
--- Of a log that has its first line alone, and begins from an image behind so many lines. The logs before have these. That line holds the digests
--- of what they are, so the text that marks speak of begins with it, and the answers begin anew.
+-- Of a log that has its first line alone. The logs before have so many lines: 0 where there are none. Else that line holds the digests of what they
+-- are, so the text that marks speak of begins with it, and the answers begin anew.
 abbrev pub begins_from : List ℕ → ℕ → Totals
 begins_from head before = record { count = before; text = head; answers = [] }
-
--- of a log that has its first line alone, and no log before
-abbrev pub beginning : List ℕ → Totals
-beginning head = begins_from head 0
 
 -- with a line more
 abbrev pub noted : Totals → Entry → Totals
@@ -103,7 +99,7 @@ a_mark_is_a_line = refl
 listed : Entry
 listed = record { line = codes "ls /" ++ 10 ∷ []; answer = codes "ok" }
 
-a_batch_is_counted : (with_batch (beginning (codes "head" ++ 10 ∷ [])) (listed ∷ [])) ≡ record { count = 1; text = codes "head" ++ 10 ∷ codes "ls /" ++ 10 ∷ []; answers = codes "ok" ++ 10 ∷ [] }
+a_batch_is_counted : (with_batch (begins_from (codes "head" ++ 10 ∷ []) 0) (listed ∷ [])) ≡ record { count = 1; text = codes "head" ++ 10 ∷ codes "ls /" ++ 10 ∷ []; answers = codes "ok" ++ 10 ∷ [] }
 unfolding listed
 a_batch_is_counted = refl
 

@@ -4,7 +4,7 @@
 ghost use Rattle.std.specs.Prelude.{◌≡◌, ◌==◌, ◌++◌, ℕ, List, false, length, IfOk, OnOk};
 ghost use Rattle.sha2.specs.Hashers.{Holds256};
 ghost use Rattle.sha2.specs.Sha256.{sha256};
-ghost use Rattle.gs_keep_mark.specs.Marks.{Totals, beginning, begins_from, digest, digits_of, is_whole_mark, mark_of, noted, passed, starts_mark};
+ghost use Rattle.gs_keep_mark.specs.Marks.{Totals, begins_from, digest, digits_of, is_whole_mark, mark_of, noted, passed, starts_mark};
 ghost use Rattle.gs_keep_mark.specs.Ledgers.{IsLedger, is_full};
 
 use sha2::{Digest as _, Sha256};
@@ -69,14 +69,7 @@ pub fn is_whole_mark(line: &[u8]) -> bool
 }
 
 impl Ledger {
-    /// That of a log that has its first line alone, and no log before.
-    pub fn new(head: &[u8]) -> Ledger
-        ensures { IsLedger result (beginning head.now) }
-    {
-        Ledger::of(head, 0)
-    }
-
-    /// That of a log that has its first line alone, and begins from an image. The logs before have so many lines, and `head` tells what they are.
+    /// That of a log that has its first line alone. The logs before have so many lines: 0 where there are none. Else `head` tells what they are.
     pub fn of(head: &[u8], before: u64) -> Ledger
         ensures { IsLedger result (begins_from head.now before) }
     {

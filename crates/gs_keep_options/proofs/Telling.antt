@@ -1,19 +1,19 @@
 -- The command is a simple one, and what is shown for a fault of its words.
-use Rattle.std.proofs.Common.{◌≡◌, ◌≢◌, ◌⊎◌, ◌∷◌, [], List, true, refl, sym, subst, ◌∙◌, inl, inr}
+use Rattle.std.proofs.Common.{◌≡◌, ◌≢◌, ◌⊎◌, ◌∷◌, [], true, refl, sym, subst, ◌∙◌, inl, inr}
 use Rattle.clap.specs.Simple.{is_simple}
 use Rattle.clap.specs.Faults.{is_simple_and_free}
 use Rattle.clap.specs.Kinds.{IsAmong, Kinds}
 use Rattle.clap.specs.declared.error.kind.ErrorKind.{ErrorKind}
 use Rattle.clap.specs.declared.error.kind.ErrorKind.TheVariants as kind
 use Rattle.clap.proofs.OnLiterals.{clap_on_literals}
-use Rattle.gs_keep_options.specs.Words.{app, mode_app, sized_app}
+use Rattle.gs_keep_options.specs.Words.{app, looking_app, mode_app, sized_app}
 
 pub simple : is_simple app ≡ true
-unfolding app mode_app sized_app clap_on_literals
+unfolding app mode_app looking_app sized_app clap_on_literals
 simple = refl
 
 pub free : is_simple_and_free app ≡ true
-unfolding app mode_app sized_app clap_on_literals
+unfolding app mode_app looking_app sized_app clap_on_literals
 free = refl
 
 pub none_alone : (fault : Kinds) (one : ErrorKind) → fault ≡ [] → fault ≡ one ∷ [] → ⊥

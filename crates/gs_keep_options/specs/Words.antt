@@ -1,5 +1,5 @@
 -- What the words of a command line ask for.
-use Rattle.std.specs.Prelude.{◌≡◌, ◌≢◌, ◌∷◌, ◌||◌, [], ℕ, Bool, true, is_some, List, codes, string_bytes, if◌then◌else◌, Option, Some, None, Result, Ok, Err}
+use Rattle.std.specs.Prelude.{◌≡◌, ◌≢◌, ◌∷◌, ◌&&◌, ◌||◌, [], ℕ, Bool, true, not, is_some, List, codes, string_bytes, if◌then◌else◌, Option, Some, None, Result, Ok, Err}
 use Rattle.std.specs.Option.{option_map}
 use Rattle.clap.specs.Faults.{fault_of}
 use Rattle.clap.specs.Walk.{is_empty}
@@ -38,11 +38,17 @@ sized_app = with_rule (with_rule (with_rule (with_rule (with_rule (with_rule (ne
     (number_rule (codes "chunk")))
     (number_rule (codes "block"))
 
--- and what is to be done
-unfoldable pub mode_app : App
-mode_app = with_rule (with_rule (with_rule (with_rule (with_rule (with_rule sized_app
+-- and what of a store is looked at
+unfoldable pub looking_app : App
+looking_app = with_rule (with_rule (with_rule (with_rule sized_app
     (named_rule (codes "check") SetTrue))
     (named_rule (codes "read-only") SetTrue))
+    (named_rule (codes "names") SetTrue))
+    (named_rule (codes "try") SetTrue)
+
+-- and what else is to be done
+unfoldable pub mode_app : App
+mode_app = with_rule (with_rule (with_rule (with_rule looking_app
     (named_rule (codes "lab") SetTrue))
     (number_rule (codes "upto")))
     (named_rule (codes "image") SetTrue))
@@ -64,16 +70,20 @@ abbrev pub mode_in : List Row → Mode
 mode_in rows = record {
   is_check = flag_in (codes "check") rows;
   is_read_only = flag_in (codes "read-only") rows;
+  is_names = flag_in (codes "names") rows;
+  is_try = flag_in (codes "try") rows;
   is_lab = flag_in (codes "lab") rows;
   upto = number_in (codes "upto") rows;
   is_image = flag_in (codes "image") rows;
   image_at = number_in (codes "image-at") rows;
 }
 
--- what is to be done: a check goes before all else, and what changes nothing before an image
+-- What is to be done. A check goes before all else, then names, and what changes nothing goes before an image.
 abbrev pub task_of : Mode → Task
 task_of m =
     if m.is_check then task.Check
+    else if m.is_names then task.Names m.upto
+    else if m.is_try && not m.is_read_only then task.Try m.upto
     else if m.is_read_only || is_some m.upto then task.Look m.upto
     else if m.is_image then task.Image
     else task.Serve

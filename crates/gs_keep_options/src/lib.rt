@@ -8,7 +8,7 @@ ghost use Rattle.clap.specs.Faults.{fault_of};
 ghost use Rattle.gs_base.specs.Configured.{Configured};
 ghost use Rattle.gs_shell_options.specs.Options.{RefusesWords, flag_in, named_rule};
 ghost use Rattle.gs_keep_options.specs.Sizes.{Tells, difference, fits, given_or, is_given_as};
-ghost use Rattle.gs_keep_options.specs.Words.{AskedAs, ShownAs, app, file_rule, mode_app, mode_in, number_rule, sized_app, sizes_in, task_of, times_of, words_asked};
+ghost use Rattle.gs_keep_options.specs.Words.{AskedAs, ShownAs, app, file_rule, looking_app, mode_app, mode_in, number_rule, sized_app, sizes_in, task_of, times_of, words_asked};
 
 use clap::error::ErrorKind;
 use clap::{Arg, ArgAction, ArgMatches, Command};
@@ -42,6 +42,10 @@ pub struct Mode {
     pub is_check: bool,
     /// Only lines that look are answered.
     pub is_read_only: bool,
+    /// The names that stand are written, and nothing is answered.
+    pub is_names: bool,
+    /// Each line is answered, and nothing is kept.
+    pub is_try: bool,
     /// Lines that harm a store are answered too.
     pub is_lab: bool,
     /// The line of the file after which the store is looked at as it stood.
@@ -61,17 +65,27 @@ pub enum Task {
     Check,
     /// Lines that look are answered, and nothing is kept: of the whole store, or of that which stood after a line of the file.
     Look(Option<u64>),
+    /// What stands at each path is written: now, or behind a line of the file.
+    Names(Option<u64>),
+    /// Each line is answered, and nothing is kept: of the whole store, or of that which stood after a line of the file.
+    Try(Option<u64>),
     /// An image is taken of what stands.
     Image,
 }
 
 impl Mode {
-    /// What is to be done: a check, if it is asked for, whatever else is, and then what changes nothing.
+    /// What is to be done: a check, if it is asked for, whatever else is, then names, and then what changes nothing.
     pub fn task(&self) -> Task
         ensures { result ≡ task_of self.now }
     {
         if self.is_check {
             return Task::Check;
+        }
+        if self.is_names {
+            return Task::Names(self.upto);
+        }
+        if self.is_try && !self.is_read_only {
+            return Task::Try(self.upto);
         }
         if self.is_read_only || self.upto.is_some() {
             return Task::Look(self.upto);
@@ -259,6 +273,12 @@ const CHECK_HELP: &str =
 
 const READ_ONLY_HELP: &str = "Answers lines that only look, and neither keeps nor changes anything";
 
+const NAMES_HELP: &str =
+    "Writes what stands at each path, hidden names too, and neither keeps nor changes anything";
+
+const TRY_HELP: &str =
+    "Answers each line, those that harm the store too, in memory alone: nothing is kept or changed";
+
 const LAB_HELP: &str =
     "Answers lines that harm the store too: lose, damage, hold, deliver and restart";
 
@@ -303,10 +323,10 @@ fn sized_command<'a>(alloc: Global) -> Result<Command<'a>, AllocError>
     with_number(alloc, command, BLOCK)
 }
 
-/// The command with its file, its sizes, and what is to be done.
-#[tactic(auto, unfolding(crate::specs::Words::mode_app))]
-fn mode_command<'a>(alloc: Global) -> Result<Command<'a>, AllocError>
-    ensures { IfOk result (λ c. app_of c ≡ mode_app) }
+/// The command with its file, its sizes, and what of a store is looked at.
+#[tactic(auto, unfolding(crate::specs::Words::looking_app))]
+fn looking_command<'a>(alloc: Global) -> Result<Command<'a>, AllocError>
+    ensures { IfOk result (λ c. app_of c ≡ looking_app) }
 {
     let command = sized_command(alloc)?;
     let command = with_flag(alloc, command, "check", CHECK_HELP, ArgAction::SetTrue)?;
@@ -317,6 +337,16 @@ fn mode_command<'a>(alloc: Global) -> Result<Command<'a>, AllocError>
         READ_ONLY_HELP,
         ArgAction::SetTrue,
     )?;
+    let command = with_flag(alloc, command, "names", NAMES_HELP, ArgAction::SetTrue)?;
+    with_flag(alloc, command, "try", TRY_HELP, ArgAction::SetTrue)
+}
+
+/// The command with its file, its sizes, and what is to be done.
+#[tactic(auto, unfolding(crate::specs::Words::mode_app))]
+fn mode_command<'a>(alloc: Global) -> Result<Command<'a>, AllocError>
+    ensures { IfOk result (λ c. app_of c ≡ mode_app) }
+{
+    let command = looking_command(alloc)?;
     let command = with_flag(alloc, command, "lab", LAB_HELP, ArgAction::SetTrue)?;
     let command = with_number(alloc, command, UPTO)?;
     let command = with_flag(alloc, command, "image", IMAGE_HELP, ArgAction::SetTrue)?;
@@ -384,6 +414,8 @@ fn mode_in(matches: &ArgMatches<'_>) -> Mode
     Mode {
         is_check: flag_in(matches, "check"),
         is_read_only: flag_in(matches, "read-only"),
+        is_names: flag_in(matches, "names"),
+        is_try: flag_in(matches, "try"),
         is_lab: flag_in(matches, "lab"),
         upto: number_in(matches, "upto"),
         is_image: flag_in(matches, "image"),

@@ -1,7 +1,6 @@
 -- What a machine answers that counts, and which lines it has of its own.
-use Rattle.std.specs.Prelude.{◌≡◌, ◌≢◌, ◌++◌, ◌∷◌, ◌==◌, ◌||◌, ◌⊎◌, ℕ, List, [], Bool, true, false, nat_le, Option, None, Some, codes, if◌then◌else◌, refl}
+use Rattle.std.specs.Prelude.{◌≡◌, ◌++◌, ◌∷◌, ◌==◌, ◌||◌, ◌⊎◌, ℕ, List, [], Bool, true, false, nat_le, Option, None, Some, is_some, codes, if◌then◌else◌, refl}
 use Rattle.std.proofs.Common.{ap, cond, sym, subst, true≢false}
-use Rattle.std.specs.Prelude.{is_some}
 use Rattle.gs_shell_script.specs.Run.{bad_line_text, memory_text}
 use Rattle.gs_keep.specs.Lines.{IsOwnLine}
 

@@ -4,7 +4,9 @@ ghost use Rattle.gs_keep_tests.specs.Counting.{is_counted};
 
 use crate::plain::{NO_FAULT, Nobody};
 use gs_base::Refusal;
-use gs_keep::{Answers, Aside, Ended, Keeping, Made, Making, Rest, Source, StartFault, start};
+use gs_keep::{
+    Answers, Aside, Ended, Keeping, Made, Making, Rest, Source, StartFault, serve, start,
+};
 use gs_keep_log::{Failed, MemoryLog};
 use gs_shell_line::EndedLines;
 use gs_shell_script::Answering;
@@ -207,4 +209,49 @@ pub(crate) fn run_from(
         answers,
         log,
     })
+}
+
+/// What is answered to two inputs, and the log then.
+#[derive(Drop)]
+pub(crate) struct Served {
+    pub(crate) answers: Vec<u8>,
+    pub(crate) log: MemoryLog,
+}
+
+/// Starts a log, and answers a second input with what the start gives back.
+pub(crate) fn run_on(
+    alloc: Global,
+    logged: &[u8],
+    every: u64,
+    first: &[u8],
+    second: &[u8],
+) -> Result<Served, Fail> {
+    let mut log = MemoryLog::new(alloc, Vec::from_slice(alloc, logged)?, NO_FAULT);
+    let mut aside = Held {
+        bytes: Vec::new(alloc),
+    };
+    let mut answers = Vec::new(alloc);
+    let mut writer = Answers::new(&mut answers);
+    let Ended {
+        mut machine,
+        mut ledger,
+    } = start(
+        alloc,
+        &mut log,
+        &mut Text { bytes: logged },
+        &Counting { every },
+        &mut aside,
+        &mut Nobody,
+        &mut EndedLines::new(first),
+        &mut writer,
+    )?;
+    serve(
+        alloc,
+        &mut machine,
+        &mut log,
+        &mut ledger,
+        &mut EndedLines::new(second),
+        &mut writer,
+    )?;
+    Ok(Served { answers, log })
 }

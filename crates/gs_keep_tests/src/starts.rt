@@ -1,6 +1,6 @@
 // Starts of logs of a machine that has lines of its own, and of logs that have lines before them.
-use crate::counting::{Begun, run_from};
-use gs_keep::{Answers, Ended, ReplayFault, StartFault, StoreFault, Wrong, serve};
+use crate::counting::{Begun, run_from, run_on};
+use gs_keep::{Ended, ReplayFault, StartFault, StoreFault, Wrong};
 use gs_keep_mark::{Ledger, is_mark};
 use gs_shell_line::{EndedLine, EndedLines};
 use std::alloc::{AllocError, Global};
@@ -213,6 +213,20 @@ fn another_count_of_lines_before_is_refused(rt: HostRuntime) -> Result<(), Fail>
         );
         assert!(rt; ran.answers.is_empty());
         assert_eq!(rt; ran.log.left(0)?, log);
+    }
+    Ok(())
+}
+
+// With what a start gives back more lines are served: the log and the answers are as if it had been started once more.
+#[test]
+fn what_a_start_gives_back_is_gone_on_with(rt: HostRuntime) -> Result<(), Fail> {
+    let alloc = rt.alloc();
+    for (head, every) in [(b"0\n", NEVER), (b"7\n", NEVER), (b"7\n", 2)] {
+        let once = run_from(alloc, head, every, b"a\na\na\n", 64)?.log.left(0)?;
+        let twice = run_from(alloc, &once, every, b"a\nb\na\n", 64)?;
+        let served = run_on(alloc, head, every, b"a\na\na\n", b"a\nb\na\n")?;
+        assert_eq!(rt; served.log.left(0)?, twice.log.left(0)?);
+        assert!(rt; served.answers.ends_with(&twice.answers));
     }
     Ok(())
 }

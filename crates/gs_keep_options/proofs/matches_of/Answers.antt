@@ -1,9 +1,7 @@
-use Rattle.std.proofs.Common.{◌≡◌, true, refl, [], map, subst, ◌∙◌, string_bytes, inl, inr}
+use Rattle.std.proofs.Common.{◌≡◌, true, [], map, subst, ◌∙◌, string_bytes, inl, inr}
 use Rattle.clap.specs.Words.{App, HasMatchesOf, kind_of}
-use Rattle.clap.specs.Simple.{is_simple}
 use Rattle.clap.specs.Faults.{fault_of, is_simple_and_free}
 use Rattle.clap.specs.Kinds.{HasKind, IsAmong}
-use Rattle.gs_keep_options.specs.Words.{app}
 use Rattle.gs_keep_options.proofs.Telling.{free, simple}
 use Rattle.gs_keep_options.proofs.matches_of.Goals as goal
 

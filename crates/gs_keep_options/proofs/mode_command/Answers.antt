@@ -1,4 +1,4 @@
-use Rattle.std.proofs.Common.{◌≡◌, ◌∙◌, ap}
+use Rattle.std.proofs.Common.{◌∙◌, ap}
 use Rattle.std.specs.Prelude.{IfOk, Result, Ok, Err, codes}
 use Rattle.clap.specs.Words.{App, with_rule}
 use Rattle.clap.specs.declared.builder.ArgAction.TheVariants.{SetTrue}
@@ -14,10 +14,8 @@ pub returns : goal.returns
 unfolding mode_app
 returns c =
     if_ok_also c.with_number-2.result _ _
-    (λ made is. is ∙ ap (λ (a : App). with_rule a (number_rule (codes "image-at"))) (c.in_ok-command-6.ensures
-    ∙ ap (λ (a : App). with_rule a (named_rule (codes "image") SetTrue)) (c.in_ok-command-5.ensures
-    ∙ ap (λ (a : App). with_rule a (number_rule (codes "upto"))) (c.in_ok-command-4.ensures
-    ∙ ap (λ (a : App). with_rule a (named_rule (codes "lab") SetTrue)) (c.in_ok-command-3.ensures
-    ∙ ap (λ (a : App). with_rule a (named_rule (codes "read-only") SetTrue)) (c.in_ok-command-2.ensures
-    ∙ ap (λ (a : App). with_rule a (named_rule (codes "check") SetTrue)) c.in_ok-command.ensures))))))
+    (λ made is. is ∙ ap (λ (a : App). with_rule a (number_rule (codes "image-at"))) (c.in_ok-command-4.ensures
+    ∙ ap (λ (a : App). with_rule a (named_rule (codes "image") SetTrue)) (c.in_ok-command-3.ensures
+    ∙ ap (λ (a : App). with_rule a (number_rule (codes "upto"))) (c.in_ok-command-2.ensures
+    ∙ ap (λ (a : App). with_rule a (named_rule (codes "lab") SetTrue)) c.in_ok-command.ensures))))
     c.with_number-2.ensures

@@ -1,8 +1,8 @@
-use Rattle.std.proofs.Common.{◌≡◌, ℕ, List, Option, Some, [], sym, subst, ap, ◌∙◌, append-nil, arith, drop, drop_of_length-le, length, take}
+use Rattle.std.proofs.Common.{◌≡◌, Some, [], sym, subst, ap, ◌∙◌, append-nil, arith, drop, drop_of_length-le, length, take}
 use Rattle.std.proofs.Math.Seq.{take-length}
 use Rattle.gs_keep_log.specs.Log.{Held, whole}
 use Rattle.gs_keep_log.specs.Memory.{held}
-use Rattle.gs_keep.specs.Keeping.{LeavesRest, ReadsLog}
+use Rattle.gs_keep.specs.Keeping.{ReadsLog}
 use Rattle.gs_keep_tests.proofs.crashes.kept_on.Goals as goal
 
 pub keep_on-requires-clause-logged : goal.keep_on-requires-clause-logged
