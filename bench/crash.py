@@ -1,14 +1,15 @@
 #!/usr/bin/env python3
 """Kills the program that keeps its store in a file, starts it again, and looks whether all that was answered is there.
 
-    bench/crash.py [--runs N] [--cuts N] [--limits N] [--refusals N] [--breaks N] [--landing] [--seed N] [--program PATH] [--plain PATH] [--folder PATH]
+    bench/crash.py [--runs N] [--cuts N] [--limits N] [--images N] [--refusals N] [--breaks N] [--landing] [--seed N] [--program PATH] [--plain PATH] [--folder PATH]
     bench/crash.py --speed [LINES] [--again LINES] [--times N] ..
 
 Without programs it builds chunkkeep and chunkstore as they stand, unproved. In a run the program answers a script of writes, upgrades and
 rollbacks, is killed at a random moment or behind a random count of answers, and is started again on what it hasn't logged. Its answers before
 and behind the kill have to be those of chunkstore to the whole script. In a cut a beginning of the next lines stands behind those that were
 answered, as a crash may leave it of a batch that wasn't synced. With a limit the file can't grow behind a random length, so that a write
-fails: the status has to be 1, and all that was answered in the file. A refusal is a file that isn't the program's, or isn't any more, another
+fails: the status has to be 1, and all that was answered in the file. With images the store is written down between parts of a script, and is
+begun from its images, which are damaged at times: all answers have to be those of chunkstore to the script with the restarts that an image makes. A refusal is a file that isn't the program's, or isn't any more, another
 store's sizes, or a second process: the status has to be the one that is promised, and no byte changed. A break is what an operator or a
 system does to it: standard files that are closed or are the file, a file that is taken away or changed below a running store, calls of the
 system that fail, a crash while the file is made, and their like. --landing tries a part of all that, for the landing. It ends with status 1
@@ -288,6 +289,86 @@ def limited(program, plain_program, path, chance):
     if os.path.getsize(path) > most:
         return "the file is longer than it may be", stood
     return first_difference(program, path, plain, lines, told, asked), stood
+
+
+# ---- images
+
+
+# The lines that an image makes: each server is restarted before it, and the master behind.
+RESTARTS = [*(f"restart {server}" for server in range(3)), "restart master"]
+
+
+def image_names(path, number):
+    """What stands beside a file that begins from an image, by the image and the log before."""
+    return f"{path}.image.{number}", f"{path}.before.{number}"
+
+
+def image_number(path):
+    """The number of the image that a file begins from, or 0."""
+    found = re.match(rb"chunkkeep 3 .* image (\d+) [0-9a-f]{64} lines \d+ [0-9a-f]{64} [0-9a-f]{64}\n", bytes_of(path))
+    return int(found[1]) if found else 0
+
+
+def take_image(program, path, number):
+    """What is wrong with an image that is taken, and has to have this number."""
+    status, answered, said = ended(program, [path, "--image"])
+    if status or answered or f"image {number} is taken" not in said:
+        return f"image {number}: the status is {status}: {answered!r} {said}"
+    if image_number(path) != number:
+        return f"the file doesn't begin from image {number}"
+    left = [name for name in os.listdir(os.path.dirname(path)) if name.startswith(f"{os.path.basename(path)}.") and name.endswith(".new")]
+    return f"{left} stay" if left else None
+
+
+def damage(path, number, chance):
+    """Damages an image or takes it away, and says how its reading fails."""
+    image, _ = image_names(path, number)
+    text = bytearray(bytes_of(image))
+    how = chance.randint(0, 3)
+    if how == 0:
+        os.remove(image)
+        return
+    if how == 1:
+        text[chance.randrange(len(text))] ^= 1 << chance.randint(0, 7)
+    elif how == 2:
+        text = text[: chance.randrange(len(text))]
+    else:
+        text += b"0"
+    with open(image, "wb") as file:
+        file.write(text)
+
+
+def imaged(program, plain_program, path, chance):
+    """A script in parts, with an image behind each. Some images are damaged before the store begins from them, and some runs are killed."""
+    asked, told, parts = [], [], chance.randint(2, 4)
+    lines, count, is_damaged = [one_line(chance) for _ in range(LINES)], LINES // parts, False
+    for part in range(parts):
+        more = lines[part * count : (part + 1) * count]
+        if chance.random() < 0.5:
+            answered = killed(program, path, more, chance)
+            # A log behind an image has the lines of this part alone.
+            more = more[: len(logged(path)[0])]
+        else:
+            answered = answers_of(program, [path, *LAB], more)
+        told += [(len(asked) + at, answer) for at, answer in enumerate(answered)]
+        asked += more
+        wrong = take_image(program, path, part + 1)
+        if wrong:
+            return wrong, len(asked)
+        asked += RESTARTS
+        # The log before begins from the image before, so that has to stand where this one doesn't.
+        is_damaged = not is_damaged and chance.random() < 0.5
+        if is_damaged:
+            damage(path, part + 1, chance)
+    told += [(len(asked) + at, answer) for at, answer in enumerate(answers_of(program, [path, *LAB], probes()))]
+    plain = answers_of(plain_program, SIZES, asked + probes())
+    for at, answer in told:
+        if plain[at] != answer:
+            return f"line {at + 1} is answered {answer!r} where {plain[at]!r} is meant", len(asked)
+    for name in (*image_names(path, parts), f"{path}.image.{parts - 1}"):
+        if os.path.exists(name):
+            os.remove(name)
+    return None, len(asked)
 
 
 # ---- refusals
@@ -1143,6 +1224,308 @@ def no_memory_for_a_line(program, path, chance):
     return None if status == 0 and b"refused" not in answered else f"the next start has status {status}: {answered!r} {said}"
 
 
+# ---- images
+
+
+# The calls of the system that are made while an image is taken.
+IMAGE_CALLS = ("open", "flock", "ftruncate", "write", "fdatasync", "fsync", "link", "rename", "unlink")
+# An image of a store with two directories, as each try begins from it.
+LOOK = b"ls /\n"
+
+
+def stands_whole(program, path):
+    """What is wrong with a store with two directories, behind whatever was done to it while an image was taken. Another image is taken then."""
+    wrong = goes_on(program, path, "ab")
+    if wrong:
+        return wrong
+    number = image_number(path) + 1
+    wrong = take_image(program, path, number) or goes_on(program, path, "ab")
+    if wrong:
+        return f"behind that: {wrong}"
+    names = {"kept", *(f"kept.image.{at}" for at in (number - 1, number) if at), f"kept.before.{number}"}
+    found = set(os.listdir(os.path.dirname(path)))
+    return None if found <= names else f"behind that {found - names} stay"
+
+
+def begun_anew(program, path, is_second):
+    """A store with two directories, which begins from an image or not, alone in its folder."""
+    for name in os.listdir(os.path.dirname(path)):
+        os.remove(os.path.join(os.path.dirname(path), name))
+    kept_file(path)
+    return take_image(program, path, 1) if is_second else None
+
+
+def is_killed_while_imaged(name):
+    """The program is killed at each call of a name in turn, while it takes an image: the store stands whole, and the next image is taken."""
+
+    def tries(program, path, chance):
+        for is_second in (False, True):
+            for number in range(1, 60):
+                wrong = begun_anew(program, path, is_second)
+                if wrong:
+                    return wrong
+                asked = {"CALLS_FAIL": name, "CALLS_NUMBER": str(number), "CALLS_ERROR": "0"}
+                run = subprocess.run([program, path, "--image"], stdin=subprocess.DEVNULL, capture_output=True, env=calls_of(asked), timeout=60)
+                if run.returncode == 0:
+                    if number == 1:
+                        return f"no {name} was made"
+                    break
+                wrong = stands_whole(program, path)
+                if wrong:
+                    return f"killed at {name} {number}: {wrong}"
+            else:
+                return f"killed at {name} again and again"
+        return None
+
+    return tries
+
+
+def is_failed_while_imaged(name):
+    """Each call of a name fails in turn while an image is taken: that is told, the status is 1, or nothing comes of it, and the store stands
+    whole."""
+
+    def tries(program, path, chance):
+        for is_second in (False, True):
+            # A call that may fail stops nothing: behind some of these none is left.
+            number = passed = 0
+            while number < 8 or passed < 4:
+                number += 1
+                wrong = begun_anew(program, path, is_second)
+                if wrong:
+                    return wrong
+                asked = {"CALLS_FAIL": name, "CALLS_NUMBER": str(number), "CALLS_ERROR": str(chance.choice((EIO, ENOSPC)))}
+                run = subprocess.run([program, path, "--image"], stdin=subprocess.DEVNULL, capture_output=True, env=calls_of(asked), timeout=60)
+                said = run.stderr.decode(errors="replace")
+                if run.returncode not in (0, 1) or (run.returncode == 1 and not re.search("no image is taken|it can't be (written|opened|read)|can't be synced", said)):
+                    return f"{name} {number} fails, and the status is {run.returncode}: {said}"
+                if run.returncode == 0 and "is taken" not in said:
+                    return f"{name} {number} fails, and no image is taken: {said}"
+                passed = passed + 1 if run.returncode == 0 else 0
+                wrong = stands_whole(program, path)
+                if wrong:
+                    return f"{name} {number} fails: {wrong}"
+        return None
+
+    return tries
+
+
+def a_bit_of_an_image_is_flipped(program, path, chance):
+    """One bit of each 23rd byte of an image is flipped: the store goes on with the log before, and says so."""
+    kept_file(path)
+    wrong = take_image(program, path, 1)
+    if wrong:
+        return wrong
+    image, _ = image_names(path, 1)
+    whole = bytes_of(image)
+    for at in range(chance.randrange(23), len(whole), 23):
+        text = bytearray(whole)
+        text[at] ^= 1 << chance.randint(0, 7)
+        kept_file(image, bytes(text))
+        status, answered, said = ended(program, [path, "--read-only"], LOOK)
+        if (status, answered) != (0, b"ok a/ b/\n") or "isn't read" not in said:
+            return f"byte {at} is another: the status is {status}: {answered!r} {said}"
+    kept_file(image, whole)
+    status, answered, said = ended(program, [path, "--read-only"], LOOK)
+    return None if status == 0 and "isn't read" not in said else f"the whole image isn't read: {status} {said}"
+
+
+def nothing_to_begin_from(program, path, chance):
+    """Neither the image nor the log before can be read: the start is refused for both, and nothing changes."""
+    kept_file(path)
+    wrong = take_image(program, path, 1)
+    if wrong:
+        return wrong
+    image, before = image_names(path, 1)
+    kept = bytes_of(image), bytes_of(before)
+    os.remove(image)
+    os.remove(before)
+    for words in ([], ["--check"], ["--read-only"], ["--image"]):
+        wrong = refused_at(program, [path, *words], path, 1, r"image .*\.image\.1, which isn't read: .*No such file.*\.before\.1: .*No such file.*Nothing is changed")
+        if wrong:
+            return wrong
+    kept_file(image, kept[0][:-1])
+    kept_file(before, kept[1])
+    wrong = goes_on(program, path, "ab")
+    if wrong:
+        return wrong
+    # That one looks was logged: the log before is as it was.
+    return unlike(before, kept[1])
+
+
+def another_log_before(program, path, chance):
+    """The log before isn't the one that the first line tells of: it isn't run in place of the image."""
+    kept_file(path)
+    wrong = take_image(program, path, 1)
+    if wrong:
+        return wrong
+    image, before = image_names(path, 1)
+    text = bytes_of(before)
+    os.remove(image)
+    lines = text.splitlines(keepends=True)
+    others = (
+        (text + b"mkdir /c\n", "doesn't end where that was taken"),
+        (KEPT, "isn't the log whose image it is"),
+        (text.replace(b"mkdir /a", b"mkdir /x"), "is a mark that says otherwise of the text"),
+        (b"".join(lines[:-1]), "doesn't end where|bytes stand after|isn't the log"),
+    )
+    for other, pattern in others:
+        kept_file(before, other)
+        wrong = refused_at(program, [path], path, 1, pattern)
+        if wrong:
+            return wrong
+    kept_file(before, text)
+    return goes_on(program, path, "ab")
+
+
+def image_by_itself(program, path, chance):
+    """An image is taken at the end of the input once the log is long, and at a start that finds it so; with 0 never."""
+    line = b"append /f " + b"61" * 65_536 + b"\n"
+    text = b"create /f\n" + line * 9
+    for words, number in ((["--image-at", "0"], 0), (["--image-at", "1"], 1)):
+        status, answered, said = ended(program, [path, *words], text)
+        if status or image_number(path) != number:
+            return f"with {words} the status is {status}, and the image has number {image_number(path)}: {said}"
+    status, answered, said = ended(program, [path], b"stat /f\n")
+    if status or not answered.startswith(b"ok file 1179648 ") or "is taken" in said:
+        return f"from the image the status is {status}: {answered!r} {said}"
+    # Killed behind its answers, so that the next start finds a long log.
+    run = subprocess.Popen([program, path, "--image-at", "1"], stdin=subprocess.PIPE, stdout=subprocess.PIPE, stderr=subprocess.DEVNULL)
+    for _ in range(20):
+        run.stdin.write(line)
+        run.stdin.flush()
+        if not run.stdout.readline().startswith(b"ok"):
+            return "a line isn't answered"
+    run.kill()
+    run.communicate()
+    status, answered, said = ended(program, [path, "--image-at", "1"], b"stat /f\n")
+    if status or not answered.startswith(b"ok file 2490368 ") or image_number(path) != 2 or "image 2 is taken" not in said:
+        return f"behind a kill the status is {status}, and the image has number {image_number(path)}: {answered!r} {said}"
+    return None
+
+
+def image_of_what_is_held(program, path, chance):
+    """No image is taken while messages are held back: that is told, and the log isn't changed."""
+    status, answered, said = ended(program, [path, *LAB], b"mkdir /a\nmkdir /b\nhold on edit\n")
+    if status or answered != b"ok\nok\nok\n":
+        return f"the status is {status}: {answered!r} {said}"
+    wrong = refused_at(program, [path, "--image"], path, 1, "no image is taken: messages are held back")
+    if wrong:
+        return wrong
+    status, answered, said = ended(program, [path, *LAB], b"hold off\n")
+    return take_image(program, path, 1) or goes_on(program, path, "ab")
+
+
+def image_in_the_way(program, path, chance):
+    """What stands under the name that the log is to keep, and isn't the log, stays, and no image is taken."""
+    kept_file(path)
+    _, before = image_names(path, 1)
+    kept_file(before, b"my own\n")
+    wrong = refused_at(program, [path, "--image"], path, 1, r"no image is taken: .*\.before\.1 stands there and isn't this log") or unlike(before, b"my own\n")
+    if wrong:
+        return wrong
+    os.remove(before)
+    kept_file(f"{path}.new", b"my own\n")
+    status, answered, said = ended(program, [path, "--image"])
+    if status != 1 or "stands there and isn't a beginning of it" not in said or bytes_of(f"{path}.new") != b"my own\n":
+        return f"beside another file the status is {status}: {said}"
+    os.remove(f"{path}.new")
+    return stands_whole(program, path)
+
+
+def image_of_a_store_in_use(program, path, chance):
+    """An image is taken of a store that no other process keeps."""
+    with subprocess.Popen([program, path, *SIZES], stdin=subprocess.PIPE, stdout=subprocess.PIPE, stderr=subprocess.DEVNULL) as first:
+        first.stdin.write(b"mkdir /a\n")
+        first.stdin.flush()
+        first.stdout.readline()
+        wrong = refused_at(program, [path, "--image"], path, 1, "another process has it")
+        first.communicate(b"mkdir /b\n")
+    return wrong or stands_whole(program, path)
+
+
+def image_of_no_store(program, path, chance):
+    return refused_at(program, [path, "--image"], path, 1, "nothing stands there")
+
+
+def image_of_the_first_form(program, path, chance):
+    """A log that an older program has kept, without a name, is followed by one that begins from its image."""
+    kept_file(path, FIRST_HEAD + b"\nmkdir /a\nmkdir /b\n")
+    return stands_whole(program, path) or stands_whole(program, path)
+
+
+def image_with_rights(program, path, chance):
+    """What an image writes has the rights of the log."""
+    kept_file(path)
+    os.chmod(path, 0o640)
+    wrong = take_image(program, path, 1)
+    rights = {name: os.stat(name).st_mode & 0o777 for name in (path, *image_names(path, 1))}
+    return wrong or (None if set(rights.values()) == {0o640} else f"the rights are {rights}")
+
+
+def image_behind_a_link(program, path, chance):
+    """The name of a file that is a symbolic link stays one: no image is taken by it, and one is by the file's own name."""
+    own = f"{path}-own"
+    kept_file(own)
+    os.symlink(own, path)
+    wrong = refused_at(program, [path, "--image"], path, 1, "no image is taken: it is a symbolic link")
+    if wrong or not os.path.islink(path):
+        return wrong or "the link is one no more"
+    os.remove(path)
+    os.rename(own, path)
+    return stands_whole(program, path)
+
+
+def image_behind_a_sync(program, path, chance):
+    """Nothing gets a name that isn't on the disk, and what has got one is synced. A sync that does nothing is found."""
+    told, wrong = f"{path}.calls", []
+    for asked in ({}, {"CALLS_SKIP": "fsync"}):
+        kept_file(path)
+        run = subprocess.run([program, path, "--image"], stdin=subprocess.DEVNULL, capture_output=True, env=calls_of({"CALLS_TOLD": told, **asked}), timeout=60)
+        lines = [line.split() for line in bytes_of(told).decode().splitlines()]
+        os.remove(told)
+        for name in (*image_names(path, 1), path):
+            os.remove(name)
+        if run.returncode:
+            return f"the status is {run.returncode}: {run.stderr!r}"
+        unsynced, renames, is_early = set(), 0, False
+        for name, file, _ in lines:
+            if name == "sync":
+                unsynced.discard(file)
+                is_last_synced = True
+            elif name in ("write", "cut") and int(file) > 2:
+                unsynced.add(file)
+            elif name == "rename":
+                renames += 1
+                is_early = is_early or bool(unsynced)
+                is_last_synced = False
+        if renames != 2:
+            return f"{renames} names were given"
+        wrong.append(is_early or not is_last_synced)
+    return None if wrong == [False, True] else f"a name comes before what has it is on the disk: {wrong}"
+
+
+def is_looked_at_from_an_image(program, path, chance):
+    """A file that begins from an image is checked and looked at, whole or as it stood after a line, which is counted as its marks count."""
+    kept_file(path)
+    wrong = take_image(program, path, 1)
+    if wrong:
+        return wrong
+    status, answered, said = ended(program, [path], b"mkdir /c\nmkdir /d\n")
+    text = bytes_of(path)
+    status, answered, said = ended(program, [path, "--check"])
+    if status or b"form 3" not in answered or b"from image 1 behind 6 lines" not in answered or b"2 lines and 1 marks" not in answered:
+        return f"--check has status {status}: {answered!r} {said}"
+    for line, names in ((6, "a/ b/"), (7, "a/ b/ c/"), (8, "a/ b/ c/ d/")):
+        status, answered, said = ended(program, [path, "--upto", str(line)], LOOK)
+        if (status, answered.decode()) != (0, f"ok {names}\n"):
+            return f"up to line {line} the status is {status}: {answered!r} {said}"
+    for line, pattern in ((0, r"look in .*\.before\.1"), (5, r"line 5 stands before the image .*\.before\.1"), (9, "it has 8 lines, and no line 9")):
+        wrong = refused_at(program, [path, "--upto", str(line)], path, 1, pattern)
+        if wrong:
+            return wrong
+    return unlike(path, text)
+
+
 BREAKS = {
     "standard input is closed": is_closed(0),
     "standard output is closed": is_closed(1),
@@ -1201,6 +1584,21 @@ BREAKS = {
     "--upto": is_upto,
     "without --lab": needs_a_lab,
     "no memory for a line": no_memory_for_a_line,
+    "a bit of an image is flipped": a_bit_of_an_image_is_flipped,
+    "no image and no log before": nothing_to_begin_from,
+    "another log before": another_log_before,
+    "an image by itself": image_by_itself,
+    "an image where messages are held back": image_of_what_is_held,
+    "an image where a file is in the way": image_in_the_way,
+    "an image of a store that is in use": image_of_a_store_in_use,
+    "an image where no store is": image_of_no_store,
+    "an image of a log of the first form": image_of_the_first_form,
+    "an image of a log with rights of its own": image_with_rights,
+    "an image of a log behind a link": image_behind_a_link,
+    "an image is on the disk before it has its name": image_behind_a_sync,
+    "--check and its like from an image": is_looked_at_from_an_image,
+    **{f"killed at {name} while an image is taken": is_killed_while_imaged(name) for name in IMAGE_CALLS},
+    **{f"{name} fails while an image is taken": is_failed_while_imaged(name) for name in IMAGE_CALLS},
 }
 
 
@@ -1340,6 +1738,7 @@ def main():
     words.add_argument("--runs", type=int, default=200)
     words.add_argument("--cuts", type=int, default=20)
     words.add_argument("--limits", type=int, default=20)
+    words.add_argument("--images", type=int, default=30)
     words.add_argument("--refusals", type=int, default=40)
     words.add_argument("--breaks", type=int, default=5, help="how often each way to break it is tried")
     words.add_argument("--landing", action="store_true", help="a part of all that")
@@ -1352,7 +1751,7 @@ def main():
     words.add_argument("--times", type=int, default=5, help="how often it is, by turns with chunkstore")
     asked = words.parse_args()
     if asked.landing:
-        asked.runs, asked.cuts, asked.limits, asked.refusals, asked.breaks = 20, 5, 5, 12, 1
+        asked.runs, asked.cuts, asked.limits, asked.images, asked.refusals, asked.breaks = 20, 5, 5, 5, 12, 1
     programs = (asked.program or built("chunkkeep"), asked.plain or built("chunkstore"))
     folder = tempfile.mkdtemp(prefix="chunkkeep-", dir=asked.folder)
     if asked.speed:
@@ -1362,8 +1761,9 @@ def main():
     passed = tried("run", crash, asked.runs, programs, folder, asked.seed)
     passed += tried("cut", cut, asked.cuts, programs, folder, asked.seed)
     passed += tried("limit", limited, asked.limits, programs, folder, asked.seed)
+    passed += tried("image", imaged, asked.images, programs, folder, asked.seed)
     passed += tried("refusal", refusal, asked.refusals, programs, folder, asked.seed)
-    failed = asked.runs + asked.cuts + asked.limits + asked.refusals - passed
+    failed = asked.runs + asked.cuts + asked.limits + asked.images + asked.refusals - passed
     others = broken(programs[0], folder, asked.seed, asked.breaks)
     passed, failed = passed + others[0], failed + others[1]
     if not failed:

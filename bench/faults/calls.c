@@ -1,7 +1,7 @@
 /* Calls of the system as a program makes them on its files: told, failing once, or doing nothing. It stands before the C library, and is compiled
    without headers.
 
-   CALLS_TOLD=PATH    each write and sync is told there, a line each: its name, its descriptor and how many bytes were written
+   CALLS_TOLD=PATH    each write, sync and rename is told there, a line each: its name, its descriptor and how many bytes were written
    CALLS_FAIL=NAME    the call of that name that CALLS_NUMBER says fails, with the error that CALLS_ERROR says, or where that is 0 the program is
                       killed there; a write to one of the three standard files isn't counted
    CALLS_PART=1       the write before the one that fails writes half of its bytes
@@ -10,7 +10,7 @@ extern char *getenv(const char *);
 extern long syscall(long, ...);
 extern int *__errno_location(void);
 
-enum { WRITE = 1, OPEN = 2, CLOSE = 3, GETPID = 39, KILL = 62, FCNTL = 72, FLOCK = 73, FSYNC = 74, FDATASYNC = 75, FTRUNCATE = 77, LINK = 86, UNLINK = 87 };
+enum { WRITE = 1, OPEN = 2, CLOSE = 3, GETPID = 39, KILL = 62, FCNTL = 72, FLOCK = 73, FSYNC = 74, FDATASYNC = 75, FTRUNCATE = 77, RENAME = 82, LINK = 86, UNLINK = 87 };
 enum { KILLED = 9 };
 /* O_WRONLY, O_CREAT, O_APPEND and O_CLOEXEC; F_DUPFD_CLOEXEC; and a descriptor far from those of the program. */
 enum { TOLD_FLAGS = 02002101, DUPLICATE = 1030, FAR = 200 };
@@ -104,6 +104,13 @@ int open(const char *path, int flags, ...) {
     int mode = __builtin_va_arg(more, int);
     __builtin_va_end(more);
     return fails("open") ? -1 : syscall(OPEN, path, flags, mode);
+}
+
+int rename(const char *path, const char *name) {
+    if (fails("rename")) return -1;
+    int status = syscall(RENAME, path, name);
+    if (!status) tell("rename", 0, 0);
+    return status;
 }
 
 int link(const char *path, const char *name) { return fails("link") ? -1 : syscall(LINK, path, name); }

@@ -1,3 +1,5 @@
+use crate::loading::Unread;
+use crate::taking::Untaken;
 use gs_keep::{FirstLineFault, KeepFault, ReplayFault, StandingFault, StoreFault, Wrong};
 use gs_keep_file::{FileFault, FileLog, LogFile, OpenFault};
 use gs_keep_measure::{ExtentFault, MeasureFault, TailFault};
@@ -9,7 +11,10 @@ use thiserror::Error;
 #[derive(Debug, Drop, Error)]
 pub(crate) enum Fault {
     #[error("the store that is kept here has --{name} {size}")]
-    Differs { name: &'static str, size: u64 },
+    Differs {
+        name: &'static str,
+        size: u64,
+    },
     #[error("nothing stands there, and no store of these sizes can be made")]
     NoStore,
     #[error("nothing stands there, and --existing makes no store")]
@@ -38,12 +43,31 @@ pub(crate) enum Fault {
     OtherVersion,
     #[error("line 1 isn't that of a store that is kept; nothing is changed")]
     Other,
-    #[error("it begins from an image, which this program can't read yet; nothing is changed")]
-    Image,
+    #[error("the image {name} isn't read: {unread}")]
+    Unread {
+        name: String,
+        unread: Unread,
+    },
+    #[error("it isn't the log whose image it is, or doesn't end where that was taken")]
+    NotBefore,
+    #[error("it begins from the image {image}, which isn't read: {unread}. Nor is the log before, {name}: {reason}. Nothing is changed")]
+    NoBeginning {
+        image: String,
+        unread: Unread,
+        name: String,
+        reason: String,
+    },
+    #[error("its folder can't be synced: {0}; nothing is changed")]
+    Folder(io::Error),
+    #[error("no image is taken: {0}")]
+    Untaken(Untaken),
     #[error("line {0} is none of a script; nothing is changed")]
     BadLine(u64),
     #[error("line {line} is a mark that says otherwise of {wrong}; nothing is changed")]
-    Mark { line: u64, wrong: Wrong },
+    Mark {
+        line: u64,
+        wrong: Wrong,
+    },
     #[error("a mark of it is damaged; nothing is changed")]
     Damaged,
     #[error("a line of it is longer than a line may be, and a mark stands after it; nothing is changed")]
@@ -62,6 +86,11 @@ pub(crate) enum Fault {
     Aside(io::Error),
     #[error("it has {0} lines, and no line {1}")]
     NoLine(u64, u64),
+    #[error("line {line} stands before the image that it begins from; look in {name}")]
+    BeforeImage {
+        line: u64,
+        name: String,
+    },
     #[error("{0}")]
     Script(RunFault),
     #[error("standard output can't be written: {0}")]

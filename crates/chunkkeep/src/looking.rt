@@ -91,10 +91,15 @@ fn tell_head(rt: &impl Print, path: &str, head: &HeadLine) -> io::Result<()> {
     print!(rt;
         "{path}: a store of form {number}, --servers {servers} --racks {racks} --replicas {replicas} --chunk {chunk} --block {block}"
     )?;
-    match name {
-        Some(name) => println!(rt; ", name {name}"),
-        None => println!(rt; ""),
+    if let Some(name) = name {
+        print!(rt; ", name {name}")?;
     }
+    if let Form::Three(before) = form {
+        let image = before.image;
+        let lines = before.lines;
+        print!(rt; ", from image {image} behind {lines} lines")?;
+    }
+    println!(rt; "")
 }
 
 /// Says on standard output what was run, and what a start would do.

@@ -2,42 +2,39 @@
 //! the grammar is on the disk before it is answered.
 #![tactic(auto)]
 
-ghost use Rattle.std.specs.Prelude.{◌≡◌, false, is_some};
-
+mod beside;
 mod drawing;
 mod fault;
+mod imaging;
+mod loading;
 mod looking;
 mod memory_desk;
 mod opening;
 mod patient;
 mod quoting;
+mod serving;
 mod tail;
+mod taking;
 mod telling;
 
 use fault::Fault;
 use gs_base::Refusal;
-use gs_keep::{Answers, StartFault, start};
-use gs_keep_file::{FileLog, LogFile, Opened, fill_standard};
+use gs_keep_file::fill_standard;
 use gs_keep_options::{Asked, Shown, Task, explanation, read_words, what_to_show};
-use gs_shell_line::EndedLines;
+use imaging::{image, serve};
 use looking::{check, look};
-use opening::{FileSource, Opener, opened, why_unrun};
-use patient::Patient;
 use quoting::line_text;
 use std::alloc::{AllocError, Global};
-use std::env;
 use std::fs::File;
-use std::io::{self, BufReader, BufWriter};
 use std::process::ExitCode;
 use std::rt::{Clock, Env, Files};
-use tail::Tail;
-use telling::Teller;
+use std::{env, io};
 
 /// The most bytes of the input that are held beside a line: so much comes together at most.
 const INPUT_BYTES: usize = 1_048_576;
 
 /// What `--version` shows.
-const VERSION: &str = "chunkkeep, of form 2 of the file";
+const VERSION: &str = "chunkkeep, of forms 2 and 3 of the file";
 
 /// What is to be shown for words that are refused, and its text.
 fn shown_text(alloc: Global, words: &[String]) -> Result<(Shown, String), AllocError> {
@@ -93,71 +90,14 @@ fn asked_for(rt: &(impl Print + Eprint + Env + AllocGlobal)) -> Result<Asked, Ex
     }
 }
 
-/// Cuts a file behind what was synced last, where a write or a sync behind that failed, and says so.
-fn give_up<F: LogFile>(rt: &(impl Eprint), path: &str, log: &mut FileLog<F>) {
-    let _ = match log.give_up() {
-        Ok(None) => return,
-        Ok(Some(len)) => eprintln!(rt;
-            "chunkkeep: {path}: it is cut to {len} bytes, behind all that was answered"
-        ),
-        Err(fault) => eprintln!(rt;
-            "chunkkeep: {path}: what stands behind the lines that were answered can't be cut off: {fault}"
-        ),
-    };
-}
-
-/// Goes on with what a file keeps: its lines are run again, and then standard input is answered on standard output.
-fn serve<'a, R: Files<File = File> + Input + Print + Eprint + Clock + AllocGlobal>(
-    rt: &'a R,
-    asked: &'a Asked,
-    opened: Opened<'a, R>,
-) -> Result<(), Fault>
-    requires { is_some opened.log.fault ≡ false }
-{
-    let alloc = rt.alloc();
-    let path = asked.path.as_str();
-    let Opened {
-        mut log,
-        reader: file,
-    } = opened;
-    let input = Patient::new(rt, rt.reader());
-    let Ok(reader) = BufReader::with_capacity(alloc, INPUT_BYTES, input) else {
-        return Err(Fault::Memory);
-    };
-    let Ok(writer) = BufWriter::new(alloc, io::writer(rt)) else {
-        return Err(Fault::Memory);
-    };
-    let mut source = FileSource::new(file);
-    let mut rest = Tail::new(rt, alloc, path);
-    match start(
-        alloc,
-        &mut log,
-        &mut source,
-        &Opener::new(asked),
-        &mut rest,
-        &mut Teller::new(rt, path),
-        &mut EndedLines::new(reader),
-        &mut Answers::new(writer),
-    ) {
-        Ok(_) => Ok(()),
-        Err(StartFault::Standing(fault)) => Err(why_unrun(alloc, &mut source, fault)),
-        Err(StartFault::Run(fault)) => {
-            give_up(rt, path, &mut log);
-            Err(Fault::of_run(fault, log, rest.into_fault()))
-        }
-    }
-}
-
-/// Opens the file, or makes it, and goes on with what it keeps; or looks at it.
+/// Opens the file, or makes it, and goes on with what it keeps; or looks at it, or writes down what stands.
 fn run(
     rt: &(impl Files<File = File> + Input + Print + Eprint + Clock + AllocGlobal),
     asked: &Asked,
 ) -> Result<(), Fault> {
     match asked.mode.task() {
-        Task::Serve => {
-            let opened = opened(rt, asked)?;
-            serve(rt, asked, opened)
-        }
+        Task::Serve => serve(rt, asked),
+        Task::Image => image(rt, asked),
         Task::Check => check(rt, asked),
         Task::Look(upto) => look(rt, asked, upto),
     }

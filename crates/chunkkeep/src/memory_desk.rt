@@ -6,11 +6,16 @@ ghost use Rattle.gs_keep_desk.specs.Looks.{harms_line};
 ghost use Rattle.gs_shell_grammar.specs.Grammar.{line_request};
 
 use crate::fault::Fault;
+use crate::loading::Unread;
+use crate::taking::{OPENS, Untaken};
 use gs_base::Config;
+use gs_desk_image::close;
+use gs_fields::Fault as FieldFault;
 use gs_journal::MemoryDisk;
 use gs_keep::Keeping;
 use gs_keep_desk::{KeptDesk, LookingDesk};
-use gs_nodes::empty_disks;
+use gs_keep_image::{Image, image_of, may_rest};
+use gs_nodes::{MasterPlace, empty_disks};
 use gs_shell_desk::Desk;
 use gs_shell_script::Answering;
 use std::alloc::{AllocError, Global};
@@ -36,6 +41,59 @@ impl MemoryDesk {
             }),
             Err(_) => Err(Fault::Memory),
         }
+    }
+
+    /// That of a store that is read of an image. The line is run that opens the disks of its master: the log before the image's ends with it.
+    pub(crate) fn from_image(
+        alloc: Global,
+        desk: Desk<MemoryDisk>,
+        is_lab: bool,
+    ) -> Result<MemoryDesk, Unread> {
+        let mut machine = MemoryDesk {
+            desk: KeptDesk::new(desk, is_lab),
+        };
+        match machine.answer(alloc, OPENS.as_bytes()) {
+            Ok(text) if text.as_str() == "ok" => Ok(machine),
+            Ok(_) => Err(Unread::Master),
+            Err(_) => Err(Unread::Memory),
+        }
+    }
+
+    /// Whether its store rests once the disks of its master are closed.
+    pub(crate) fn may_rest(&self) -> bool {
+        may_rest(self.desk.desk())
+    }
+
+    /// Lines that harm a store are taken from now on.
+    pub(crate) fn for_lab(self) -> MemoryDesk {
+        let Self { desk } = self;
+        MemoryDesk {
+            desk: KeptDesk::new(desk.into_desk(), true),
+        }
+    }
+
+    /// With the disks of its master closed, for the line that opens them.
+    pub(crate) fn closed(self) -> MemoryDesk {
+        let Self { desk } = self;
+        let mut desk = desk.into_desk();
+        close(&mut desk);
+        MemoryDesk {
+            desk: KeptDesk::new(desk, true),
+        }
+    }
+
+    /// The image of its store, which rests.
+    pub(crate) fn image(&self, alloc: Global) -> Result<Image, Untaken> {
+        match image_of(self.desk.desk(), alloc) {
+            Ok(image) => Ok(image),
+            Err(FieldFault::Memory) => Err(Untaken::Memory),
+            Err(FieldFault::Form) => Err(Untaken::Form),
+        }
+    }
+
+    /// Whether the disks of its master are open.
+    pub(crate) fn is_open(&self) -> bool {
+        matches!(self.desk.desk().wire.nodes.master, MasterPlace::Standing(_))
     }
 
     /// What it has come to is only looked at from now on.

@@ -1,19 +1,22 @@
 ghost use Rattle.std.specs.Prelude.{◌≡◌, false, IfOk, is_some};
 
+use crate::beside::{before_name, new_name};
 use crate::drawing::drawn_name;
 use crate::fault::Fault;
+use crate::loading::{Kept, begun_desk, new_desk};
 use crate::memory_desk::MemoryDesk;
 use gs_base::Config;
 use gs_keep::{FirstLineFault, Made, Making, Source, Standing, StandingFault, found_in};
 use gs_keep_file::{FirstText, Opened, Standing as Stands, make, open, open_to_read, what_stands};
-use gs_keep_head::{Form, HeadFault, HeadLine, LogName, NAME_DIGITS, head, read_head};
+use gs_keep_head::{Form, HeadFault, HeadLine, LogName, head, read_head};
+use gs_keep_mark::is_mark;
 use gs_keep_measure::Extent;
 use gs_keep_options::{Asked, Sizes};
 use gs_shell_line::{EndedLine, EndedLines, Line, content_of, next_line};
 use std::alloc::{AllocError, Global};
 use std::fs::File;
 use std::io::{self, BufReader, ErrorKind, Read, Seek, SeekFrom, Take};
-use std::rt::Files;
+use std::rt::{Clock, Files};
 
 /// The bytes of the file that are read at a time.
 const FILE_BYTES: usize = 65_536;
@@ -52,22 +55,26 @@ impl Source for FileSource {
 }
 
 /// What makes a desk by the first line of a file, if that is one of a store of the sizes that are asked for.
-#[derive(Clone, Copy)]
-pub(crate) struct Opener {
+#[derive(Drop)]
+pub(crate) struct Opener<'a, R> {
     sizes: Sizes,
-    is_lab: bool,
+    kept: Kept<'a, R>,
 }
 
-impl Opener {
-    pub(crate) fn new(asked: &Asked) -> Opener {
+impl<'a, R> Opener<'a, R> {
+    pub(crate) fn new(rt: &'a R, asked: &'a Asked) -> Opener<'a, R> {
         Opener {
             sizes: asked.sizes,
-            is_lab: asked.mode.is_lab,
+            kept: Kept {
+                rt,
+                path: asked.path.as_str(),
+                is_lab: asked.mode.is_lab,
+            },
         }
     }
 }
 
-impl Making for Opener {
+impl<R: Files<File = File> + Eprint + Clock + AllocGlobal> Making for Opener<'_, R> {
     type Machine = MemoryDesk;
 
     type Fault = Fault;
@@ -79,13 +86,13 @@ impl Making for Opener {
     fn make(&self, alloc: Global, line: &[u8]) -> Result<Made<MemoryDesk>, Fault> {
         let head = head_of(alloc, line)?;
         compare(&self.sizes, &head.config)?;
-        if let Form::Three(_) = head.form {
-            return Err(Fault::Image);
-        }
+        let Form::Three(before) = head.form else {
+            return new_desk(alloc, &head, self.kept.is_lab);
+        };
         Ok(Made {
-            machine: MemoryDesk::new(alloc, head.config, self.is_lab)?,
-            is_second: head.form == Form::Two,
-            before: 0,
+            machine: begun_desk(&self.kept, &head, &before)?,
+            is_second: true,
+            before: before.lines,
         })
     }
 }
@@ -102,7 +109,7 @@ fn compare(sizes: &Sizes, config: &Config) -> Result<(), Fault> {
 }
 
 /// What a first line says.
-fn head_of(alloc: Global, line: &[u8]) -> Result<HeadLine, Fault> {
+pub(crate) fn head_of(alloc: Global, line: &[u8]) -> Result<HeadLine, Fault> {
     match read_head(alloc, content_of(line)) {
         Ok(head) => Ok(head),
         Err(HeadFault::Memory) => Err(Fault::Memory),
@@ -118,13 +125,34 @@ fn head_line(alloc: Global, config: &Config, name: LogName) -> Result<String, Al
     Ok(text)
 }
 
-/// The first line of a new log, of which the name is drawn.
-fn first_text(line: &str) -> FirstText<'_> {
-    // The name stands at the end of the line.
-    let (fixed, drawn) = line
-        .as_bytes()
-        .split_at(line.len().saturating_sub(NAME_DIGITS + 1));
+/// The first line of a log. What stands after a text of it may be another one in each run.
+pub(crate) fn first_text<'a>(line: &'a str, text: &str) -> FirstText<'a> {
+    let at = match line.find(text) {
+        Some(at) => at.saturating_add(text.len()),
+        None => line.len(),
+    };
+    let (fixed, drawn) = line.as_bytes().split_at(at.min(line.len()));
     FirstText { fixed, drawn }
+}
+
+/// What the first line of a file says, and how many bytes it has.
+#[derive(Clone, Copy)]
+pub(crate) struct FirstLine {
+    pub(crate) head: HeadLine,
+    pub(crate) len: u64,
+}
+
+/// The first line of a file, if it is one and can be read. A start says why not.
+pub(crate) fn first_line(alloc: Global, source: &mut FileSource) -> Option<FirstLine> {
+    let part = source.part(alloc, 0, u64::MAX).ok()?;
+    let next = EndedLines::new(part).next(alloc).ok()?;
+    match next.line {
+        EndedLine::Text(line) => Some(FirstLine {
+            head: head_of(alloc, &line).ok()?,
+            len: line.len() as u64,
+        }),
+        _ => None,
+    }
 }
 
 /// Why a file in which no line ends is refused.
@@ -181,6 +209,65 @@ fn first_lines(
     Ok(len)
 }
 
+/// How many bytes a file has up to a line, which is counted as marks count lines: none of them is one, and `before` stand before the file.
+fn counted_lines(
+    alloc: Global,
+    source: &mut FileSource,
+    extent: Extent,
+    before: u64,
+    count: u64,
+) -> Result<u64, Fault> {
+    let part = source.part(alloc, 0, extent.whole).map_err(Fault::of_read)?;
+    let mut lines = EndedLines::new(part);
+    let mut len: u64 = 0;
+    let mut at = before;
+    for number in 0..extent.lines {
+        let EndedLine::Text(line) = lines.next(alloc).map_err(Fault::Read)?.line else {
+            return Err(Fault::Shorter);
+        };
+        let is_counted = number > 0 && !is_mark(&line);
+        if is_counted && at == count {
+            return Ok(len);
+        }
+        at = at.saturating_add(u64::from(is_counted));
+        len = len.saturating_add(line.len() as u64);
+    }
+    if at == count {
+        return Ok(len);
+    }
+    Err(Fault::NoLine(at, count))
+}
+
+/// How many bytes a file has up to a line. In a file that begins from an image lines are counted as its marks count them.
+fn len_up_to(
+    alloc: Global,
+    source: &mut FileSource,
+    extent: Extent,
+    line: UpTo<'_>,
+) -> Result<u64, Fault> {
+    let Form::Three(before) = line.form else {
+        return first_lines(alloc, source, extent, line.count);
+    };
+    if line.count < before.lines {
+        return match before_name(alloc, line.path, before.image) {
+            Ok(name) => Err(Fault::BeforeImage {
+                line: line.count,
+                name,
+            }),
+            Err(_) => Err(Fault::Memory),
+        };
+    }
+    counted_lines(alloc, source, extent, before.lines, line.count)
+}
+
+/// A line up to which a file is read.
+#[derive(Clone, Copy)]
+struct UpTo<'a> {
+    path: &'a str,
+    form: Form,
+    count: u64,
+}
+
 /// What a file holds, and what is run again of it.
 #[derive(Drop)]
 pub(crate) struct Held {
@@ -191,31 +278,38 @@ pub(crate) struct Held {
 }
 
 /// Reads what a file holds, as a start does. With `upto` it is read up to that line alone.
-fn held_by(alloc: Global, file: File, asked: &Asked, upto: Option<u64>) -> Result<Held, Fault> {
+fn held_by<R: Files<File = File> + Eprint + Clock + AllocGlobal>(
+    rt: &R,
+    file: File,
+    asked: &Asked,
+    upto: Option<u64>,
+) -> Result<Held, Fault> {
+    let alloc = rt.alloc();
     let mut source = FileSource::new(file);
-    let standing = match found_in(alloc, &mut source, &Opener::new(asked)) {
+    let standing = match found_in(alloc, &mut source, &Opener::new(rt, asked)) {
         Ok(standing) => standing,
         Err(fault) => return Err(why_unrun(alloc, &mut source, fault)),
     };
+    let head = head_of(alloc, &standing.head)?;
     let len = match upto {
-        Some(count) => first_lines(alloc, &mut source, standing.extent, count)?,
+        Some(count) => {
+            let line = UpTo {
+                path: asked.path.as_str(),
+                form: head.form,
+                count,
+            };
+            len_up_to(alloc, &mut source, standing.extent, line)?
+        }
         None => standing.extent.whole,
     };
     let part = source
         .part(alloc, standing.head.len() as u64, len)
         .map_err(Fault::of_read)?;
     Ok(Held {
-        head: head_of(alloc, &standing.head)?,
+        head,
         standing,
         lines: EndedLines::new(part),
     })
-}
-
-/// The name under which a store's file is made.
-fn name_beside(alloc: Global, path: &str) -> Result<String, AllocError> {
-    let mut name = String::from_str(alloc, path)?;
-    name.push_str(".new")?;
-    Ok(name)
 }
 
 /// Makes the file of a new store where nothing stands.
@@ -239,7 +333,7 @@ fn made<'a, R: Files<File = File> + AllocGlobal>(
     let Ok(line) = head_line(rt.alloc(), &config, name) else {
         return Err(Fault::Memory);
     };
-    match make(rt, &asked.path, beside, &first_text(&line)) {
+    match make(rt, &asked.path, beside, &first_text(&line, " name ")) {
         Ok(opened) => Ok(opened),
         Err(fault) => Err(Fault::Opening(fault)),
     }
@@ -266,7 +360,7 @@ pub(crate) fn opened<'a, R: Files<File = File> + AllocGlobal>(
 ) -> Result<Opened<'a, R>, Fault>
     ensures { IfOk result (λ opened. is_some opened.log.fault ≡ false) }
 {
-    let Ok(beside) = name_beside(rt.alloc(), &asked.path) else {
+    let Ok(beside) = new_name(rt.alloc(), &asked.path) else {
         return Err(Fault::Memory);
     };
     match what_stands(rt, &asked.path) {
@@ -277,21 +371,26 @@ pub(crate) fn opened<'a, R: Files<File = File> + AllocGlobal>(
     }
 }
 
+/// Refuses a name under which no file stands.
+pub(crate) fn need_file<R: Files>(rt: &R, path: &str) -> Result<(), Fault> {
+    match what_stands(rt, path) {
+        Ok(Stands::Nothing) => Err(Fault::Absent),
+        Ok(Stands::Dangling) => Err(Fault::Dangling),
+        Ok(Stands::Something) => Ok(()),
+        Err(error) => Err(Fault::Open(error)),
+    }
+}
+
 /// Opens the file that is asked for to read it alone, locked for that or not, and reads what it holds, or what it holds up to a line.
-pub(crate) fn looked_at<R: Files<File = File> + AllocGlobal>(
+pub(crate) fn looked_at<R: Files<File = File> + Eprint + Clock + AllocGlobal>(
     rt: &R,
     asked: &Asked,
     is_shared: bool,
     upto: Option<u64>,
 ) -> Result<Held, Fault> {
-    match what_stands(rt, &asked.path) {
-        Ok(Stands::Nothing) => return Err(Fault::Absent),
-        Ok(Stands::Dangling) => return Err(Fault::Dangling),
-        Ok(Stands::Something) => {}
-        Err(error) => return Err(Fault::Open(error)),
-    }
+    need_file(rt, &asked.path)?;
     match open_to_read(rt, &asked.path, is_shared) {
-        Ok(reader) => held_by(rt.alloc(), reader, asked, upto),
+        Ok(reader) => held_by(rt, reader, asked, upto),
         Err(fault) => Err(Fault::Opening(fault)),
     }
 }
