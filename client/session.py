@@ -1,6 +1,7 @@
 """A store that runs, and is asked lines."""
 
 import contextlib
+import hashlib
 import os
 import re
 import select
@@ -28,6 +29,10 @@ LINE_COST = 1_024
 SAID_BYTES = 2_000
 READ = re.compile(r"read \S+ \d+ (\d{1,9})")
 SIZE = re.compile(r"--(servers|racks|replicas|chunk|block) (\d+)")
+# What the first line of a log tells that begins from an image: the image's number, and the digest of the log before.
+BEGINS = re.compile(r"chunkkeep 3 .* image (\d+) [0-9a-f]{64} lines \d+ ([0-9a-f]{64}) [0-9a-f]{64}\n")
+# What was deleted is found by all lines that the store was ever asked, so no image is taken by itself.
+NO_IMAGE = ("--image-at", "0")
 # How the commands of this client call what lines ask for.
 CALLED = {"rollingUpgrade": "upgrade", "rollback-commit": "upgrade rollback", "scan": "expunge"}
 
@@ -83,6 +88,28 @@ def cost_of(line: str) -> int:
     return LINE_COST + len(line) + (2 * int(read[1]) if read else 0)
 
 
+def image_of(log: Path) -> tuple[int, str] | None:
+    """The number of the image that a log begins from, if it does, and the digest of the log before."""
+    with local(log), open(log, newline="\n", errors="replace") as file:
+        found = BEGINS.fullmatch(file.readline(1_000))
+    return (int(found[1]), found[2]) if found else None
+
+
+def log_before(file: Path, number: int, digest: str) -> Path:
+    """The log before the one that begins from an image. It has to be the one that this tells of."""
+    log = Path(f"{file}.before.{number}")
+    why = f"{file} begins from an image, and this needs all lines that the store was ever asked"
+    if not log.exists():
+        raise Failed(f"{why}. Those before stand in {log}, which isn't there")
+    with local(log), open(log, "rb") as before:
+        summed = hashlib.sha256()
+        while part := before.read(PIPE_BYTES):
+            summed.update(part)
+    if summed.hexdigest() != digest:
+        raise Failed(f"{why}. {log} isn't the log with those before")
+    return log
+
+
 class Session(contextlib.AbstractContextManager["Session"]):
     """A program that is asked lines, many of them before their answers come, so that its log is synced seldom."""
 
@@ -93,7 +120,7 @@ class Session(contextlib.AbstractContextManager["Session"]):
         # The lines of a store that has no file, by which it can be run again.
         self.recorded: deque[str] = deque(maxlen=None if is_recorded and not file else 0)
         self.said = tempfile.TemporaryFile()
-        words = [launch.program_of("chunkkeep").path, file, *flags] if file else [launch.program_of("chunkstore").path]
+        words = [launch.program_of("chunkkeep").path, file, *NO_IMAGE, *flags] if file else [launch.program_of("chunkstore").path]
         words += [str(word) for name, size in given.items() for word in (f"--{name}", size)]
         how = {"stdin": subprocess.PIPE, "stdout": subprocess.PIPE, "stderr": self.said, "pipesize": PIPE_BYTES}
         # What is typed at a terminal is for the client, which ends the program itself.
@@ -192,15 +219,23 @@ class Session(contextlib.AbstractContextManager["Session"]):
     def ended(self) -> Ended:
         return Ended(f"the store's program has ended, with status {self.program.wait()}: {self.last_said()[-1] or 'it said nothing'}")
 
+    def logs(self) -> list[Path]:
+        """The store's file, behind the logs before it, as far as it begins from images. Each of them has to stand."""
+        logs = [self.file]
+        while image := image_of(logs[0]):
+            logs.insert(0, log_before(self.file, *image))
+        return logs
+
     def history(self) -> Iterator[str]:
         """All lines that the store was ever asked."""
         if self.file is None:
             yield from list(self.recorded)
             return
-        with open(self.file, newline="\n", encoding="utf-8", errors="surrogateescape") as log:
-            next(log)
-            # A line that begins with # is a mark. One may end with \r\n.
-            yield from (line.removesuffix("\n").removesuffix("\r") for line in log if not line.startswith("#"))
+        for file in self.logs():
+            with open(file, newline="\n", encoding="utf-8", errors="surrogateescape") as log:
+                next(log)
+                # A line that begins with # is a mark. One may end with \r\n.
+                yield from (line.removesuffix("\n").removesuffix("\r") for line in log if not line.startswith("#"))
 
     def again(self) -> "Session":
         """A store without a file, that is asked nothing yet, for the lines of this one to be run again."""

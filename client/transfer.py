@@ -25,7 +25,7 @@ MOST_NAME_BYTES = 200
 MOST_ELEMENTS = 64
 TOO_LONG = f"a name has {MOST_NAME_BYTES} bytes at most as it stands in lines, and a path {MOST_ELEMENTS} elements"
 # What follows the name of a store's file in the names of others that are made beside it.
-OWN = re.compile(r"(\.new|\.cut(\.\d+)?)?")
+OWN = re.compile(r"(\.new|\.cut(\.\d+)?|\.image\.\d+(\.new)?|\.before\.\d+)?")
 
 
 class Local(NamedTuple):

@@ -6,7 +6,7 @@ from argparse import Namespace
 from collections import Counter, deque
 
 from client.check import place
-from client.session import Session
+from client.session import Session, image_of
 from client.store import heal, paths_of, phase, report_all, walk
 from client.telling import WELL, WRONG, Failed, Refused, say
 from client.transfer import opened
@@ -92,7 +92,10 @@ def status(session: Session, asked: Namespace) -> int | None:
             is_first = next(lines).startswith(b"chunkkeep 1 ")
             marks = [at for at, line in enumerate(lines, 2) if line.startswith(b"#") and int(line.split()[1]) < begun]
         if last := max(marks, default=begun * is_first):
-            say(f"`head -n {last} {shlex.quote(str(session.file))} > COPY` makes the store before it. An upgrade that stands there can be finalized")
+            image, file = image_of(session.file), shlex.quote(str(session.file))
+            # The copy begins from the same image, under a name of its own.
+            beside = f", with `cp {file}.image.{image[0]} COPY.image.{image[0]}`," if image else ""
+            say(f"`head -n {last} {file} > COPY`{beside} makes the store before it. An upgrade that stands there can be finalized")
     return WRONG
 
 

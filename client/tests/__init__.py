@@ -2,12 +2,15 @@
 
 import io
 import os
+import subprocess
 import sys
 import tempfile
 import unittest
 from contextlib import redirect_stderr, redirect_stdout
 from pathlib import Path
 from unittest.mock import patch
+
+import launch
 
 from client import ROOT
 from client.main import main
@@ -62,6 +65,10 @@ class StoreCase(unittest.TestCase):
 
     def session(self) -> Session:
         return Session(self.store, {} if self.store.exists() else self.sizes, ["--lab"])
+
+    def take_image(self) -> None:
+        """Has the store begin anew from an image."""
+        subprocess.run([launch.program_of("chunkkeep").path, self.store, "--image"], check=True, capture_output=True)
 
     def local(self, name: str, content: bytes) -> Path:
         """A file of this machine."""

@@ -92,6 +92,26 @@ class Sessions(StoreCase):
                     again.try_all(session.history())
                     self.assertEqual(again.ask("ls", "/a"), "f")
 
+    def test_history_goes_on_over_an_image(self) -> None:
+        self.lines("create /f", "rm /f")
+        self.take_image()
+        self.lines("create /g")
+        with self.session() as session:
+            self.assertEqual([line for line in session.history() if not line.startswith("restart ")], ["create /f", "rm /f", "create /g"])
+        self.assertIn(" /f ", self.fs("trash"))
+        before = self.store.with_name(f"{self.store.name}.before.1")
+        before.write_bytes(before.read_bytes().replace(b"rm /f", b"rm /g"))
+        self.assertIn("before.1 isn't the log with those before", self.fs("trash", status=1))
+
+    def test_history_without_the_logs_before_is_none(self) -> None:
+        self.lines("create /f", "rm /f")
+        for _ in range(2):
+            self.take_image()
+        told = self.fs("trash", status=1)
+        self.assertIn("begins from an image, and this needs all lines that the store was ever asked", told)
+        self.assertIn("before.1, which isn't there", told)
+        self.assertEqual(self.fs("ls"), "")
+
     def test_sizes_are_those_of_the_file(self) -> None:
         self.session().__exit__(None)
         self.assertEqual(sizes_of(self.store, {}), Sizes(**TINY))
