@@ -7,6 +7,8 @@ mod fault;
 mod loading;
 pub mod promises;
 mod taking;
+#[cfg(test)]
+mod tests;
 
 pub use due::is_due;
 pub use fault::LoadFault;
