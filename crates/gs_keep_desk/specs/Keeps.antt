@@ -36,7 +36,7 @@ bad_line_is : bad_line_text ≡ codes "refused 34 BadLine"
 unfolding digits
 bad_line_is = refl
 
-pub memory_is : memory_text ≡ codes "refused 33 Memory"
+memory_is : memory_text ≡ codes "refused 33 Memory"
 unfolding digits
 memory_is = refl
 
@@ -44,6 +44,10 @@ memory_is = refl
 passed_over : (n : ℕ) (line text : List ℕ) → (text ≡ bad_line_text) ⊎ (text ≡ memory_text) → since_tick n line text ≡ n
 passed_over n line text (inl bad) = ap (λ t. since_tick n line t) (bad ∙ bad_line_is)
 passed_over n line text (inr lacking) = ap (λ t. since_tick n line t) (lacking ∙ memory_is)
+
+-- so does a line for which memory was lacking
+pub memory_counts_nothing : (n : ℕ) (line : List ℕ) → since_tick n line memory_text ≡ n
+memory_counts_nothing n line = passed_over n line memory_text (inr refl)
 
 -- the answer where nothing is asked
 none_answered : (asked : Option Request) (P R : Type 0) (Q : Request → Type 0) → is_some asked ≡ false → MatchOption asked (P × R) Q → P
