@@ -84,21 +84,6 @@ impl<D: Disk + Drop> KeptDesk<D> {
         desk
     }
 
-    /// The desk that is kept.
-    pub fn desk(&self) -> &Desk<D>
-        ensures { result.now ≡ self.now.desk }
-    {
-        &self.desk
-    }
-
-    /// The desk, which is kept no more.
-    pub fn into_desk(self) -> Desk<D>
-        ensures { result ≡ self.desk }
-    {
-        let Self { desk, is_lab: _ } = self;
-        desk
-    }
-
     /// What it has come to is only looked at from now on.
     pub fn looking(self) -> LookingDesk<D>
         ensures { result.desk ≡ self.desk }
