@@ -42,7 +42,7 @@ use Rattle.gs_shell_script.specs.Run.{AnswersIfShort, AnswersLine, Runs, memory_
 use Rattle.gs_world.specs.Sent.{Sent}
 use Rattle.gs_laws_image.specs.Seen.{SeenDisk, bytes_seen, failures_seen, desk_seen, disks_seen, master_seen, place_seen, way_seen}
 use Rattle.gs_laws_image.specs.Going.{AreSameButDisks, GoesOnAs, IsClosedOf, IsRestart, WentOn}
-use Rattle.gs_laws_image.specs.Laws.{GoOnAlike, ImagesGoOn, ImagesGoOnAlike, LinesGoOn, NewStoresGoOn}
+use Rattle.gs_laws_image.specs.Laws.{ClosedDesksGoOn, GoOnAlike, ImagesGoOn, ImagesGoOnAlike, LinesGoOn, NewStoresGoOn}
 use Rattle.gs_laws_image.proofs.Worlds.{AreHere, reaches_seen, still_seen}
 use Rattle.gs_laws_image.proofs.Asking.{begins_asked, lines_ask}
 use Rattle.gs_laws_image.proofs.Lines.{lines_seen}
@@ -419,6 +419,14 @@ module _ (config : Config) (d c e : Desk MemoryDisk) (w : PlainDesk) (g : GoesOn
 
 pub images_go_on : ImagesGoOn
 images_go_on config line all texts d c e new w g closes alike waits is runs well = image_on config d c e w g closes alike waits line all texts new is runs well
+
+closed_waits : (config : Config) (d c : Desk MemoryDisk) (w : PlainDesk) → GoesOnAs bytes_of times_failed config d w → IsClosedOf d c → is_closed c.wire.nodes.master ≡ true
+closed_waits config d c w g closes =
+    ap (λ (x : Way MemoryDisk). is_closed x.nodes.master) closes.way ∙ ap (λ (p : MasterPlace MemoryDisk). is_closed (closed p)) (stands_there bytes_of times_failed config d w g).stands
+
+pub closed_go_on : ClosedDesksGoOn
+closed_go_on config line all texts d c new w g closes is runs well =
+    image_on config d c c w g closes (record { client = refl; way = refl; first = refl; second = refl }) (closed_waits config d c w g closes) line all texts new is runs well
 
 pub images_go_on_alike : ImagesGoOnAlike
 images_go_on_alike config line all texts others d new c e other w g closes alike waits is runs well other_runs other_well =

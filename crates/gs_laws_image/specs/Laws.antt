@@ -11,7 +11,7 @@ use Rattle.gs_shell_desk.specs.Starting.{Starts}
 use Rattle.gs_shell_desk.specs.declared.desk.Desk.{Desk}
 use Rattle.gs_shell_script.specs.Run.{Runs}
 use Rattle.gs_laws_image.specs.Going.{AreRestarts, AreSameButDisks, GoesOnAs, IsClosedOf, IsReadOfImage, IsRestart, WentOn}
-use Rattle.gs_laws_image.specs.Slots.{AreRestarted}
+use Rattle.gs_laws_image.specs.Slots.{AreRestarted, AreServersOf}
 
 -- A new store, over empty disks, goes on as the new store without disks.
 abbrev pub NewStoresGoOn : Type 0 → Type 0
@@ -30,6 +30,12 @@ abbrev pub ImagesGoOn : Type 0
 ImagesGoOn = (config : Config) (line : List ℕ) (lines texts : List (List ℕ)) (d c e new : Desk MemoryDisk) (w : PlainDesk)
     → GoesOnAs bytes_of times_failed config d w → IsClosedOf d c → AreAlike c e → is_closed e.wire.nodes.master ≡ true → IsRestart line
     → Runs (AnswersText bytes_of times_failed) e (line ∷ lines) texts new → WentOn times_failed e texts new
+    → (texts ≡ (answers_all (line ∷ lines) w).0) × GoesOnAs bytes_of times_failed config new (answers_all (line ∷ lines) w).1
+
+-- So the desk that was closed goes on itself, as if it had never been.
+abbrev pub ClosedDesksGoOn : Type 0
+ClosedDesksGoOn = (config : Config) (line : List ℕ) (lines texts : List (List ℕ)) (d c new : Desk MemoryDisk) (w : PlainDesk)
+    → GoesOnAs bytes_of times_failed config d w → IsClosedOf d c → IsRestart line → Runs (AnswersText bytes_of times_failed) c (line ∷ lines) texts new → WentOn times_failed c texts new
     → (texts ≡ (answers_all (line ∷ lines) w).0) × GoesOnAs bytes_of times_failed config new (answers_all (line ∷ lines) w).1
 
 -- Two desks that go on as the same answer the same lines alike, and are the same behind them but for their disks.
@@ -73,6 +79,11 @@ abbrev pub RestartsDropAll : Type 0 → Type 0
 RestartsDropAll D = (seen : D → List ℕ) (failures : D → ℕ) (config : Config) (lines texts : List (List ℕ)) (old new : Desk D) (w : PlainDesk)
     → GoesOnAs seen failures config old w → Runs (AnswersText seen failures) old lines texts new → WentOn failures old texts new
     → AreRestarts 0 lines → config.servers ≤ length lines → AreRestarted new.wire.nodes.servers.items
+
+-- Each server of a store that goes on is one of its sizes, and so is each of its slots.
+abbrev pub ServersAreOfTheirStore : Type 0 → Type 0
+ServersAreOfTheirStore D = (seen : D → List ℕ) (failures : D → ℕ) (config : Config) (d : Desk D) (w : PlainDesk) → GoesOnAs seen failures config d w
+    → AreServersOf config.block config.chunk 0 d.wire.nodes.servers.items × (length d.wire.nodes.servers.items ≡ config.servers)
 
 -- The store that an image tells of is one that is read again, if it can be written and each of its servers is restarted. It is said of a desk in memory.
 abbrev pub IsHeldAgain : Desk MemoryDisk → Type 0

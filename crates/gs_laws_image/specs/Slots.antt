@@ -19,13 +19,12 @@ abbrev pub IsSealedBody : Body → Type 0
 IsSealedBody (bodies.About handle said) = IsSealedAbout said
 IsSealedBody body = Unit {0}
 
--- a server of this number and these sizes, each slot of which is one of a store of the sizes, and of which a restart drops nothing
+-- a server of this number and these sizes, each slot of which is one of a store of the sizes
 pub record IsServerOf (me block chunk : ℕ) (s : Server) : Type 0 where
   pub me_is : s.me ≡ me
   pub block_is : s.block ≡ block
   pub chunk_is : s.chunk ≡ chunk
   pub slots : AreSlotsOf s.block s.chunk s.kept.slots
-  pub restarted : restart s ≡ s
 
 -- servers so, numbered from here on
 abbrev pub AreServersOf : ℕ → ℕ → ℕ → List Server → Type 0
