@@ -10,7 +10,6 @@ use Rattle.gs_base.specs.declared.refusal.Refusal.TheVariants as refusals
 use Rattle.gs_client.specs.Nodes.{Node, given_up, hears, is_of, messages_of, request_of, takes}
 use Rattle.gs_client.specs.Sends.{last_number, next_request}
 use Rattle.gs_client.specs.Trees.{Call}
-use Rattle.gs_client.specs.declared.client.Client.{Client}
 use Rattle.gs_client.specs.declared.link.Reply.{Reply}
 use Rattle.gs_client.specs.declared.link.Reply.TheVariants as replies
 use Rattle.gs_client_dialogue.specs.Dialogues.{Ask, Grow, Say, run}

@@ -18,7 +18,7 @@ use Rattle.gs_world.specs.Histories.{History}
 use Rattle.gs_world.specs.Runs.{RunsTo, Step}
 use Rattle.gs_world.proofs.Staying.{run_same}
 use Rattle.gs_laws_image.specs.Seen.{bytes_seen, failures_seen, desk_seen}
-use Rattle.gs_laws_image.specs.Going.{GoesOnAs, IsClosedOf, asked_of, one}
+use Rattle.gs_laws_image.specs.Going.{GoesOnAs, IsClosedOf, asked_of}
 
 -- ---- the sizes stay
 
