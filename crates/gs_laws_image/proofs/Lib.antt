@@ -1,0 +1,12 @@
+mod Asking
+mod Masters
+mod Worlds
+mod Ways
+mod Lines
+mod Going
+mod Resting
+mod Slots
+mod Saying
+mod Sealing
+mod Stored
+mod Restarting

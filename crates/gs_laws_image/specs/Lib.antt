@@ -1,0 +1,4 @@
+pub mod Seen
+pub mod Going
+pub mod Slots
+pub mod Laws
