@@ -7,3 +7,4 @@ pub mod Served
 pub mod Calm
 pub mod Alone
 pub mod Changed
+pub mod OfTree

@@ -9,6 +9,7 @@ ghost use Rattle.gs_laws_chunks.specs.answers.Asked.{BeginsAsked, ScriptsAsked, 
 ghost use Rattle.gs_laws_chunks.specs.answers.Behind.{ListsAreByCommits};
 ghost use Rattle.gs_laws_chunks.specs.answers.Calm.{CommitsAreCalm, StaysCalm};
 ghost use Rattle.gs_laws_chunks.specs.answers.Changed.{ChangesAreNeverOld, ChangesLeaveStill, ChangesStayCalm, ChangesStayUnderWay, RefusedChangesLeaveStill};
+ghost use Rattle.gs_laws_chunks.specs.answers.OfTree.{BeginsSparing, RequestsAreForServers, ScriptsSparing, StaysSparing};
 ghost use Rattle.gs_laws_chunks.specs.answers.Replied.{BeginsReplied, StaysReplied};
 ghost use Rattle.gs_laws_chunks.specs.answers.Resting.{StaysStill};
 ghost use Rattle.gs_laws_chunks.specs.answers.Served.{BeginsServed, CallsAreForTheMaster, RefusalsAreMade, ScriptsServed, StaysServed};
@@ -60,6 +61,21 @@ fn no_server_answers_a_call<D>()
 fn each_reply_was_sent_for_its_request<D>()
     ensures begun { (seen : D → List ℕ) (failures : D → ℕ) (armed : DiskId → ℕ → MasterPlace D → MasterPlace D) → BeginsReplied seen failures armed }
     ensures kept { (seen : D → List ℕ) (failures : D → ℕ) (armed : DiskId → ℕ → MasterPlace D → MasterPlace D) → StaysReplied seen failures armed }
+{}
+
+/// No server refuses by what the tree refuses by, neither an edit nor a fetch: by what a path is, by what stands at it or doesn't (1 to 9), or since that isn't hidden (38). No message that was ever sent tells it of the one or the other, and no server keeps such a refusal.
+/// So it is over each run of a store that has begun new, in which all that is asked is within its types, whatever disks of the master fail; and so it is of what a script leaves.
+fn no_server_refuses_by_what_the_tree_refuses_by<D>()
+    ensures begun { (seen : D → List ℕ) (failures : D → ℕ) (armed : DiskId → ℕ → MasterPlace D → MasterPlace D) → BeginsSparing seen failures armed }
+    ensures kept { (seen : D → List ℕ) (failures : D → ℕ) (armed : DiskId → ℕ → MasterPlace D → MasterPlace D) → StaysSparing seen failures armed }
+    ensures scripts { ScriptsSparing D }
+{
+    configurations_have_sizes();
+}
+
+/// A client that has asked for an edit, or for a part of a chunk, has no answer of the master as its reply, and no refusal by the tree: the master replies nothing to such a request. The master isn't started again meanwhile, and no failure of a disk is arranged.
+fn the_master_replies_to_calls_alone<D>()
+    ensures { (seen : D → List ℕ) (failures : D → ℕ) (armed : DiskId → ℕ → MasterPlace D → MasterPlace D) → RequestsAreForServers seen failures armed }
 {}
 
 /// As long as a client only looks, whatever else comes, the names, the number of the next deletion, the phase and the epoch of the master stand where no call waits, and all that was called before has a number that the client has had: nothing of before changes them.

@@ -12,3 +12,4 @@ pub mod Rows
 pub mod Scripts
 pub mod Standing
 pub mod Told
+pub mod NoFiles

@@ -10,6 +10,7 @@ ghost use Rattle.gs_laws_scripts.specs.explained.Changes.{CalmLinesAreExplained,
 ghost use Rattle.gs_laws_scripts.specs.explained.Digested.{DigestsAreExplained};
 ghost use Rattle.gs_laws_scripts.specs.explained.Following.{LooksComeBack, PlainAnswersAreAFunction};
 ghost use Rattle.gs_laws_scripts.specs.explained.NewStores.{BeginningsUntilAReadFails, BeginningsUntilAWriteFails, CalmFromTheBeginning, NewDesksStand};
+ghost use Rattle.gs_laws_scripts.specs.explained.NoFiles.{LinesWithoutAFile};
 ghost use Rattle.gs_laws_scripts.specs.explained.Looked.{PlacesAreToldThere, StatusesAreToldThere};
 ghost use Rattle.gs_laws_scripts.specs.explained.Scripts.{AreExplainedUntilAReadFails, AreExplainedUntilAWriteFails, ScriptsOfTheTreeAreExplained};
 ghost use Rattle.gs_laws_scripts.specs.explained.Standing.{CommitsStand, StillLinesAreExplained};
@@ -96,13 +97,19 @@ fn changes_are_told<D>()
     ensures there { ChangesAreExplainedThere D }
 {}
 
-/// So lines that change the tree are explained too, where a desk stands for a machine: `mkdir`, `create`, `mv`, `rm` and `undelete`, whether they are answered `ok` or refused, as long as no such answer is `refused 29 Unsure` or `refused 33 Memory`. Among them may come the lines that leave what stands, and lines about a path that is none (`stat`, `read`, `digest`, `write`, `append`, `rm` and `snapshot`), whatever these are answered. After each line the desk stands for the machine to which it leads.
+/// So lines that change the tree are explained too, where a desk stands for a machine: `mkdir`, `create`, `mv`, `rm` and `undelete`, whether they are answered `ok` or refused, as long as no such answer is `refused 29 Unsure` or `refused 33 Memory`. Among them may come the lines that leave what stands, and lines about a path that is none (`stat`, `read`, `digest`, `write`, `append`, `rm` and `snapshot`), whatever these are answered. And so may a `stat`, a `read` and a `digest` that are refused: by what the tree refuses by (1 to 9, 38), by the store, or by 29. After each line the desk stands for the machine to which it leads.
 /// The store may have any files with any bytes, led chunks, held messages, lost and damaged replicas, and disks that fail.
 fn calm_lines_are_explained<D>()
     ensures { CalmLinesAreExplained D }
 {}
 
-/// Right after a prepare or a rollback that is answered by an epoch, one machine explains what a script is answered also where its lines change the tree: as long as each is one of those that leave what stands, a `mkdir`, `create`, `mv`, `rm` or `undelete` that isn't answered by 29 (`Unsure`) or 33 (`Memory`), or a line about a path that is none.
+/// A `read`, `digest`, `write` or `append` of a path at which no file stands in the machine for which a desk stands is explained, whatever it is answered: it comes to no more than its first look, changes nothing, and the desk stands for that machine after it.
+/// The store may have led chunks, held messages, lost and damaged replicas, and disks that fail.
+fn lines_about_no_file_are_explained<D>()
+    ensures { LinesWithoutAFile D }
+{}
+
+/// Right after a prepare or a rollback that is answered by an epoch, one machine explains what a script is answered also where its lines change the tree: as long as each is one of those that leave what stands, a `mkdir`, `create`, `mv`, `rm` or `undelete` that isn't answered by 29 (`Unsure`) or 33 (`Memory`), a line about a path that is none, or a `stat`, `read` or `digest` that is refused by the tree, by the store or by 29.
 /// The machine is in that epoch, with an upgrade after a prepare and without one after a rollback. So all lists of these lines are of the names that these changes make, one after the other, and each refusal is the plain tree's or the store's. Whatever lines come before, with held messages, lost and damaged replicas, and disks that fail.
 pub fn calm_lines_after_a_commit_are_explained<D>()
     ensures ended { CalmAfterACommit D }
@@ -119,7 +126,7 @@ fn a_new_desk_stands<D>()
     configurations_have_sizes();
 }
 
-/// From the first line of a script on the new machine explains what is answered: as long as each line is one of those that leave what stands, a `mkdir`, `create`, `mv`, `rm` or `undelete` that isn't answered by 29 (`Unsure`) or 33 (`Memory`), or a line about a path that is none.
+/// From the first line of a script on the new machine explains what is answered: as long as each line is one of those that leave what stands, a `mkdir`, `create`, `mv`, `rm` or `undelete` that isn't answered by 29 (`Unsure`) or 33 (`Memory`), a line about a path that is none, or a `stat`, `read` or `digest` that is refused by the tree, by the store or by 29.
 /// What the lines after them are, and are answered, is nothing to it. The disks are empty at first. They may fail, servers may lose and damage what they have, and messages may be held back.
 pub fn calm_lines_of_a_new_store_are_explained<D>()
     ensures ended { CalmFromTheBeginning D }

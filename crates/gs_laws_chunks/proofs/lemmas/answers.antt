@@ -11,3 +11,6 @@ pub mod Calm
 pub mod Staying
 pub mod Changing
 pub mod Changed
+pub mod OfTreeAtServers
+pub mod OfTree
+pub mod ForServers

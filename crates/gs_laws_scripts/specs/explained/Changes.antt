@@ -1,5 +1,5 @@
 -- What the master answers to a change of the tree that is new to it, and what it leaves, where a machine shows what it stands on: refusals too. And how lines are explained that ask for such changes.
-use Rattle.std.specs.Prelude.{[], ◌∷◌, ◌≡◌, ◌⊎◌, ◌||◌, Bool, Err, List, Ok, Option, Result, Some, codes, false, is_ok, not, refl, true, ℕ}
+use Rattle.std.specs.Prelude.{[], ◌==◌, ◌∷◌, ◌≡◌, ◌⊎◌, ◌||◌, Bool, Err, List, Ok, Option, Result, Some, codes, false, is_ok, nat_le, not, refl, true, ℕ}
 use Rattle.std.proofs.Common.{ap, arith, inl, inr}
 use Rattle.std.specs.Char.{encode_utf8}
 use Rattle.std.specs.Fmt.{digits}
@@ -7,7 +7,7 @@ use Rattle.std.specs.Str.{chars, is_utf8}
 use Rattle.gs_base.specs.declared.config.Config.{Config}
 use Rattle.gs_base.specs.declared.numbers.Moment.{Moment}
 use Rattle.gs_base.specs.declared.numbers.ReqId.{ReqId}
-use Rattle.gs_base.specs.Refusals.{refusal_text}
+use Rattle.gs_base.specs.Refusals.{number_of, refusal_text}
 use Rattle.gs_base.specs.declared.refusal.Refusal.{Refusal}
 use Rattle.gs_base.specs.declared.refusal.Refusal.TheVariants as refusals
 use Rattle.gs_client.specs.Replies.{changed}
@@ -23,11 +23,11 @@ use Rattle.gs_msg.specs.declared.event.Request.TheVariants as requests
 use Rattle.gs_path.specs.Rules.{parse, parse_hidden}
 use Rattle.gs_shell_desk.specs.Answering.{AnswersText}
 use Rattle.gs_shell_desk.specs.declared.desk.Desk.{Desk}
-use Rattle.gs_shell_grammar.specs.Grammar.{Request, one_word, three_words, two_words}
+use Rattle.gs_shell_grammar.specs.Grammar.{Request, four_words, one_word, read_line, three_words, two_words}
 use Rattle.gs_shell_grammar.specs.Grammar as lines
 use Rattle.gs_shell_script.specs.Run.{Runs}
 use Rattle.gs_laws_scripts.specs.explained.Asking.{Replies}
-use Rattle.gs_laws_scripts.specs.explained.Lines.{Asks, AsksNow, Explains, overtaken}
+use Rattle.gs_laws_scripts.specs.explained.Lines.{Asks, AsksNow, Explains, is_of_store, overtaken}
 use Rattle.gs_laws_scripts.specs.explained.Looked.{LooksUp}
 use Rattle.gs_laws_scripts.specs.explained.Machine.{Machine}
 use Rattle.gs_laws_scripts.specs.explained.Standing.{IsStillLine, ShowsNames, Stands}
@@ -81,9 +81,24 @@ names_no_path (Some (lines.Rm p recursive)) = not (is_ok (parse p))
 names_no_path (Some (lines.Snapshot p q)) = not (is_ok (parse p)) || not (is_ok (parse q))
 names_no_path asked = false
 
--- One that leaves what stands; or a line that asks for a change, accepted or refused, whose answer tells what came of it; or a line about a path that is none, whatever it is answered.
+-- one that asks what stands at a path, or reads of a file
+abbrev pub is_look_line : Option Request → Bool
+is_look_line (Some (lines.Stat p)) = true
+is_look_line (Some (lines.Read p offset many)) = true
+is_look_line (Some (lines.Digest p chunk block)) = true
+is_look_line asked = false
+
+-- by what the tree refuses by (1 to 9, and 38), or the store, or since nobody is sure (29)
+abbrev pub may_refuse_look : ℕ → Bool
+may_refuse_look n = (nat_le n 9 || (n == 38)) || ((n == 29) || is_of_store n)
+
+-- the answer tells that it is refused so
+abbrev pub TellsRefusal : List ℕ → Type 0
+TellsRefusal text = (refusal : Refusal) × (may_refuse_look (number_of refusal) ≡ true) × (text ≡ refusal_text refusal)
+
+-- One that leaves what stands; or a line that asks for a change, accepted or refused, whose answer tells what came of it; or a line about a path that is none, whatever it is answered; or one that looks at a path, and is refused.
 abbrev pub IsCalmLine : List ℕ → List ℕ → Type 0
-IsCalmLine whole text = IsStillLine whole text ⊎ (((is_change_line (asked_in whole) ≡ true) × IsSure text) ⊎ (names_no_path (asked_in whole) ≡ true))
+IsCalmLine whole text = IsStillLine whole text ⊎ (((is_change_line (asked_in whole) ≡ true) × IsSure text) ⊎ ((names_no_path (asked_in whole) ≡ true) ⊎ ((is_look_line (asked_in whole) ≡ true) × TellsRefusal text)))
 
 -- all lines, with their answers
 abbrev pub AreCalmLines : List (List ℕ) → List (List ℕ) → Type 0
@@ -95,7 +110,7 @@ abbrev pub CalmLinesAreExplained : Type 0 → Type 0
 CalmLinesAreExplained D = (seen : D → List ℕ) (failures : D → ℕ) (config : Config) (size block : ℕ) (old new : Desk D) (all texts : List (List ℕ)) (m : Machine) → Stands seen config old m → AreCalmLines all texts →
     Runs (AnswersText seen failures) old all texts new → (end : Machine) × Runs (Explains size block) m all texts end × Stands seen config new end
 
--- ---- Worked: a directory is made, and made again; it is moved, and a move of what isn't there is refused; it is removed, and nothing is there to be removed then; a look at what is no path is refused
+-- ---- Worked: a directory is made, and made again; it is moved, and a move of what isn't there is refused; no bytes of it are read; it is removed, and nothing is there to be removed or looked at then; a look at what is no path is refused
 pub an_answer_is_sure : IsSure (codes "ok")
 unfolding digits
 an_answer_is_sure = record { sure = λ is. absurd (cc); told = λ is. absurd (cc) }
@@ -131,12 +146,28 @@ unfolding digits
 nobody_is_sure text = text.sure refl
 
 abbrev some_lines : List (List ℕ)
-some_lines = codes "mkdir /d" ∷ codes "mkdir /d" ∷ codes "ls /" ∷ codes "mv /d /e" ∷ codes "mv /d /f" ∷ codes "rm /e" ∷ codes "rm -r /e" ∷ codes "stat f" ∷ []
+some_lines = codes "mkdir /d" ∷ codes "mkdir /d" ∷ codes "ls /" ∷ codes "mv /d /e" ∷ codes "mv /d /f" ∷ codes "read /e 0 4" ∷ codes "rm /e" ∷ codes "rm -r /e" ∷ codes "stat /e" ∷ codes "stat f" ∷ []
 
 abbrev some_texts : List (List ℕ)
-some_texts = codes "ok" ∷ codes "refused 4 Exists" ∷ codes "ok d/" ∷ codes "ok" ∷ codes "refused 3 NotFound" ∷ codes "ok /.deleted.00000000000000000000.00000000000000000001.e" ∷ codes "ok false" ∷ codes "refused 1 BadPath" ∷ []
+some_texts = codes "ok" ∷ codes "refused 4 Exists" ∷ codes "ok d/" ∷ codes "ok" ∷ codes "refused 3 NotFound" ∷ codes "refused 6 IsADirectory" ∷ codes "ok /.deleted.00000000000000000000.00000000000000000001.e" ∷ codes "ok false" ∷ codes "refused 3 NotFound" ∷ codes "refused 1 BadPath" ∷ []
+
+no_directory_is_read : TellsRefusal (codes "refused 6 IsADirectory")
+unfolding digits
+no_directory_is_read = (refusals.IsADirectory, refl, refl)
+
+nothing_is_there : TellsRefusal (codes "refused 3 NotFound")
+unfolding digits
+nothing_is_there = (refusals.NotFound, refl, refl)
 
 some_lines_are_such : AreCalmLines some_lines some_texts
-unfolding one_word two_words three_words is_utf8 chars encode_utf8
-some_lines_are_such =
-    (inr (inl (refl, an_answer_is_sure)), (inr (inl (refl, a_refusal_is_sure)), (inl (refl, λ stat. absurd (cc)), (inr (inl (refl, an_answer_is_sure)), (inr (inl (refl, what_is_not_there_is_sure)), (inr (inl (refl, a_hidden_path_is_sure)), (inr (inl (refl, what_is_missing_is_sure)), (inr (inr refl), tt))))))))
+unfolding one_word two_words three_words four_words read_line is_utf8 chars encode_utf8
+some_lines_are_such = (
+  inr (inl (refl, an_answer_is_sure)),
+  (
+    inr (inl (refl, a_refusal_is_sure)),
+    (
+      inl (refl, λ stat. absurd (cc)),
+      (inr (inl (refl, an_answer_is_sure)), (inr (inl (refl, what_is_not_there_is_sure)), (inr (inr (inr (refl, no_directory_is_read))), (inr (inl (refl, a_hidden_path_is_sure)), (inr (inl (refl, what_is_missing_is_sure)), (inr (inr (inr (refl, nothing_is_there))), (inr (inr (inl refl)), tt))))))),
+    ),
+  ),
+)

@@ -30,6 +30,7 @@ use Rattle.gs_world.specs.Histories.{History}
 use Rattle.gs_world.specs.Sent.{Sent}
 use Rattle.gs_laws_chunks.specs.answers.Asked.{AreAsked}
 use Rattle.gs_laws_chunks.specs.answers.Calm.{IsCalmAt}
+use Rattle.gs_laws_chunks.specs.answers.OfTree.{AreSparing}
 use Rattle.gs_laws_chunks.specs.answers.Replied.{AreReplied}
 use Rattle.gs_laws_chunks.specs.answers.Resting.{IsStill}
 use Rattle.gs_laws_chunks.specs.answers.Served.{AreServed}
@@ -49,7 +50,7 @@ the_client = record { 0 = 1 }
 
 -- ---- what stands
 
--- The names are these, and stand while nothing is asked but look-ups: no call waits, and all that was called before has a number that the client has had. And of each reply there its client has asked, and of all that servers do for it; what the client has as its reply was sent to it; no prepare is begun; all keeps to its types, the master lasts, and there is one client.
+-- The names are these, and stand while nothing is asked but look-ups: no call waits, and all that was called before has a number that the client has had. And of each reply there its client has asked, and of all that servers do for it; what the client has as its reply was sent to it; no server has refused by what the tree refuses by; no prepare is begun; all keeps to its types, the master lasts, and there is one client.
 pub record IsUndisturbed {D : Type 0} (seen : D → List ℕ) (d : Durable) (number : ℕ) (h : History D) : Type 0 where
   pub still : IsStill d the_client number h
   pub asked : AreAsked seen h
@@ -57,6 +58,7 @@ pub record IsUndisturbed {D : Type 0} (seen : D → List ℕ) (d : Durable) (num
   pub lasts : LastsThrough seen h.nodes.master
   pub served : AreServed h
   pub replied : AreReplied h
+  pub sparing : AreSparing h
   pub calm : IsCalmAt h.nodes.master
   pub one : length h.nodes.clients ≡ 1
 

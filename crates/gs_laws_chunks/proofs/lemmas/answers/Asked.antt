@@ -118,11 +118,11 @@ module _ (P : ReqId → Type 0) where
   servers_said [] by = tt
   servers_said (m ∷ messages) by = (server_said m.from m.body by.0, servers_said messages by.1)
 
-  pushes_said : (req : ReqId) (members bytes : List ℕ) → AllSaid (pushes req members bytes)
+  pub pushes_said : (req : ReqId) (members bytes : List ℕ) → AllSaid (pushes req members bytes)
   pushes_said req [] bytes = tt
   pushes_said req (member ∷ members) bytes = (tt, pushes_said req members bytes)
 
-  both_said : (xs ys : List Message) → AllSaid xs → AllSaid ys → AllSaid (xs ++ ys)
+  pub both_said : (xs ys : List Message) → AllSaid xs → AllSaid ys → AllSaid (xs ++ ys)
   both_said [] ys first second = second
   both_said (x ∷ xs) ys first second = (first.0, both_said xs ys first.1 second)
 
@@ -132,7 +132,7 @@ module _ (P : ReqId → Type 0) where
   request_said req (requests.Fetch to handle stamp epoch asked) is = (tt, tt)
 
   -- who calls
-  caller_said : (from : NodeId) (body : Body) → SaysOf P from body → (req : ReqId) → caller_of body ≡ Some req → P req
+  pub caller_said : (from : NodeId) (body : Body) → SaysOf P from body → (req : ReqId) → caller_of body ≡ Some req → P req
   caller_said from (bodies.Call other call) said req is = subst P (some_is other req is) said.1
     where
       some_is : (a b : ReqId) → Some a ≡ Some b → a ≡ b
@@ -451,12 +451,12 @@ hearing_same (bodies.Behind epoch) n = (refl, refl, λ waits. waits)
 
 -- ---- an event
 
-says_further : (P Q : ReqId → Type 0) → ((req : ReqId) → P req → Q req) → (from : NodeId) (body : Body) → SaysOf P from body → SaysOf Q from body
+pub says_further : (P Q : ReqId → Type 0) → ((req : ReqId) → P req → Q req) → (from : NodeId) (body : Body) → SaysOf P from body → SaysOf Q from body
 says_further P Q more from (bodies.Call req call) said = (said.0, more req said.1)
 says_further P Q more from (bodies.Reply req result) said = more req said
 says_further P Q more from body said = tt
 
-keeps_further : {D : Type 0} (P Q : ReqId → Type 0) → ((req : ReqId) → P req → Q req) → (place : MasterPlace D) → KeepsOfAt P place → KeepsOfAt Q place
+pub keeps_further : {D : Type 0} (P Q : ReqId → Type 0) → ((req : ReqId) → P req → Q req) → (place : MasterPlace D) → KeepsOfAt P place → KeepsOfAt Q place
 keeps_further P Q more (Standing m) keeps = record { durable = λ req k. more req (keeps.durable req k); memory = λ req k. more req (keeps.memory req k); waits = λ req there. more req (keeps.waits req there) }
 keeps_further P Q more (Closed first second) keeps = tt
 keeps_further P Q more Away keeps = tt

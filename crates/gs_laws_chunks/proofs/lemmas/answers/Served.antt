@@ -238,7 +238,7 @@ request_serves P own (requests.Fetch to handle stamp epoch asked) asks = (asks, 
 
 -- ---- a step
 
-named : {D : Type 0} (step : Step) (old : History D) → IsStepWithin step → KeepsTypes old → StepNamed step old
+pub named : {D : Type 0} (step : Step) (old : History D) → IsStepWithin step → KeepsTypes old → StepNamed step old
 named (Takes client) old within types = tt
 named (Comes event) old within types = heard event.happening
   where
@@ -353,7 +353,7 @@ module _ {D : Type 0} (seen : D → List ℕ) (failures : D → ℕ) (armed : Di
       subst (λ (x : Nodes D). HasAsked x.clients req) (sym same) (asked_further old.nodes.clients client n (hearing (hears message.body n) n) found (same_last n.last (hearing (hears message.body n) n).last (hearing_same message.body n).1) req has)
   part_further old moment happening outcome new (Rested none same) req has = subst (λ (n : Nodes D). HasAsked n.clients req) (sym same) has
 
-  further : (step : Step) (old new : History D) → Goes seen failures armed step old new → (req : ReqId) → HasAsked old.nodes.clients req → HasAsked new.nodes.clients req
+  pub further : (step : Step) (old new : History D) → Goes seen failures armed step old new → (req : ReqId) → HasAsked old.nodes.clients req → HasAsked new.nodes.clients req
   further (Comes event) old new (said, h) req has = part_further old event.moment event.happening h.outcome new.nodes (part_of seen failures armed old event.moment event.happening h.by h.outcome new.nodes h.at) req has
   further (Takes client) old new (found, takes, same) req has = by_client (client_in old.nodes.clients client) refl takes
     where
@@ -404,19 +404,19 @@ module _ {D : Type 0} (seen : D → List ℕ) (failures : D → ℕ) (armed : Di
       sent : AllSent (λ (m : Message). ServesOf NotIt m.body) h.sent
       waits : AllWaitFor (λ chunk. NotIt) h
 
-    same_node : (a b : Node) → Some a ≡ Some b → a ≡ b
+    pub same_node : (a b : Node) → Some a ≡ Some b → a ≡ b
     same_node a b is = cc
 
     above : (number last : ℕ) → nat_le number last ≡ false → last < number
     above number last is = grind (arith, nat_tests)
 
     -- what is asked later isn't it
-    later_one : (h : History D) → IsApart h → (other : ReqId) (n : Node) → client_in h.nodes.clients other.client ≡ Some n → nat_le other.number n.last ≡ false → NotIt (request_of n other.number)
-    later_one h a other n found number same =
-        let own = own_id h.nodes.clients a.asked.numbered other.client n found in
+    pub later_one : (h : History D) → AreAsked seen h → HasAsked h.nodes.clients req → (other : ReqId) (n : Node) → client_in h.nodes.clients other.client ≡ Some n → nat_le other.number n.last ≡ false → NotIt (request_of n other.number)
+    later_one h are has other n found number same =
+        let own = own_id h.nodes.clients are.numbered other.client n found in
         let mine : other.client ≡ req.client = sym own ∙ ap (λ (r : ReqId). r.client) same in
-        let node = same_node n a.has.node (sym (subst (λ c. client_in h.nodes.clients c ≡ Some n) mine found) ∙ a.has.there) in
-        clash req.number a.has.node.last n.last other.number a.has.number (ap (λ (x : Node). x.last) node) (above other.number n.last number) (ap (λ (r : ReqId). r.number) same)
+        let node = same_node n has.node (sym (subst (λ c. client_in h.nodes.clients c ≡ Some n) mine found) ∙ has.there) in
+        clash req.number has.node.last n.last other.number has.number (ap (λ (x : Node). x.last) node) (above other.number n.last number) (ap (λ (r : ReqId). r.number) same)
       where
         clash : (a b c d : ℕ) → a ≤ b → c ≡ b → c < d → d ≡ a → ⊥
         clash a b c d first same less is = omega arith
@@ -428,7 +428,7 @@ module _ {D : Type 0} (seen : D → List ℕ) (failures : D → ℕ) (armed : Di
           has = further step old new goes req a.has;
           types = step_keeps seen failures armed step old new goes within a.types;
           lasts = still;
-          sent = step_serves NotIt NotIt (λ other is. is) step old new goes within a.types a.lasts still (λ other request n it found number same. asks_servers NotIt (request_of n other.number) request (later_one old a other n found number)) a.sent a.waits;
+          sent = step_serves NotIt NotIt (λ other is. is) step old new goes within a.types a.lasts still (λ other request n it found number same. asks_servers NotIt (request_of n other.number) request (later_one old a.asked a.has other n found number)) a.sent a.waits;
           waits = step_waits NotIt NotIt (λ other is. is) step old new goes within a.types a.sent a.waits;
         }
 

@@ -31,7 +31,7 @@ use Rattle.gs_tree.specs.Mapped.{mapped_at}
 use Rattle.gs_laws_scripts.proofs.lemmas.explained.Lifted.{itself}
 use Rattle.gs_laws_scripts.proofs.lemmas.explained.Listed.{at_mapped, list_called, query_called}
 use Rattle.gs_laws_scripts.specs.explained.Asking.{AreShort, ListsAreTold, PlacesAreTold, QueriesAreTold, Replies, ShowsState, StatusesAreTold, TellsIndex}
-use Rattle.gs_laws_scripts.specs.explained.Lines.{AsksNow, IsOfStore, IsSaid}
+use Rattle.gs_laws_scripts.specs.explained.Lines.{AsksNow, IsNoLook, IsOfStore, IsSaid}
 use Rattle.gs_laws_scripts.specs.explained.Machine.{Machine, Text, called, is_rolling}
 use Rattle.gs_laws_scripts.specs.explained.Told.{TellsStatus}
 
@@ -117,6 +117,13 @@ said_now m call plain result comes is = inl (subst (λ (x : Result Said Refusal 
 refused_now : (m : Machine) (call : Call) (refusal : Refusal) (result : Result Said Refusal) → IsOfStore refusal → result ≡ Err refusal → AsksNow call m result m
 refused_now m call refusal result store is = inr (refusal, is, inl (store, refl))
 
+-- what a status tells of the entry that stands there
+abbrev pub TellsEntry : Machine → Path → Result Said Refusal → Type 0
+TellsEntry m p (Ok (says.Status statuses.Directory)) = (is_rolling m.phase ≡ false) × (at m.plain.tree p ≡ Some Dir)
+TellsEntry m p (Ok (says.Status (statuses.File chunks))) = (is_rolling m.phase ≡ false) × (texts : List Text) × (at m.plain.tree p ≡ Some (File texts))
+TellsEntry m p (Ok said) = ⊥
+TellsEntry m p (Err refusal) = IsNoLook refusal ⊎ ((refusal ≡ refusals.NotFound) × (is_rolling m.phase ≡ false) × (at m.plain.tree p ≡ None))
+
 -- A list wants of the machine its names, and that it rolls back only where the master does; so does a status.
 module _ (config : Config) (s : State) (req : ReqId) (moment : Moment) (m : Machine) (text : ℕ → Text) (tree : m.plain.tree ≡ mapped_rows text (fin.entries s.durable.names.tree)) (calms : is_rolled s.durable.phase ≡ false → is_rolling m.phase ≡ false) where
   list_by : (p : Path) (result : Result Said Refusal) → is_any_deep (calls.List p) ≡ false → (o : Option Refusal) → IsGated (is_rolled s.durable.phase) o → OneSays req result (called_unless config s req moment (calls.List p) o).sent → AsksNow (calls.List p) m result m
@@ -144,6 +151,19 @@ module _ (config : Config) (s : State) (req : ReqId) (moment : Moment) (m : Mach
 
   pub status_shown : (p : Path) (result : Result Said Refusal) → AreShort m → is_any_deep (calls.Status p) ≡ false → OneSays req result (new_call config s req moment (calls.Status p)).sent → TellsStatus m p result
   status_shown p result short not_deep said = status_by p result short (refused_before s req (calls.Status p)) (gates_deep (is_failed s.fault) (is_rolled s.durable.phase) s.volatile.is_preparing (is_any_deep (calls.Status p)) (is_locked s req (calls.Status p)) not_deep) said
+
+  -- and however many chunks a file has
+  entry_is : (p : Path) → is_rolling m.phase ≡ false → (found : Option (Entry ℕ)) → at m.plain.tree p ≡ mapped_at text found → TellsEntry m p (status s.durable found)
+  entry_is p calm None is = inr (refl, calm, is)
+  entry_is p calm (Some Dir) is = (calm, is)
+  entry_is p calm (Some (File chunks)) is = (calm, map text chunks, is)
+
+  entry_by : (p : Path) (result : Result Said Refusal) → (o : Option Refusal) → IsGated (is_rolled s.durable.phase) o → OneSays req result (called_unless config s req moment (calls.Status p) o).sent → TellsEntry m p result
+  entry_by p result None calm said = subst (TellsEntry m p) (sym (looked_said s req (status s.durable (fin.get s.durable.names.tree p)) result said)) (entry_is p (calms calm) (fin.get s.durable.names.tree p) (found_so p))
+  entry_by p result (Some refusal) store said = subst (TellsEntry m p) (sym (one_said req (Err refusal) result said)) (inl (inl store))
+
+  pub entry_shown : (p : Path) (result : Result Said Refusal) → is_any_deep (calls.Status p) ≡ false → OneSays req result (new_call config s req moment (calls.Status p)).sent → TellsEntry m p result
+  entry_shown p result not_deep said = entry_by p result (refused_before s req (calls.Status p)) (gates_deep (is_failed s.fault) (is_rolled s.durable.phase) s.volatile.is_preparing (is_any_deep (calls.Status p)) (is_locked s req (calls.Status p)) not_deep) said
 
   -- one that tells of a directory, whatever files there are
   abbrev dir : Result Said Refusal

@@ -10,6 +10,7 @@ use Rattle.gs_edit.specs.Mapped.{mapped_rows}
 use Rattle.gs_edit.specs.View.{NamesView}
 use Rattle.gs_laws_chunks.proofs.lemmas.answers.Behind.{all_spare}
 use Rattle.gs_laws_chunks.proofs.lemmas.answers.Changed.{changes_stay_calm}
+use Rattle.gs_laws_chunks.proofs.lemmas.answers.OfTree.{stays_sparing}
 use Rattle.gs_laws_chunks.proofs.lemmas.answers.Replied.{run_replied}
 use Rattle.gs_laws_chunks.proofs.lemmas.answers.Served.{stays_served}
 use Rattle.gs_laws_chunks.proofs.lemmas.answers.Sparing.{AllSpare, asked_spared, lasts_spared}
@@ -68,6 +69,7 @@ module _ {D : Type 0} (seen : D → List ℕ) (failures : D → ℕ) (d e : Dura
     lasts = lasts_spared seen failures unarmed steps old mid runs spare a.within u.types u.lasts;
     served = stays_served seen failures unarmed (unarmed_alone seen failures) steps old mid runs a.within u.types u.lasts u.asked u.served;
     replied = run_replied seen failures unarmed steps old mid runs u.replied;
+    sparing = stays_sparing seen failures unarmed (unarmed_alone seen failures) steps old mid runs a.within u.types u.lasts u.sparing;
     calm = changes_stay_calm seen failures unarmed d the_client number old a.asked mid a.moment a.req call a.steps is u.asked u.types u.lasts u.still u.calm a.own a.asks a.runs a.within a.looking;
     one = (run_same seen failures unarmed steps old mid runs).clients ∙ u.one;
   }

@@ -42,6 +42,7 @@ use Rattle.gs_tree.specs.Edits.{hidden_path, old_name, same_path}
 use Rattle.gs_tree.specs.Find.{Rows}
 use Rattle.gs_tree.specs.Find.{at as at_rows}
 use Rattle.gs_laws_scripts.proofs.lemmas.explained.Changing.{changes_are_explained_there}
+use Rattle.gs_laws_scripts.proofs.lemmas.explained.LookLines.{look_line_goes}
 use Rattle.gs_laws_scripts.proofs.lemmas.explained.NoPaths.{no_path_goes}
 use Rattle.gs_laws_scripts.proofs.lemmas.explained.Still.{line_goes, stands_still}
 use Rattle.gs_laws_scripts.proofs.lemmas.lists.Lines.{Carries_at}
@@ -381,7 +382,8 @@ module _ {D : Type 0} (seen : D → List ℕ) (failures : D → ℕ) (config : C
   calm_line_goes : (whole text : List ℕ) → IsCalmLine whole text → AnswersLine (AnswersText seen failures) old whole text new → LineGoes whole text
   calm_line_goes whole text (inl still) a = line_goes seen failures config size block old new m st whole text still a
   calm_line_goes whole text (inr (inl change)) a = change_line_goes whole text change.0 change.1 a
-  calm_line_goes whole text (inr (inr none)) a = no_path_goes seen failures config size block old new m st whole text none a
+  calm_line_goes whole text (inr (inr (inl none))) a = no_path_goes seen failures config size block old new m st whole text none a
+  calm_line_goes whole text (inr (inr (inr look))) a = look_line_goes seen failures config size block old new m st whole text look.0 look.1 a
 
 -- ---- many of them
 

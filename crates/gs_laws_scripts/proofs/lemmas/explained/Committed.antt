@@ -13,6 +13,7 @@ use Rattle.gs_journal.specs.Records.{fresh, standing}
 use Rattle.gs_laws_chunks.proofs.lemmas.answers.Asked.{begins_asked, stays_unarmed}
 use Rattle.gs_laws_chunks.proofs.lemmas.answers.Behind.{MadeThere, all_back, all_front, made_there}
 use Rattle.gs_laws_chunks.proofs.lemmas.answers.Calm.{commits_are_calm, stays_calm}
+use Rattle.gs_laws_chunks.proofs.lemmas.answers.OfTree.{begins_sparing, stays_sparing}
 use Rattle.gs_laws_chunks.proofs.lemmas.answers.Replied.{begins_replied, run_replied}
 use Rattle.gs_laws_chunks.proofs.lemmas.answers.Served.{begins_served, stays_served}
 use Rattle.gs_laws_chunks.proofs.lemmas.calls.Arming.{unarmed_alone}
@@ -21,6 +22,7 @@ use Rattle.gs_laws_chunks.proofs.lemmas.desks.When.{StepsSo}
 use Rattle.gs_laws_chunks.specs.answers.Asked.{AreAsked}
 use Rattle.gs_laws_chunks.specs.answers.Behind.{IsOnly, asks_call, is_halt}
 use Rattle.gs_laws_chunks.specs.answers.Calm.{IsCalmAt}
+use Rattle.gs_laws_chunks.specs.answers.OfTree.{AreSparing}
 use Rattle.gs_laws_chunks.specs.answers.Replied.{AreReplied}
 use Rattle.gs_laws_chunks.specs.answers.Resting.{IsLooking}
 use Rattle.gs_laws_chunks.specs.answers.Served.{AreServed}
@@ -140,6 +142,10 @@ module _ (sizes : HaveSizes) {D : Type 0} (seen : D → List ℕ) (failures : D 
     replied : AreReplied done.mid
     replied = run_replied seen failures unarmed (steps ++ commit_steps) start done.mid to_mid (begins_replied seen failures unarmed config 1 disks start reached.reached.begins)
 
+    sparing : AreSparing done.mid
+    sparing = stays_sparing seen failures unarmed (unarmed_alone seen failures) (steps ++ commit_steps) start done.mid to_mid (all_join IsStepWithin steps commit_steps within done.has.within) types_first lasts_first
+        (begins_sparing sizes seen failures unarmed config 1 disks start empty reached.reached.begins)
+
     halts : HaltsBy seen failures unarmed the_client before commit (says.Epoch epoch) done.mid done.has
     halts = commits_halt seen failures unarmed the_client before done.mid commit (says.Epoch epoch) are types lasts halt done.has only
 
@@ -161,7 +167,7 @@ module _ (sizes : HaveSizes) {D : Type 0} (seen : D → List ℕ) (failures : D 
 
     rests : IsUndisturbed seen halts.durable (suc done.has.req.number) (history done.after (way_of new.wire))
     rests = undisturbed_on seen failures halts.durable (suc done.has.req.number) (Takes the_client ∷ []) done.mid (history done.after (way_of new.wire)) done.takes (tt, tt) ((refl, tt), tt)
-        (record { still = halts.halted.still; asked = halts.halted.asked; types = halts.halted.types; lasts = halts.halted.lasts; served = served; replied = replied; calm = calm; one = one_client })
+        (record { still = halts.halted.still; asked = halts.halted.asked; types = halts.halted.types; lasts = halts.halted.lasts; served = served; replied = replied; sparing = sparing; calm = calm; one = one_client })
 
     -- ---- the turn of the commit
 

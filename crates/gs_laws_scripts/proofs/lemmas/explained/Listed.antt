@@ -15,6 +15,7 @@ use Rattle.gs_edit.specs.View.{NamesView}
 use Rattle.gs_laws_chunks.proofs.lemmas.answers.Answered.{answers_are_made}
 use Rattle.gs_laws_chunks.proofs.lemmas.answers.Behind.{MadeThere, all_front, all_spare, made_there}
 use Rattle.gs_laws_chunks.proofs.lemmas.answers.Calm.{stays_calm}
+use Rattle.gs_laws_chunks.proofs.lemmas.answers.OfTree.{stays_sparing}
 use Rattle.gs_laws_chunks.proofs.lemmas.answers.Replied.{run_replied}
 use Rattle.gs_laws_chunks.proofs.lemmas.answers.Resting.{stays_still}
 use Rattle.gs_laws_chunks.proofs.lemmas.answers.Served.{stays_served}
@@ -245,6 +246,7 @@ module _ {D : Type 0} (seen : D → List ℕ) (failures : D → ℕ) (d : Durabl
     lasts = lasts_spared seen failures unarmed steps old new runs (all_spare the_client steps looking) within u.types u.lasts;
     served = stays_served seen failures unarmed (unarmed_alone seen failures) steps old new runs within u.types u.lasts u.asked u.served;
     replied = run_replied seen failures unarmed steps old new runs u.replied;
+    sparing = stays_sparing seen failures unarmed (unarmed_alone seen failures) steps old new runs within u.types u.lasts u.sparing;
     calm = stays_calm seen failures unarmed d the_client number steps old new runs within looking u.types u.lasts u.still u.calm;
     one = (run_same seen failures unarmed steps old new runs).clients ∙ u.one;
   }

@@ -20,7 +20,7 @@ use Rattle.gs_path.specs.Path.{Path}
 use Rattle.gs_shell_desk.specs.declared.desk.Desk.{Desk}
 use Rattle.gs_tree.specs.Entry.{File}
 use Rattle.gs_tree.specs.Find.{at}
-use Rattle.gs_laws_scripts.proofs.lemmas.explained.Asked.{place_shown, status_shown}
+use Rattle.gs_laws_scripts.proofs.lemmas.explained.Asked.{TellsEntry, entry_shown, place_shown, status_shown}
 use Rattle.gs_laws_scripts.proofs.lemmas.explained.Listed.{rolls_so}
 use Rattle.gs_laws_scripts.proofs.lemmas.explained.Still.{look_stands, look_told_there}
 use Rattle.gs_laws_scripts.proofs.lemmas.explained.Turns.{IsToldOf}
@@ -43,11 +43,18 @@ module _ {D : Type 0} (seen : D → List ℕ) (failures : D → ℕ) (config : C
     epoch_so : m.epoch ≡ s.durable.epoch
     epoch_so = st.shows.epoch ∙ sym stood.epoch
 
-  may_status : (p : Path) → MayBeAsked (requests.Call (calls.Status p))
+  pub may_status : (p : Path) → MayBeAsked (requests.Call (calls.Status p))
   may_status p = record { named = tt; met = λ names. tt }
 
   may_find : (p : Path) (index : ℕ) → MayBeAsked (requests.Call (calls.FindForReading p index))
   may_find p index = record { named = tt; met = λ names. tt }
+
+  pub entry_there : (p : Path) (reply : Reply) → is_any_deep (calls.Status p) ≡ false → LooksUp seen failures old (calls.Status p) reply new → TellsEntry m p (looked reply)
+  entry_there p reply deep carried = by_told (look_told_there seen failures config 0 0 old new m st (calls.Status p) reply refl refl (may_status p) carried)
+    where
+      by_told : IsToldOf st.durable (calls.Status p) (looked reply) → TellsEntry m p (looked reply)
+      by_told (inl (refusal, is, off)) = subst (TellsEntry m p) (sym is) (inl off)
+      by_told (inr j) = entry_shown j.config j.state j.req j.moment m st.shows.text (tree_so j.stands.0 j.state j.stands.1) (calm_so j.stands.0 j.state j.stands.1) p (looked reply) deep j.says
 
   pub status_there : (p : Path) (reply : Reply) → AreShort m → is_any_deep (calls.Status p) ≡ false → LooksUp seen failures old (calls.Status p) reply new → TellsStatus m p (looked reply)
   status_there p reply short deep carried = by_told (look_told_there seen failures config 0 0 old new m st (calls.Status p) reply refl refl (may_status p) carried)
@@ -68,7 +75,7 @@ module _ {D : Type 0} (seen : D → List ℕ) (failures : D → ℕ) (config : C
       by_told (inr j) =
           inr (place_shown j.config j.state j.req j.moment m st.shows.text (tree_so j.stands.0 j.state j.stands.1) (calm_so j.stands.0 j.state j.stands.1) (epoch_so j.stands.0 j.state j.stands.1) p index texts (looked reply) file deep j.says)
 
-  look_there : (call : Call) (reply : Reply) → is_look call ≡ true → MayBeAsked (requests.Call call) → LooksUp seen failures old call reply new → Stands seen config new m
+  pub look_there : (call : Call) (reply : Reply) → is_look call ≡ true → MayBeAsked (requests.Call call) → LooksUp seen failures old call reply new → Stands seen config new m
   look_there call reply look may carried = look_stands seen failures config 0 0 old new m st call reply look may carried
 
 pub statuses_told_there : {D : Type 0} → StatusesAreToldThere D

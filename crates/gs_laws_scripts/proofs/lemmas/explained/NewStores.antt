@@ -10,6 +10,7 @@ use Rattle.gs_journal.specs.Memory.{bytes_of, times_failed}
 use Rattle.gs_journal.specs.Records.{fresh, standing}
 use Rattle.gs_laws_chunks.proofs.lemmas.answers.Asked.{begins_asked}
 use Rattle.gs_laws_chunks.proofs.lemmas.answers.Beginning.{begins_calm, begins_still}
+use Rattle.gs_laws_chunks.proofs.lemmas.answers.OfTree.{begins_sparing}
 use Rattle.gs_laws_chunks.proofs.lemmas.answers.Replied.{begins_replied}
 use Rattle.gs_laws_chunks.proofs.lemmas.answers.Served.{begins_served}
 use Rattle.gs_laws_chunks.proofs.lemmas.desks.Ending.{sent_moment}
@@ -63,6 +64,7 @@ module _ (sizes : HaveSizes) {D : Type 0} (seen : D → List ℕ) (failures : D 
     lasts = begins_through seen failures unarmed config 1 disks new empty begins;
     served = begins_served sizes seen failures unarmed config 1 disks new empty begins;
     replied = begins_replied seen failures unarmed config 1 disks new begins;
+    sparing = begins_sparing sizes seen failures unarmed config 1 disks new empty begins;
     calm = begins_calm seen failures unarmed config 1 disks new empty begins;
     one = ap (λ (k : Nodes D). length k.clients) begins.nodes;
   }

@@ -132,7 +132,7 @@ module _ {D : Type 0} (seen : D → List ℕ) (failures : D → ℕ) where
   went_on call look old mid (replies.Refused refusal) looks = looks
   went_on call look old mid replies.Lost looks = looks
 
-  looks_both : (old mid new : History D) → Looks seen failures the_client old mid → Looks seen failures the_client mid new → Looks seen failures the_client old new
+  pub looks_both : (old mid new : History D) → Looks seen failures the_client old mid → Looks seen failures the_client mid new → Looks seen failures the_client old new
   looks_both old mid new first second = record {
     steps = first.steps ++ second.steps;
     runs = joined seen failures true first.steps second.steps old mid new first.runs second.runs;
@@ -140,7 +140,7 @@ module _ {D : Type 0} (seen : D → List ℕ) (failures : D → ℕ) where
     looking = all_join (IsLooking the_client) first.steps second.steps first.looking second.looking;
   }
 
-  none_looked : (old new : History D) → new ≡ old → Looks seen failures the_client old new
+  pub none_looked : (old new : History D) → new ≡ old → Looks seen failures the_client old new
   none_looked old new same = record { steps = []; runs = same; within = tt; looking = tt }
 
   -- the exchange, and what it comes to
@@ -179,7 +179,7 @@ module _ {D : Type 0} (seen : D → List ℕ) (failures : D → ℕ) where
       is : IsText answer text
       stands : Stands seen config new next
 
-    stands_on : (after : Sent) → Covers after (way_of new.wire) → IsNumber new.wire.moment.0 → IsClientOf config new.caller.client → Looks seen failures the_client (history st.sent (way_of old.wire)) (history after (way_of new.wire)) → (next : Machine) → ShowsNames st.durable next → next.moment ≡ new.wire.moment.0 → Stands seen config new next
+    pub stands_on : (after : Sent) → Covers after (way_of new.wire) → IsNumber new.wire.moment.0 → IsClientOf config new.caller.client → Looks seen failures the_client (history st.sent (way_of old.wire)) (history after (way_of new.wire)) → (next : Machine) → ShowsNames st.durable next → next.moment ≡ new.wire.moment.0 → Stands seen config new next
     stands_on after covers small ours looks next shows now = record {
       sent = after;
       covers = covers;
