@@ -1,5 +1,6 @@
 // The whole master: messages, ticks and checkpoints.
-ghost use Rattle.std.specs.Prelude.{◌≡◌, false, not};
+ghost use Rattle.std.specs.Prelude.{◌≡◌, false, not, IfOk};
+ghost use Rattle.std.specs.FinMap as fin;
 ghost use Rattle.gs_journal.specs.Faults.{armed};
 ghost use Rattle.gs_journal.specs.Journal.{Stands};
 ghost use Rattle.gs_journal.specs.Records.{standing};
@@ -10,12 +11,15 @@ ghost use Rattle.gs_master_spec.specs.Handling.{handle, proposals};
 ghost use Rattle.gs_master_spec.specs.Outcomes.{caller_of};
 ghost use Rattle.gs_master_spec.specs.State.{is_failed};
 ghost use Rattle.gs_master_spec.specs.Whole.{is_empty};
+ghost use Rattle.gs_tree.specs.Build.{rooted_rows, rows_of_entries};
 
 use crate::event::Event;
 use crate::turn::{Turn, caller_of};
 use gs_base::{Config, Moment, Refusal};
 use gs_journal::{Disk, FailingDisk, Fault, Journal};
 use gs_msg::Message;
+use gs_tree::TreeEntry;
+use std::alloc::{AllocError, Global};
 use std::marker::Model;
 
 /// The master: the names of the store, where each chunk is, and the journal whose records all of that comes from.
@@ -81,6 +85,13 @@ impl<D: Disk> Master<D> {
     {
         let memory = self.event.memory.memory();
         memory.moving.iter().next().is_some()
+    }
+
+    /// What stands at each path but the root, hidden names too, in the order of the paths. It costs what is listed.
+    pub fn entries(&self, alloc: Global) -> Result<Vec<TreeEntry>, AllocError>
+        ensures { IfOk result (λ listed. rooted_rows (rows_of_entries listed.items) ≡ fin.entries self.now.state.durable.names.tree) }
+    {
+        self.event.recorded.names.entries(alloc)
     }
 
     /// The disks, the first one first, to open them again. While no disk has failed a crash leaves on them what the journal tells.
