@@ -126,7 +126,12 @@ fn written_down_first<'a, R: Files<File = File> + Eprint + Clock + AllocGlobal>(
     match found.first {
         Some(first) if may_write_down(rt, asked, &first, &found) => {
             let stood = run_alone(rt, asked, found)?;
-            write_down_itself(rt, asked, &first, stood)?;
+            // What stood behind the lines that were answered is cut off by now.
+            if is_long(rt, asked, &first, stood.log.len()) {
+                write_down_itself(rt, asked, &first, stood)?;
+            } else {
+                drop(stood);
+            }
             begun(rt, asked)
         }
         _ => Ok(found),
