@@ -1516,13 +1516,13 @@ def is_looked_at_from_an_image(program, path, chance):
     status, answered, said = ended(program, [path], b"mkdir /c\nmkdir /d\n")
     text = bytes_of(path)
     status, answered, said = ended(program, [path, "--check"])
-    if status or b"form 3" not in answered or b"from image 1 behind 6 lines" not in answered or b"2 lines and 1 marks" not in answered:
+    if status or b"form 3" not in answered or b"from image 1 behind 7 lines" not in answered or b"2 lines and 1 marks" not in answered:
         return f"--check has status {status}: {answered!r} {said}"
-    for line, names in ((6, "a/ b/"), (7, "a/ b/ c/"), (8, "a/ b/ c/ d/")):
+    for line, names in ((7, "a/ b/"), (8, "a/ b/ c/"), (9, "a/ b/ c/ d/")):
         status, answered, said = ended(program, [path, "--upto", str(line)], LOOK)
         if (status, answered.decode()) != (0, f"ok {names}\n"):
             return f"up to line {line} the status is {status}: {answered!r} {said}"
-    for line, pattern in ((0, r"look in .*\.before\.1"), (5, r"line 5 stands before the image .*\.before\.1"), (9, "it has 8 lines, and no line 9")):
+    for line, pattern in ((0, r"look in .*\.before\.1"), (6, r"line 6 stands before the image .*\.before\.1"), (10, "it has 9 lines, and no line 10")):
         wrong = refused_at(program, [path, "--upto", str(line)], path, 1, pattern)
         if wrong:
             return wrong

@@ -238,7 +238,7 @@ class Session(contextlib.AbstractContextManager["Session"]):
         told = subprocess.run(words, stdin=subprocess.DEVNULL, stdout=subprocess.PIPE, stderr=subprocess.PIPE)
         if told.returncode:
             raise Failed(told.stderr.decode(errors="replace").strip().split("\n")[-1])
-        return [line.split(" ", 1)[1] for line in told.stdout.decode(errors="surrogateescape").splitlines()]
+        return [line.split(" ", 1)[1] for line in told.stdout.decode(errors="surrogateescape").split("\n")[:-1]]
 
     def history(self) -> Iterator[str]:
         """All lines that the store was ever asked, where they are there."""

@@ -40,7 +40,10 @@ pub(crate) struct Kept<'a, R> {
 }
 
 /// All bytes of a file.
-fn whole_file<R: Files<File = File> + AllocGlobal>(rt: &R, name: &str) -> Result<Vec<u8>, Unread> {
+pub(crate) fn whole_file<R: Files<File = File> + AllocGlobal>(
+    rt: &R,
+    name: &str,
+) -> Result<Vec<u8>, Unread> {
     let mut file = open_to_read(rt, name, false).map_err(Unread::Opening)?;
     let mut bytes = Vec::new(rt.alloc());
     match file.read_to_end(&mut bytes) {

@@ -2,15 +2,17 @@
 ghost use Rattle.std.specs.Prelude.{◌≡◌, false, is_some, OnOk};
 
 use crate::beside::{before_name, image_name, new_name};
+use crate::loading::whole_file;
 use crate::memory_desk::MemoryDesk;
 use crate::opening::first_text;
 use gs_keep::{Answers, KeepFault, serve};
 use gs_keep_file::{FileFault, FileLog, LogNames, NamedFile, RenewFault, StepFault, take_away};
-use gs_keep_head::{Before, Form, HeadLine, head};
+use gs_keep_head::{Before, Form, HeadLine, SUM_BYTES, head};
 use gs_keep_image::Image;
 use gs_keep_log::Log;
 use gs_keep_mark::Ledger;
 use gs_shell_line::EndedLines;
+use sha2::{Digest as _, Sha256};
 use std::alloc::{AllocError, Global};
 use std::collections::VecDeque;
 use std::fs::File;
@@ -40,6 +42,8 @@ pub(crate) enum Untaken {
     Lines(KeepFault),
     #[error("the lines that bring the store to rest can't be written: {0}")]
     Log(FileFault),
+    #[error("a line that brings the store to rest isn't answered `ok`")]
+    Unrun,
     #[error("the master's disks can't be opened again")]
     Master,
     #[error("the store can't be told by an image")]
@@ -93,37 +97,55 @@ impl Names {
     }
 }
 
-/// A line for each server that restarts it, each with its end.
+/// A line that has the nodes tick, so that the journal is written anew if it is long, and one for each server that restarts it, each with
+/// its end.
 fn restarts(alloc: Global, servers: u64) -> Result<String, AllocError> {
-    let mut lines = String::new(alloc);
+    let mut lines = String::from_str(alloc, "tick\n")?;
     for server in 0..servers {
         lines.push_str(&format!(in alloc; "restart {server}\n")?)?;
     }
     Ok(lines)
 }
 
-/// Keeps lines that the program itself asks, and drops their answers.
+/// So many answers that are `ok`, each with its end.
+fn oks(alloc: Global, count: u64) -> Result<String, AllocError> {
+    let mut answers = String::new(alloc);
+    for _ in 0..count {
+        answers.push_str("ok\n")?;
+    }
+    Ok(answers)
+}
+
+/// Keeps so many lines that the program itself asks. Each has to be answered `ok`.
 fn keep_lines<L: Log>(
     alloc: Global,
     machine: &mut MemoryDesk,
     log: &mut L,
     ledger: &mut Ledger,
     lines: &str,
+    count: u64,
 ) -> Result<(), Untaken>
     requires { L.has_failed log.old ≡ false }
     ensures { OnOk result (L.has_failed log.new ≡ false) }
 {
+    let wanted = oks(alloc, count)?;
     let mut queue = VecDeque::new(alloc);
     if queue.write_all(lines.as_bytes()).is_err() {
         return Err(Untaken::Memory);
     }
+    let mut answers: Vec<u8> = Vec::new(alloc);
     let mut reader = EndedLines::new(queue);
-    let mut writer = Answers::new(io::sink());
+    let mut writer = Answers::new(&mut answers);
     match serve(alloc, machine, log, ledger, &mut reader, &mut writer) {
-        Ok(()) => Ok(()),
-        Err(KeepFault::Memory) => Err(Untaken::Memory),
-        Err(fault) => Err(Untaken::Lines(fault)),
+        Ok(()) => {}
+        Err(KeepFault::Memory) => return Err(Untaken::Memory),
+        Err(fault) => return Err(Untaken::Lines(fault)),
     }
+    drop(writer);
+    if answers.as_slice() != wanted.as_bytes() {
+        return Err(Untaken::Unrun);
+    }
+    Ok(())
 }
 
 /// The image of a store that is brought to rest by lines of the log: each server is restarted before, and its master behind.
@@ -138,11 +160,18 @@ fn written_down<L: Log>(
 {
     let mut taking = machine.for_lab();
     let lines = restarts(alloc, servers)?;
-    keep_lines(alloc, &mut taking, log, ledger, &lines)?;
+    keep_lines(
+        alloc,
+        &mut taking,
+        log,
+        ledger,
+        &lines,
+        servers.saturating_add(1),
+    )?;
     let mut closed = taking.closed();
     let image = closed.image(alloc);
     let line = format!(in alloc; "{OPENS}\n")?;
-    keep_lines(alloc, &mut closed, log, ledger, &line)?;
+    keep_lines(alloc, &mut closed, log, ledger, &line, 1)?;
     if !closed.is_open() {
         return Err(Untaken::Master);
     }
@@ -177,6 +206,25 @@ fn told(ledger: &Ledger, number: u64, sum: [u8; 32]) -> Result<Before, AllocErro
         text: ledger.text()?,
         answers: ledger.answers()?,
     })
+}
+
+/// Whether the image that a log begins from can be read and has the digest that the log tells, if it begins from one. The log before it and the
+/// image before are needed as long as it isn't so.
+fn is_sound<R: Files<File = File> + AllocGlobal>(rt: &R, path: &str, head: &HeadLine) -> bool {
+    let Form::Three(before) = head.form else {
+        return true;
+    };
+    let Ok(name) = image_name(rt.alloc(), path, before.image) else {
+        return false;
+    };
+    let Ok(bytes) = whole_file(rt, &name) else {
+        return false;
+    };
+    let at = bytes.len().saturating_sub(SUM_BYTES);
+    let mut hasher = Sha256::new();
+    hasher.update(&bytes[..at]);
+    let digest: [u8; SUM_BYTES] = hasher.finalize();
+    digest == before.sum && bytes[at..] == before.sum[..]
 }
 
 /// Takes away what isn't needed behind an image of this number: the images before the one before it, and the logs before its own, as far back
@@ -259,7 +307,9 @@ pub(crate) fn take<R: Files<File = File> + AllocGlobal>(
     let image = written_down(alloc, machine, log, ledger, head.config.servers)?;
     let line = next_line(alloc, head, told(ledger, number, image.sum)?)?;
     put_image(log, names, image, &line)?;
-    // What stays is taken away behind the next image.
-    let _ = take_older(rt, alloc, path, number);
+    if is_sound(rt, path, head) {
+        // What stays is taken away behind the next image.
+        let _ = take_older(rt, alloc, path, number);
+    }
     Ok(number)
 }
