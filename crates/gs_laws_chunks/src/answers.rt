@@ -73,7 +73,7 @@ fn no_server_refuses_by_what_the_tree_refuses_by<D>()
     configurations_have_sizes();
 }
 
-/// A client that has asked for an edit, or for a part of a chunk, has no answer of the master as its reply, and no refusal by the tree: the master replies nothing to such a request. The master isn't started again meanwhile, and no failure of a disk is arranged.
+/// A client that has asked for an edit, or for a part of a chunk, and for nothing else since, has no answer of the master as its reply, and no refusal by the tree. The master isn't started again meanwhile, and no failure of a disk is arranged. Of other refusals of the master it isn't said.
 fn the_master_replies_to_calls_alone<D>()
     ensures { (seen : D → List ℕ) (failures : D → ℕ) (armed : DiskId → ℕ → MasterPlace D → MasterPlace D) → RequestsAreForServers seen failures armed }
 {}

@@ -35,8 +35,8 @@ asked_of n = (n.id, n.last)
 abbrev pub HasAskedAs : PlainDesk → Type 0
 HasAskedAs w = (w.0.last.client ≡ one) × (map asked_of w.1.clients ≡ (one, w.0.last.number) ∷ [])
 
--- A desk goes on as this store without disks. As it is seen, lines have led to it from a new store of this configuration. Memory was never
--- wanting for them, and no disk failed. Its own disks may have been read from an image.
+-- A desk goes on as this store without disks. As it is seen, events have led to it from a new store of this configuration, in which what is
+-- asked is what lines may ask, and no disk failed. Its own disks may have been read from an image.
 pub record GoesOnAs {D : Type 0} (seen : D → List ℕ) (failures : D → ℕ) (config : Config) (desk : Desk D) (w : PlainDesk) : Type 0 where
   pub counts : ℕ × ℕ
   pub disks : SeenDisk × SeenDisk

@@ -41,7 +41,7 @@ pub fn desks_that_are_alike_go_on_alike()
 
 /// A store goes on from its image as from where it was closed. The disks of its master are closed, its image is written, and another desk is read of
 /// that. A restart of the master, and then any lines, are answered by both alike, and leave the same but for the disks. It is said where memory isn't wanting
-/// and no disk fails. The store that the image tells of is to be one that is read again: `is_desk_held` says so where each server was restarted.
+/// and no disk fails. The store that the image tells of is to be one that is read again: `is_desk_held` says so where a restart has nothing to drop of any server.
 pub fn a_store_goes_on_from_its_image<D>()
     ensures rests { ClosedDesksRest D }
     ensures read { ReadDesksAreAlike }

@@ -103,7 +103,7 @@ fn calm_lines_are_explained<D>()
     ensures { CalmLinesAreExplained D }
 {}
 
-/// A `read`, `digest`, `write` or `append` of a path at which no file stands in the machine for which a desk stands is explained, whatever it is answered: it comes to no more than its first look, changes nothing, and the desk stands for that machine after it.
+/// A `read`, `digest`, `write` or `append` of a path at which no file stands in the machine for which a desk stands is explained, whatever it is answered: it changes nothing, and the desk stands for that machine after it.
 /// The store may have led chunks, held messages, lost and damaged replicas, and disks that fail.
 fn lines_about_no_file_are_explained<D>()
     ensures { LinesWithoutAFile D }

@@ -1,4 +1,4 @@
--- What the tree refuses by is the master's: no server refuses an edit, or a fetch, so, and the master replies to neither.
+-- What the tree refuses by is the master's: no server refuses an edit, or a fetch, so, and who has asked for one has no such reply of the master.
 use Rattle.std.specs.Prelude.{◌<◌, ◌==◌, ◌||◌, ◌∷◌, ◌≡◌, Bool, Err, List, Ok, Some, false, nat_le, refl, slice_get, true, ℕ}
 use Rattle.std.specs.FinMap as fin
 use Rattle.std.specs.List.{AllByRecursion}

@@ -96,7 +96,7 @@ may_refuse_look n = (nat_le n 9 || (n == 38)) || ((n == 29) || is_of_store n)
 abbrev pub TellsRefusal : List ℕ → Type 0
 TellsRefusal text = (refusal : Refusal) × (may_refuse_look (number_of refusal) ≡ true) × (text ≡ refusal_text refusal)
 
--- One that leaves what stands; or a line that asks for a change, accepted or refused, whose answer tells what came of it; or a line about a path that is none, whatever it is answered; or one that looks at a path, and is refused.
+-- One that leaves what stands; or a line that asks for a change, accepted or refused, whose answer tells what came of it; or a line about a path that is none, whatever it is answered; or one that looks at a path, and is refused by the tree, by the store, or since nobody is sure.
 abbrev pub IsCalmLine : List ℕ → List ℕ → Type 0
 IsCalmLine whole text = IsStillLine whole text ⊎ (((is_change_line (asked_in whole) ≡ true) × IsSure text) ⊎ ((names_no_path (asked_in whole) ≡ true) ⊎ ((is_look_line (asked_in whole) ≡ true) × TellsRefusal text)))
 

@@ -1,4 +1,4 @@
--- What is answered to a line that works on a file where no file stands: it is refused at its first look, and changes nothing.
+-- What is answered to a line that works on a file where no file stands: it is explained, whatever that is, and changes nothing.
 use Rattle.std.specs.Prelude.{Err, List, None, Ok, Option, Result, Some, codes, ℕ}
 use Rattle.std.specs.Char.{encode_utf8}
 use Rattle.std.specs.Str.{chars, is_utf8}
