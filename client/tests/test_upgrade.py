@@ -61,6 +61,20 @@ class Upgrades(StoreCase):
         self.assertIn("finalized, epoch 2", self.fs("upgrade", "finalize"))
         self.assertEqual(self.fs("cat", "/g"), "bc")
 
+    def test_a_store_from_images_tries_the_rollback(self) -> None:
+        self.fs("upgrade", "prepare")
+        self.fs("rm", "/f")
+        for _ in range(2):
+            self.take_image()
+        told = self.fs("upgrade", "status")
+        self.assertIn("chunk 1, on 3 of 3 servers as it was at the prepare: /f\n", told)
+        self.assertTrue(told.endswith("a rollback would give all back\n"), told)
+        self.lines("damage 0 1 0", "lose 1 1", "lose 2 1")
+        told = self.fs("upgrade", "status", status=1)
+        self.assertIn("chunk 1, on 0 of 3 servers as it was at the prepare: its files can't be told, since the store begins from an image\n", told)
+        self.assertIn("chunk 1 has no sound replica", self.fs("upgrade", "rollback", status=1))
+        self.assertIn("finalized, epoch 2", self.fs("upgrade", "finalize", status=1))
+
     def test_what_was_in_the_trash_counts(self) -> None:
         self.lines("create /h", "write /h 0 63", "rm -r /h", "create /i")
         self.fs("upgrade", "prepare")
