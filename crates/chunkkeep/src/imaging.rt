@@ -123,43 +123,45 @@ fn written_down_first<'a, R: Files<File = File> + Eprint + Clock + AllocGlobal>(
     requires { is_some found.log.fault ≡ false }
     ensures { IfOk result (λ begun. is_some begun.log.fault ≡ false) }
 {
-    match found.first {
-        Some(first) if may_write_down(rt, asked, &first, &found) => {
-            let stood = run_alone(rt, asked, found)?;
-            // What stood behind the lines that were answered is cut off by now.
-            if is_long(rt, asked, &first, stood.log.len()) {
-                write_down_itself(rt, asked, &first, stood)?;
-            } else {
-                drop(stood);
-            }
-            begun(rt, asked)
-        }
-        _ => Ok(found),
+    let Some(first) = found.first else {
+        return Ok(found);
+    };
+    if !may_write_down(rt, asked, &first, &found) {
+        return Ok(found);
     }
+    let stood = run_alone(rt, asked, found)?;
+    // What stood behind the lines that were answered is cut off by now.
+    if is_long(rt, asked, &first, stood.log.len()) {
+        write_down_itself(rt, asked, &first, stood)?;
+    } else {
+        drop(stood);
+    }
+    begun(rt, asked)
 }
 
 /// Opens a file, or makes it, runs again what it keeps, and answers standard input. Behind that an image is taken, if the file has become so
 /// long.
-pub(crate) fn serve<R: Files<File = File> + Input + Print + Eprint + Clock + AllocGlobal>(
-    rt: &R,
-    asked: &Asked,
+pub(crate) fn serve<'a, R: Files<File = File> + Input + Print + Eprint + Clock + AllocGlobal>(
+    rt: &'a R,
+    asked: &'a Asked,
 ) -> Result<(), Fault> {
     let found = begun(rt, asked)?;
     let found = written_down_first(rt, asked, found)?;
     let first = found.first;
     let stood = run_input(rt, asked, found)?;
-    match first {
-        Some(first) if is_long(rt, asked, &first, stood.log.len()) => {
-            write_down_itself(rt, asked, &first, stood)
-        }
-        _ => Ok(()),
+    let Some(first) = first else {
+        return Ok(());
+    };
+    if is_long(rt, asked, &first, stood.log.len()) {
+        return write_down_itself(rt, asked, &first, stood);
     }
+    Ok(())
 }
 
 /// Runs again what a file keeps, and takes an image of that.
-pub(crate) fn image<R: Files<File = File> + Eprint + Clock + AllocGlobal>(
-    rt: &R,
-    asked: &Asked,
+pub(crate) fn image<'a, R: Files<File = File> + Eprint + Clock + AllocGlobal>(
+    rt: &'a R,
+    asked: &'a Asked,
 ) -> Result<(), Fault> {
     need_file(rt, &asked.path)?;
     let found = begun(rt, asked)?;

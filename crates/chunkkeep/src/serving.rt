@@ -14,7 +14,7 @@ use gs_keep_mark::Ledger;
 use gs_keep_options::Asked;
 use gs_shell_line::EndedLines;
 use std::fs::File;
-use std::io::{self, BufRead, BufReader, BufWriter, Write};
+use std::io::{self, BufReader, BufWriter};
 use std::rt::{Clock, Files};
 
 /// A file that is open, with what its first line says, if it can be read.
@@ -65,18 +65,11 @@ pub(crate) fn give_up<F: LogFile>(rt: &(impl Eprint), path: &str, log: &mut File
     }
 }
 
-/// Goes on with what a file keeps: its lines are run again, and then those of the reader are answered.
-pub(crate) fn run_over<
-    'a,
-    R: Files<File = File> + Eprint + Clock + AllocGlobal,
-    B: BufRead,
-    W: Write,
->(
+/// Goes on with what a file keeps: its lines are run again, and none is answered.
+pub(crate) fn run_alone<'a, R: Files<File = File> + Eprint + Clock + AllocGlobal>(
     rt: &'a R,
     asked: &'a Asked,
     begun: Begun<'a, R>,
-    reader: &mut EndedLines<B>,
-    writer: &mut Answers<W>,
 ) -> Result<Stood<'a, R>, Fault>
     requires { is_some begun.log.fault ≡ false }
     ensures { IfOk result (λ stood. is_some stood.log.fault ≡ false) }
@@ -96,8 +89,8 @@ pub(crate) fn run_over<
         &Opener::new(rt, asked),
         &mut rest,
         &mut Teller::new(rt, path),
-        reader,
-        writer,
+        &mut EndedLines::new(io::empty()),
+        &mut Answers::new(io::sink()),
     ) {
         Ok(Ended { machine, ledger }) => Ok(Stood {
             log,
@@ -112,21 +105,8 @@ pub(crate) fn run_over<
     }
 }
 
-/// Goes on with what a file keeps, and answers no line.
-pub(crate) fn run_alone<'a, R: Files<File = File> + Eprint + Clock + AllocGlobal>(
-    rt: &'a R,
-    asked: &'a Asked,
-    begun: Begun<'a, R>,
-) -> Result<Stood<'a, R>, Fault>
-    requires { is_some begun.log.fault ≡ false }
-    ensures { IfOk result (λ stood. is_some stood.log.fault ≡ false) }
-{
-    let mut reader = EndedLines::new(io::empty());
-    let mut writer = Answers::new(io::sink());
-    run_over(rt, asked, begun, &mut reader, &mut writer)
-}
-
-/// Goes on with what a file keeps, and answers standard input on standard output.
+// The checker takes no function over any reader here, so both call the start.
+/// Goes on with what a file keeps: its lines are run again, and then standard input is answered on standard output.
 pub(crate) fn run_input<'a, R: Files<File = File> + Input + Print + Eprint + Clock + AllocGlobal>(
     rt: &'a R,
     asked: &'a Asked,
@@ -136,6 +116,7 @@ pub(crate) fn run_input<'a, R: Files<File = File> + Input + Print + Eprint + Clo
     ensures { IfOk result (λ stood. is_some stood.log.fault ≡ false) }
 {
     let alloc = rt.alloc();
+    let path = asked.path.as_str();
     let input = Patient::new(rt, rt.reader());
     let Ok(reader) = BufReader::with_capacity(alloc, INPUT_BYTES, input) else {
         return Err(Fault::Memory);
@@ -143,7 +124,31 @@ pub(crate) fn run_input<'a, R: Files<File = File> + Input + Print + Eprint + Clo
     let Ok(writer) = BufWriter::new(alloc, io::writer(rt)) else {
         return Err(Fault::Memory);
     };
-    let mut reader = EndedLines::new(reader);
-    let mut writer = Answers::new(writer);
-    run_over(rt, asked, begun, &mut reader, &mut writer)
+    let Begun {
+        mut log,
+        mut source,
+        first: _,
+    } = begun;
+    let mut rest = Tail::new(rt, alloc, path);
+    match start(
+        alloc,
+        &mut log,
+        &mut source,
+        &Opener::new(rt, asked),
+        &mut rest,
+        &mut Teller::new(rt, path),
+        &mut EndedLines::new(reader),
+        &mut Answers::new(writer),
+    ) {
+        Ok(Ended { machine, ledger }) => Ok(Stood {
+            log,
+            machine,
+            ledger,
+        }),
+        Err(StartFault::Standing(fault)) => Err(why_unrun(alloc, &mut source, fault)),
+        Err(StartFault::Run(fault)) => {
+            let _ = give_up(rt, path, &mut log);
+            Err(Fault::of_run(fault, log, rest.into_fault()))
+        }
+    }
 }

@@ -82,8 +82,10 @@ fn each_flipped_bit_is_told(rt: HostRuntime) -> Result<(), Fail> {
         return Ok(());
     };
     let config = config()?;
-    let mut at = 0;
-    while at < image.bytes.len() {
+    for at in 0..image.bytes.len() {
+        if at % 7 != 0 {
+            continue;
+        }
         if let Some(byte) = image.bytes.get_mut(at) {
             *byte ^= 16;
         }
@@ -94,7 +96,6 @@ fn each_flipped_bit_is_told(rt: HostRuntime) -> Result<(), Fail> {
         if let Some(byte) = image.bytes.get_mut(at) {
             *byte ^= 16;
         }
-        at = at.saturating_add(7);
     }
     assert!(rt; fault_of(alloc, &image.bytes, &config, &image.sum).is_none());
     Ok(())
