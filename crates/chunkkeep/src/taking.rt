@@ -230,9 +230,8 @@ fn is_sound<R: Files<File = File> + AllocGlobal>(rt: &R, path: &str, head: &Head
 /// Takes away what isn't needed behind an image of this number: the images before the one before it, and the logs before its own, as far back
 /// as one of them stands.
 fn take_older<R: Files>(rt: &R, alloc: Global, path: &str, number: u64) -> Result<(), AllocError> {
-    let mut at = number;
-    while at > 1 {
-        at -= 1;
+    for back in 1..number {
+        let at = number - back;
         let before = take_away(rt, &before_name(alloc, path, at)?);
         let image = take_away(rt, &image_name(alloc, path, at - 1)?);
         if !matches!(before, Ok(true)) && !matches!(image, Ok(true)) {
